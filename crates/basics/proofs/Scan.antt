@@ -1,0 +1,73 @@
+-- Laws of `all` and `first`: how a loop that counts up goes on, how it ends, and what the two mean.
+use Prim.Native.Nat.{ℕ, zero, suc, _+_, _<_, _≤_}
+use mathlib.Core.Path.{_≡_, refl, sym, ap, _∙_}
+use mathlib.Core.Bool.{Bool, true, false, _&&_, cond, and-false}
+use native.Mathlib.Numerals.{add-one}
+use native.Mathlib.Nat.{eq-or-lt-of-le}
+use native.Mathlib.Omega.{arith}
+use mathlib.Core.Logic.{⊎-elim}
+use lib.Dec.{ltb}
+use borrow.Author.Tests.{lt-ltb, le-ltb}
+use Rattle.basics.specs.Scan.{all, first}
+use Rattle.basics.proofs.Order.{lt-or-ge}
+
+module _ (f : ℕ → Bool) where
+  pub all-none : all 0 f ≡ true
+  unfolding all
+  all-none = refl
+
+  pub all-more : (i : ℕ) → all i f ≡ true → f i ≡ true → all (i + 1) f ≡ true
+  unfolding all
+  all-more i h e = rw (add-one i, h, e)
+
+  pub all-fails : (n i : ℕ) → i < n → f i ≡ false → all n f ≡ false
+  unfolding all
+  all-fails zero i l e = absurd (omega arith)
+  all-fails (suc n) i l e =
+      ⊎-elim
+      (λ (q : suc i ≡ suc n). rw (← suc-same q, e, and-false))
+      (λ q. rw (all-fails n i (omega arith) e))
+      (eq-or-lt-of-le l)
+    where
+      suc-same : {a b : ℕ} → suc a ≡ suc b → a ≡ b
+      suc-same p = omega arith
+
+  -- the same as a loop needs them that asks a function: b is what the function says of i
+  pub all-next : (i : ℕ) (b : Bool) → all i f ≡ true → b ≡ f i → b ≡ true → all (i + 1) f ≡ true
+  all-next i b h e q = all-more i h (sym e ∙ q)
+
+  pub all-not : (n i : ℕ) (b : Bool) → i < n → b ≡ f i → b ≡ false → all n f ≡ false
+  all-not n i b l e q = all-fails n i l (sym e ∙ q)
+
+  pub all-done : (n i : ℕ) → all i f ≡ true → i ≤ n → n ≤ i → all n f ≡ true
+  all-done n i h l u = let k : i ≡ n = omega arith in rw k at h
+
+  -- what `all` means
+  pub all-each : (n i : ℕ) → all n f ≡ true → i < n → f i ≡ true
+  all-each n i h l = go (f i) refl
+    where
+      go : (b : Bool) → f i ≡ b → f i ≡ true
+      go true e = e
+      go false e = let z : true ≡ false = sym h ∙ all-fails n i l e in e ∙ sym z
+
+  -- the search has passed every number below i
+  pub first-none : first 0 f ≡ 0
+  unfolding first
+  first-none = refl
+
+  pub first-more : (i : ℕ) → first i f ≡ i → f i ≡ false → first (i + 1) f ≡ i + 1
+  unfolding first
+  first-more i h e = rw (add-one i, h, le-ltb i i (omega arith), e)
+
+  -- it ends at i
+  pub first-at : (n i : ℕ) → i < n → first i f ≡ i → f i ≡ true → first n f ≡ i
+  unfolding first
+  first-at zero i l h e = absurd (omega arith)
+  first-at (suc n) i l h e =
+      ⊎-elim (λ (q : i < n). before q (first-at n i q h e)) (λ q. here q) (lt-or-ge i n)
+    where
+      before : i < n → first n f ≡ i → cond (ltb (first n f) n) (first n f) (cond (f n) n (suc n)) ≡ i
+      before q p = rw (p, lt-ltb i n q)
+
+      here : n ≤ i → cond (ltb (first n f) n) (first n f) (cond (f n) n (suc n)) ≡ i
+      here q = let p : n ≡ i = omega arith in rw (p, h, le-ltb i i (omega arith), e)

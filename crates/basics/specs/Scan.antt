@@ -1,0 +1,14 @@
+-- Tests over the numbers below a bound.
+use Prim.Native.Nat.{ℕ, zero, suc}
+use mathlib.Core.Bool.{Bool, true, false, _&&_, cond}
+use lib.Dec.{ltb}
+
+-- whether f holds of every number below n
+unfoldable pub all : ℕ → (ℕ → Bool) → Bool
+all zero f = true
+all (suc n) f = all n f && f n
+
+-- the first number below n of which f holds, n where there is none
+unfoldable pub first : ℕ → (ℕ → Bool) → ℕ
+first zero f = zero
+first (suc n) f = cond (ltb (first n f) n) (first n f) (cond (f n) n (suc n))
