@@ -1,2 +1,5 @@
+pub mod Number
 pub mod Order
+pub mod Put
 pub mod Scan
+pub mod Truth
