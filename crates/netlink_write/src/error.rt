@@ -1,0 +1,6 @@
+pub enum Detail {
+    Nothing,
+    Offset(usize),
+    MissTop(usize),
+    MissIn(usize, usize),
+}
