@@ -1,6 +1,0 @@
-pub enum Detail {
-    Nothing,
-    Offset(usize),
-    MissTop(usize),
-    MissIn(usize, usize),
-}
