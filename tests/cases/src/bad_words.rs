@@ -78,8 +78,12 @@ pub fn damage_bitset(rng: &mut Rng, bitset: &mut Vec<Attribute>, list: &[Vec<u8>
     }
 }
 
-/// Forms mixed: an attribute of the other form, or NOMASK added or taken out.
+/// Forms mixed: an attribute of the other form, or NOMASK added or taken out; now and then something lacks too.
 fn mixed(rng: &mut Rng, bitset: &mut Vec<Attribute>) {
+    if rng.per_mille(150) {
+        let lacking = rng.pick(&[SIZE, SIZE, VALUE, MASK]);
+        bitset.retain(|part| part.plain_kind() != lacking);
+    }
     match rng.below(5) {
         0 => put(rng, bitset, Attribute::leaf(NOMASK, &[])),
         1 => put(rng, bitset, Attribute::nest(BITS, Vec::new())),

@@ -60,7 +60,7 @@ pub fn damage(rng: &mut Rng, datagram: &mut Datagram) {
         4 => datagram.position = length.saturating_sub(rng.within(1, 20)) as u64,
         5 => noise(rng, &mut datagram.bytes),
         6 => datagram.position = datagram.position.saturating_sub(rng.within(1, 5) as u64),
-        _ if rng.per_mille(200) => long(rng, &mut datagram.bytes),
+        _ if rng.per_mille(200) => long(rng, datagram),
         _ => noise(rng, &mut datagram.bytes),
     }
 }
@@ -82,8 +82,11 @@ fn noise(rng: &mut Rng, bytes: &mut [u8]) {
     }
 }
 
-/// A datagram of about the longest length, or more.
-fn long(rng: &mut Rng, bytes: &mut Vec<u8>) {
-    let length = LONGEST + rng.pick(&[0, 0, 1, 1, 4, 100]);
-    bytes.resize(length - rng.pick(&[0, 0, 0, 1]), 0);
+/// A datagram of about the longest length, or more; now and then the position is its end.
+fn long(rng: &mut Rng, datagram: &mut Datagram) {
+    let length = rng.pick(&[LONGEST - 1, LONGEST, LONGEST, LONGEST + 1, LONGEST + 1, LONGEST + 4, LONGEST + 100]);
+    datagram.bytes.resize(length, 0);
+    if rng.per_mille(200) {
+        datagram.position = length as u64;
+    }
 }
