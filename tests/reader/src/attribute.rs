@@ -1,7 +1,7 @@
 //! Attributes inside their parent: 10, 11 and 12 for each in turn (document 01, "Sizes on the wire").
 
 use super::fault::Fault;
-use super::text;
+use super::text::{self, Block, BIT_WORDS, PORT_WORDS};
 use super::wire::{self, AttributeHeader};
 
 /// What the payload of a listed type must be.
@@ -52,6 +52,13 @@ impl Attribute {
         wire::u32_at(message, self.at + AttributeHeader::SIZE)
     }
 
+    /// The payload of an attribute that was checked to be a name of at most `8 * WORDS` bytes.
+    #[inline]
+    pub fn name<const WORDS: usize>(self, message: &[u8]) -> Block<WORDS> {
+        let Span { start, end } = self.span();
+        text::block_at(message, start, end - start)
+    }
+
     /// Where the next attribute begins; the parent's end stops the step.
     #[inline]
     pub fn next(self, parent: Span) -> usize {
@@ -70,10 +77,11 @@ fn read<const TYPES: usize>(message: &[u8], at: usize, end: usize, policy: &Poli
     }
     let kind = header.kind();
     let rule = policy.get(usize::from(kind).wrapping_sub(1)).ok_or(Fault::at(11, at))?;
-    if !bits_fit(header, *rule) || !payload_fits(&bytes[AttributeHeader::SIZE..length], *rule) {
+    let attribute = Attribute { at, kind, end: at + length };
+    if !bits_fit(header, *rule) || !payload_fits(message, attribute.span(), *rule) {
         return Err(Fault::at(12, at));
     }
-    Ok(Attribute { at, kind, end: at + length })
+    Ok(attribute)
 }
 
 /// A nest carries 0x8000, the others don't; nothing carries 0x4000.
@@ -85,13 +93,14 @@ fn bits_fit(header: AttributeHeader, rule: Payload) -> bool {
 
 /// The line "Payloads"; what is inside a nest is judged when it is opened.
 #[inline]
-fn payload_fits(payload: &[u8], rule: Payload) -> bool {
+fn payload_fits(message: &[u8], payload: Span, rule: Payload) -> bool {
+    let Span { start, end } = payload;
     match rule {
         Payload::Nest | Payload::Bytes => true,
-        Payload::U32 => payload.len() == 4,
-        Payload::Flag => payload.is_empty(),
-        Payload::PortName => text::is_payload::<2>(payload),
-        Payload::BitName => text::is_payload::<4>(payload),
+        Payload::U32 => end - start == 4,
+        Payload::Flag => end == start,
+        Payload::PortName => text::is_payload::<PORT_WORDS>(message, start, end),
+        Payload::BitName => text::is_payload::<BIT_WORDS>(message, start, end),
     }
 }
 

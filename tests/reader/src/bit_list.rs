@@ -43,7 +43,7 @@ fn identify(
             let bit = index.number(message) as usize;
             (bit < names.bits()).then_some(bit).ok_or(Fault::at(20, index.at))
         }
-        (None, Some(name)) => names.find(name.payload(message)).ok_or(Fault::at(21, name.at)),
+        (None, Some(name)) => names.find(name.name(message)).ok_or(Fault::at(21, name.at)),
         (None, None) => Err(Fault::at(22, entry.at)),
     }
 }

@@ -99,7 +99,7 @@ fn answer(state: &SwitchBox, request: Request, next: u64, settings: &mut [u8], p
 fn serve(state: &SwitchBox, request: Request, settings: &mut [u8], page: &mut Page) -> Result<(), Fault> {
     let command = judge_headers(state, request)?;
     let (header, bitset) = top_level(request.bytes, command.action)?;
-    let named = port_header::judge(request.bytes, header, state.roll)?;
+    let named = port_header::judge(request.bytes, header, &state.roll)?;
     let names = state.names(command.set);
     let place = state.place(named.port, command.set);
     let words = &mut settings[place..place + 4 * names.words()];

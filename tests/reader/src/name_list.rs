@@ -1,7 +1,7 @@
 //! A list of bit names (document 01, "The box a call is given"): 32 bytes an entry, N entries.
 
 use super::slots::Slots;
-use super::text::{self, Block, BIT_NAME};
+use super::text::{self, Block, BIT_NAME, BIT_WORDS};
 
 /// Most entries of a list.
 pub const MAX_BITS: usize = 512;
@@ -25,13 +25,12 @@ impl<'a> NameList<'a> {
             return None;
         }
         for (bit, entry) in entries.iter().enumerate() {
-            let name: Block<4> = text::block(entry);
-            if name == [0; 4] {
+            let name: Block<BIT_WORDS> = text::block(entry);
+            if entry[0] == 0 && name == [0; BIT_WORDS] {
                 continue;
             }
-            let length = text::length(&name)?;
-            let same = |other: usize| text::block(&entries[other]) == name;
-            if length == BIT_NAME || !slots.insert(text::hash(&name), bit, same) {
+            let same = |other: usize| text::same(&text::block(&entries[other]), &name);
+            if !text::is_name(&name) || !slots.insert(text::hash(&name), bit, same) {
                 return None;
             }
         }
@@ -54,15 +53,14 @@ impl<'a> NameList<'a> {
     #[inline]
     pub fn name(&self, bit: usize) -> Option<(&'a [u8; BIT_NAME], usize)> {
         let entry = &self.entries[bit];
-        let length = text::length::<4>(&text::block(entry))?;
+        let length = text::length::<BIT_WORDS>(&text::block(entry));
         (length > 0).then_some((entry, length))
     }
 
-    /// The bit whose entry equals the name in a payload; an empty name matches none ("Bitsets").
+    /// The bit whose entry equals the name; an empty name matches none ("Bitsets").
     #[inline]
-    pub fn find(&self, payload: &[u8]) -> Option<usize> {
-        let name: Block<4> = text::block(payload);
-        let same = |bit: usize| text::block(&self.entries[bit]) == name;
+    pub fn find(&self, name: Block<BIT_WORDS>) -> Option<usize> {
+        let same = |bit: usize| text::same(&text::block(&self.entries[bit]), &name);
         self.slots.seek(text::hash(&name), same).ok()
     }
 }

@@ -3,7 +3,6 @@
 use super::attribute::{self, Attribute, Payload, Policy};
 use super::fault::Fault;
 use super::roll::Roll;
-use super::text;
 
 /// Header flag: the reply carries a compact bitset.
 const COMPACT: u32 = 1;
@@ -50,7 +49,7 @@ fn find_port(
     name: Option<Attribute>,
     roll: &Roll,
 ) -> Result<usize, Fault> {
-    let wanted = name.map(|attribute| text::block(attribute.payload(message)));
+    let wanted = name.map(|attribute| attribute.name(message));
     match (index, name, wanted) {
         (Some(index), _, wanted) => {
             let port = roll.by_index(index.number(message)).ok_or(Fault::at(16, index.at))?;

@@ -6,6 +6,7 @@ use super::fault::{Detail, Fault};
 use super::name_list::NameList;
 use super::page::Page;
 use super::roll::Port;
+use super::text;
 use super::wire::{u32_at, MessageHeader, ACK_TLVS, CAPPED, ERROR};
 
 /// Attribute types of an error message.
@@ -58,7 +59,7 @@ pub fn ack(page: &mut Page, request: &[u8], header: &MessageHeader) {
 pub struct Stored<'a> {
     pub family: u16,
     pub set: Set,
-    pub port: &'a Port,
+    pub port: Port,
     pub names: &'a NameList<'a>,
     /// The set's words as little-endian bytes.
     pub words: &'a [u8],
@@ -68,7 +69,7 @@ pub struct Stored<'a> {
 pub fn reply(page: &mut Page, header: &MessageHeader, stored: &Stored, compact: bool) {
     let message = page.open_message(stored.family, 0, header.sequence, header.port_id);
     page.put(&[stored.set.reply_command(), 1, 0, 0]);
-    port(page, stored.port);
+    port(page, &stored.port);
     let nest = page.open_nest(BITSET);
     page.attribute(bitset::NOMASK, 0);
     page.attribute_u32(bitset::SIZE, stored.names.bits() as u32);
@@ -89,7 +90,7 @@ fn port(page: &mut Page, port: &Port) {
     let mut block = [0; 16];
     block[..8].copy_from_slice(&port.name[0].to_le_bytes());
     block[8..].copy_from_slice(&port.name[1].to_le_bytes());
-    page.attribute_name(PORT_NAME, &block, port.name_length());
+    page.attribute_name(PORT_NAME, &block, text::length(&port.name));
     page.close_nest(nest);
 }
 

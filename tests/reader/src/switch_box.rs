@@ -2,7 +2,7 @@
 
 use super::command::Set;
 use super::name_list::{NameList, NameSlots};
-use super::roll::Roll;
+use super::roll::{Roll, RollSlots};
 use super::wire::u32_at;
 
 /// A box as the caller hands it over, nothing checked.
@@ -17,7 +17,7 @@ pub struct Lent<'a> {
 
 /// Room that the check fills and the later look-ups use.
 pub struct Tables {
-    roll: Roll,
+    roll: RollSlots,
     debug: NameSlots,
     flags: NameSlots,
 }
@@ -25,7 +25,7 @@ pub struct Tables {
 impl Tables {
     pub const fn new() -> Self {
         Tables {
-            roll: Roll::new(),
+            roll: RollSlots::new(),
             debug: NameSlots::new(),
             flags: NameSlots::new(),
         }
@@ -36,7 +36,7 @@ impl Tables {
 pub struct SwitchBox<'a> {
     pub family: u16,
     pub admin: bool,
-    pub roll: &'a Roll,
+    pub roll: Roll<'a>,
     debug: NameList<'a>,
     flags: NameList<'a>,
 }
@@ -47,13 +47,10 @@ impl<'a> SwitchBox<'a> {
         if !(16..=65_535).contains(&lent.family) || lent.admin > 1 {
             return None;
         }
-        if !tables.roll.read(lent.roll) {
-            return None;
-        }
         let checked = SwitchBox {
             family: lent.family as u16,
             admin: lent.admin == 1,
-            roll: &tables.roll,
+            roll: Roll::check(lent.roll, &mut tables.roll)?,
             debug: NameList::check(lent.debug_names, &mut tables.debug)?,
             flags: NameList::check(lent.flag_names, &mut tables.flags)?,
         };

@@ -1,57 +1,94 @@
 //! Names as fixed blocks of 64-bit words: bytes that aren't NUL, then NULs only.
 
-/// Payload bytes of a port name, NUL included.
+/// Payload bytes of a port name, NUL included, and its words.
 pub const PORT_NAME: usize = 16;
-/// Payload bytes of a bit name, NUL included.
+pub const PORT_WORDS: usize = PORT_NAME / 8;
+/// Payload bytes of a bit name, NUL included, and its words.
 pub const BIT_NAME: usize = 32;
+pub const BIT_WORDS: usize = BIT_NAME / 8;
 
 /// A name padded with NULs, eight bytes a word, lowest first.
 pub type Block<const WORDS: usize> = [u64; WORDS];
+
+/// The highest bit of each byte of a word.
+const HIGH: u64 = 0x8080_8080_8080_8080;
 
 /// The first `8 * WORDS` bytes as words; bytes that are absent count as NUL.
 #[inline]
 pub fn block<const WORDS: usize>(bytes: &[u8]) -> Block<WORDS> {
     let mut words = [0; WORDS];
-    let (whole, rest) = bytes.as_chunks::<8>();
-    for (word, chunk) in words.iter_mut().zip(whole) {
+    for (word, chunk) in words.iter_mut().zip(bytes.as_chunks::<8>().0) {
         *word = u64::from_le_bytes(*chunk);
-    }
-    if let Some(word) = words.get_mut(whole.len()) {
-        *word = rest.iter().rev().fold(0, |sum, byte| sum << 8 | u64::from(*byte));
     }
     words
 }
 
-/// 0xFF for each byte of the word that isn't NUL, 0 for the others.
+/// A payload of at most `8 * WORDS` bytes as a block; what stands after it in the message doesn't count.
 #[inline]
-fn filled(word: u64) -> u64 {
-    const LOW: u64 = 0x7F7F_7F7F_7F7F_7F7F;
-    let high = (((word & LOW) + LOW) | word) & !LOW;
-    (high >> 7) * 0xFF
+pub fn block_at<const WORDS: usize>(message: &[u8], start: usize, length: usize) -> Block<WORDS> {
+    if let Some(bytes) = message.get(start..start + 8 * WORDS) {
+        let mut words = block(bytes);
+        for (place, word) in words.iter_mut().enumerate() {
+            *word &= low_bytes(length.saturating_sub(8 * place));
+        }
+        return words;
+    }
+    let mut padded = [0; BIT_NAME];
+    padded[..length].copy_from_slice(&message[start..start + length]);
+    block(&padded)
 }
 
-/// How many bytes stand before the first NUL, if none stands after it.
+/// A word whose lowest so many bytes are full.
 #[inline]
-pub fn length<const WORDS: usize>(block: &Block<WORDS>) -> Option<usize> {
-    let mut length = 0;
-    let mut before_full = true;
-    for word in block {
-        let filled = filled(*word);
-        let is_run = filled & filled.wrapping_add(1) == 0;
-        if !is_run || (!before_full && filled != 0) {
-            return None;
-        }
-        before_full = filled == u64::MAX;
-        length += filled.trailing_ones() as usize / 8;
+fn low_bytes(count: usize) -> u64 {
+    match count {
+        0..8 => (1 << (8 * count)) - 1,
+        _ => u64::MAX,
     }
-    Some(length)
+}
+
+/// The highest bit of each byte that isn't NUL.
+#[inline]
+fn marks(word: u64) -> u64 {
+    (((word & !HIGH) + !HIGH) | word) & HIGH
+}
+
+/// Whether a block is bytes that aren't NUL, or none, then at least one NUL and nothing else.
+#[inline]
+pub fn is_name<const WORDS: usize>(block: &Block<WORDS>) -> bool {
+    let mut after_nul = 0;
+    let mut before = 0x80;
+    for word in block {
+        let marks = marks(*word);
+        after_nul |= marks & !(marks << 8 | before);
+        before = marks >> 56;
+    }
+    after_nul == 0 && before == 0
+}
+
+/// How many bytes of a name aren't NUL.
+#[inline]
+pub fn length<const WORDS: usize>(name: &Block<WORDS>) -> usize {
+    let count = |word: &u64| (marks(*word) >> 7).wrapping_mul(0x0101_0101_0101_0101) >> 56;
+    name.iter().map(count).sum::<u64>() as usize
+}
+
+/// Whether two blocks are equal, told from their words in registers.
+#[inline]
+pub fn same<const WORDS: usize>(one: &Block<WORDS>, other: &Block<WORDS>) -> bool {
+    one.iter().zip(other).fold(0, |differing, (one, other)| differing | (one ^ other)) == 0
 }
 
 /// Whether a name's payload ends in its only NUL and has 1 to `8 * WORDS` bytes ("Payloads").
 #[inline]
-pub fn is_payload<const WORDS: usize>(payload: &[u8]) -> bool {
-    let fits = !payload.is_empty() && payload.len() <= 8 * WORDS;
-    fits && length::<WORDS>(&block(payload)) == Some(payload.len() - 1)
+pub fn is_payload<const WORDS: usize>(message: &[u8], start: usize, end: usize) -> bool {
+    let one_nul = match &message[start..end] {
+        [0] => true,
+        [.., before, 0] => *before != 0,
+        _ => false,
+    };
+    let length = end - start;
+    one_nul && length <= 8 * WORDS && is_name::<WORDS>(&block_at(message, start, length))
 }
 
 /// A hash of the block; the highest bits are the best mixed.
