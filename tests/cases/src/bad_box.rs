@@ -104,7 +104,7 @@ fn settings_bit(rng: &mut Rng, given: &mut BoxBytes, model: &Model) {
     let set = rng.below(2);
     let bits = model.lists[set].len();
     let start = 32 * (port * (words[0] + words[1]) + set * words[0]);
-    if bits % 32 != 0 {
+    if !bits.is_multiple_of(32) {
         let bit = start + rng.pick(&[bits, bits.next_multiple_of(32) - 1]);
         if let Some(byte) = given.settings.get_mut(bit / 8) {
             *byte |= 1 << (bit % 8);

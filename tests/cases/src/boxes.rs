@@ -118,7 +118,7 @@ pub fn set(rng: &mut Rng, bits: usize) -> Vec<u32> {
             _ => rng.word(),
         })
         .collect();
-    if bits % 32 != 0 {
+    if !bits.is_multiple_of(32) {
         words[bits / 32] &= (1 << (bits % 32)) - 1;
     }
     words

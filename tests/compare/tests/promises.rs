@@ -78,7 +78,9 @@ fn box_stays_right_after_a_call() {
     for (case, answer, settings, _) in handled() {
         if answer.kind == DONE {
             let again = HandleCase { settings, datagram: Vec::new(), position: 0, ..case };
-            assert!(matches!(outcome(&Reader, &Case::Handle(again)), Outcome::Handled { answer, .. } if answer.kind == END));
+            assert!(
+                matches!(outcome(&Reader, &Case::Handle(again)), Outcome::Handled { answer, .. } if answer.kind == END)
+            );
         }
     }
 }
@@ -109,7 +111,11 @@ fn effect(contents: &[u8], names: &[u8], start: &[u8]) -> Result<Vec<u8>, u32> {
     let mut settings = [&[0; 4], start].concat();
     let mut page = vec![0; 32_768];
     let answer = reader::handle(25, 1, &roll, &[0; 32], names, &mut settings, &message, 0, &mut page);
-    if answer.kind == DONE { Ok(settings[4..].to_vec()) } else { Err(answer.refusal) }
+    if answer.kind == DONE {
+        Ok(settings[4..].to_vec())
+    } else {
+        Err(answer.refusal)
+    }
 }
 
 /// The set of all bits below N.

@@ -34,8 +34,10 @@ fn large_and_small_boxes_appear() {
     assert!(names.into_iter().chain(ports).all(|count| count >= 20), "{names:?} {ports:?}");
 }
 
+type Alteration = fn(&mut Answer, &mut [u8], &mut [u8]);
+
 /// The reader with one thing of its outcome changed.
-struct Altered(fn(&mut Answer, &mut [u8], &mut [u8]));
+struct Altered(Alteration);
 
 impl Implementation for Altered {
     fn handle(&self, case: &HandleCase, settings: &mut [u8], page: &mut [u8]) -> Answer {
@@ -51,7 +53,7 @@ impl Implementation for Altered {
 
 #[test]
 fn every_part_of_an_outcome_is_compared() {
-    let alterations: [fn(&mut Answer, &mut [u8], &mut [u8]); 6] = [
+    let alterations: [Alteration; 6] = [
         |answer, _, _| answer.kind ^= 1,
         |answer, _, _| answer.refusal ^= 1,
         |answer, _, _| answer.next ^= 1 << 40,

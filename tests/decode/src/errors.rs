@@ -1,9 +1,9 @@
 //! Error messages and ACKs: errno, the quoted header, the attributes about it.
 
 use super::attributes::{print, Place};
+use super::bytes_text;
 use super::messages::{header_text, indent};
 use super::policy::Parent;
-use super::bytes_text;
 use reader::wire::{u32_at, MessageHeader, ACK_TLVS, CAPPED};
 
 /// Bytes of errno.

@@ -1,9 +1,9 @@
 //! Messages of a datagram, one after the other.
 
 use super::attributes::{print, Place};
+use super::bytes_text;
 use super::errors::print_error;
 use super::policy::{self, Parent};
-use super::bytes_text;
 use reader::wire::{step, GenericHeader, MessageHeader, ERROR, FIRST_FAMILY, REQUEST};
 
 /// The datagram as text; attributes of messages of `family` are named as ethtool's.

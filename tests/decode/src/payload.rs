@@ -37,7 +37,8 @@ fn name(payload: &[u8]) -> Option<String> {
 fn words(payload: &[u8]) -> String {
     const SHOWN: usize = 16;
     let (words, rest) = payload.as_chunks::<4>();
-    let mut parts: Vec<String> = words.iter().take(SHOWN).map(|word| format!("{:08x}", u32::from_le_bytes(*word))).collect();
+    let mut parts: Vec<String> =
+        words.iter().take(SHOWN).map(|word| format!("{:08x}", u32::from_le_bytes(*word))).collect();
     if words.len() > SHOWN {
         parts.push(format!("and {} words more", words.len() - SHOWN));
     }

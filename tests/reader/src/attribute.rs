@@ -42,7 +42,7 @@ impl Attribute {
 
     /// The payload: stated length less 4.
     #[inline]
-    pub fn payload<'a>(self, message: &'a [u8]) -> &'a [u8] {
+    pub fn payload(self, message: &[u8]) -> &[u8] {
         &message[self.at + AttributeHeader::SIZE..self.end]
     }
 

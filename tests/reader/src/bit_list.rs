@@ -9,13 +9,7 @@ const BITS_POLICY: Policy<1> = [Payload::Nest];
 const BIT_POLICY: Policy<3> = [Payload::U32, Payload::BitName, Payload::Flag];
 
 /// Judges a list and gathers what it does; NOMASK sets the listed bits and clears all others.
-pub fn judge(
-    message: &[u8],
-    list: Span,
-    nomask: bool,
-    names: &NameList,
-    change: &mut Change,
-) -> Result<(), Fault> {
+pub fn judge(message: &[u8], list: Span, nomask: bool, names: &NameList, change: &mut Change) -> Result<(), Fault> {
     attribute::for_each(message, list, &BITS_POLICY, |_| Ok(()))?;
     attribute::for_each(message, list, &BITS_POLICY, |entry| {
         let [index, name, value] = attribute::walk(message, entry.span(), &BIT_POLICY)?;

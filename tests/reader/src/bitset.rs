@@ -61,13 +61,7 @@ fn low_bits(bound: usize, word: usize) -> u32 {
 
 /// Walks and judges a bitset whose contents are `contents` and whose header stands at `nest`; the change is
 /// whole only where no fault is told.
-pub fn judge(
-    message: &[u8],
-    nest: usize,
-    contents: Span,
-    names: &NameList,
-    change: &mut Change,
-) -> Result<(), Fault> {
+pub fn judge(message: &[u8], nest: usize, contents: Span, names: &NameList, change: &mut Change) -> Result<(), Fault> {
     let found = attribute::walk(message, contents, &POLICY)?;
     let [nomask, size, bits, value, mask] = found;
     forms_apart(nomask, bits, value, mask)?;

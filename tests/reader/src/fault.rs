@@ -7,7 +7,10 @@ pub enum Detail {
     /// Offset of an attribute's header from the start of the request.
     Offset(usize),
     /// Type of a required attribute that is absent, and the offset of the nest that lacks it.
-    Missing { kind: u16, nest: Option<usize> },
+    Missing {
+        kind: u16,
+        nest: Option<usize>,
+    },
 }
 
 /// The first fault of a request.

@@ -24,11 +24,7 @@ pub struct Tables {
 
 impl Tables {
     pub const fn new() -> Self {
-        Tables {
-            roll: RollSlots::new(),
-            debug: NameSlots::new(),
-            flags: NameSlots::new(),
-        }
+        Tables { roll: RollSlots::new(), debug: NameSlots::new(), flags: NameSlots::new() }
     }
 }
 

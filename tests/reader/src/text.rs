@@ -94,12 +94,8 @@ pub fn is_payload<const WORDS: usize>(message: &[u8], start: usize, end: usize) 
 /// A hash of the block; the highest bits are the best mixed.
 #[inline]
 pub fn hash<const WORDS: usize>(block: &Block<WORDS>) -> u64 {
-    const FACTORS: [u64; 4] = [
-        0x9E37_79B9_7F4A_7C15,
-        0xC2B2_AE3D_27D4_EB4F,
-        0xD6E8_FEB8_6659_FD93,
-        0xA076_1D64_78BD_642F,
-    ];
+    const FACTORS: [u64; 4] =
+        [0x9E37_79B9_7F4A_7C15, 0xC2B2_AE3D_27D4_EB4F, 0xD6E8_FEB8_6659_FD93, 0xA076_1D64_78BD_642F];
     let products = block.iter().zip(FACTORS).map(|(word, factor)| word.wrapping_mul(factor));
     products.fold(0, u64::wrapping_add)
 }

@@ -80,11 +80,7 @@ impl GenericHeader {
     #[inline]
     pub fn read(bytes: &[u8]) -> Option<Self> {
         let head = bytes.get(..Self::SIZE)?;
-        Some(GenericHeader {
-            command: head[0],
-            version: head[1],
-            reserved: u16_at(head, 2),
-        })
+        Some(GenericHeader { command: head[0], version: head[1], reserved: u16_at(head, 2) })
     }
 }
 
@@ -102,10 +98,7 @@ impl AttributeHeader {
     #[inline]
     pub fn read(bytes: &[u8]) -> Option<Self> {
         let head = bytes.get(..Self::SIZE)?;
-        Some(AttributeHeader {
-            length: u16_at(head, 0),
-            bits_and_kind: u16_at(head, 2),
-        })
+        Some(AttributeHeader { length: u16_at(head, 0), bits_and_kind: u16_at(head, 2) })
     }
 
     /// The type without its two bits.

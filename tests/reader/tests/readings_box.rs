@@ -52,7 +52,8 @@ fn roll_records_are_whole_and_of_kind_1() {
 
 #[test]
 fn roll_holds_at_most_64_ports() {
-    let ports: Vec<_> = (0..65).map(|port_number| port(3 + port_number, format!("p{port_number}").as_bytes())).collect();
+    let ports: Vec<_> =
+        (0..65).map(|port_number| port(3 + port_number, format!("p{port_number}").as_bytes())).collect();
     assert_eq!(with_roll(&ports[..64]), 0);
     assert_eq!(with_roll(&ports), 1);
 }

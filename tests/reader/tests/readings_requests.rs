@@ -145,7 +145,7 @@ fn missing_header_then_missing_bitset_go_before_the_header_is_opened() {
     let wrong = nest(1, &[attribute(9, &[])]);
     assert_eq!(told(&message(DEBUG_SET, REQUEST, &[])), (13, vec![(5, 1)]));
     assert_eq!(told(&message(DEBUG_SET, REQUEST, &[nest(2, &[])])), (13, vec![(5, 1)]));
-    assert_eq!(told(&message(DEBUG_SET, REQUEST, &[wrong.clone()])), (13, vec![(5, 2)]));
+    assert_eq!(told(&message(DEBUG_SET, REQUEST, std::slice::from_ref(&wrong))), (13, vec![(5, 2)]));
     assert_eq!(offset(&message(DEBUG_SET, REQUEST, &[wrong, nest(2, &[])])), (11, 24));
     assert_eq!(told(&get(&[])), (13, vec![(5, 1)]));
 }

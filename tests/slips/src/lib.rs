@@ -32,7 +32,15 @@ macro_rules! slip {
             handle: |case, settings, page| {
                 let HandleCase { family, admin, roll, debug_names, flag_names, datagram, position, .. } = case;
                 let answer = $module::handle(
-                    *family, *admin, roll, debug_names, flag_names, settings, datagram, *position, page,
+                    *family,
+                    *admin,
+                    roll,
+                    debug_names,
+                    flag_names,
+                    settings,
+                    datagram,
+                    *position,
+                    page,
                 );
                 let $module::Answer { kind, refusal, next, written } = answer;
                 Answer { kind, refusal, next, written }
