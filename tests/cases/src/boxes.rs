@@ -46,6 +46,19 @@ pub fn list(rng: &mut Rng, bits: usize) -> Vec<Vec<u8>> {
 
 impl Model {
     pub fn new(rng: &mut Rng) -> Self {
+        match rng.per_mille(1) {
+            true => Self::largest(rng),
+            false => Self::any(rng),
+        }
+    }
+
+    /// 64 ports, and all names there can be.
+    fn largest(rng: &mut Rng) -> Self {
+        let lists = [(); 2].map(|()| names::distinct(rng, 512, 31, 0));
+        Model { family: 25, ports: ports(rng, 64), lists }
+    }
+
+    fn any(rng: &mut Rng) -> Self {
         let family = rng.pick(&[16, 25, 25, 25, 31, 255, 256, 4660, 65_535]);
         let count = match rng.below(200) {
             0 => 64,

@@ -1,7 +1,7 @@
 //! A table of small numbers by hash, for telling distinct things from repeated ones in one pass.
 
-/// Open addressing over `1 << BITS` slots; a slot holds an entry's number plus one, 0 where free.
-/// At most half of the slots may be taken.
+/// Open addressing over `SIZE` slots, a power of 2; a slot holds an entry's number plus one, 0 where free.
+/// At most half of the slots may be taken, so that a free one ends every search.
 pub struct Slots<const SIZE: usize>([u16; SIZE]);
 
 impl<const SIZE: usize> Slots<SIZE> {
