@@ -24,13 +24,15 @@ fn near(rng: &mut Rng, name: &[u8], longest: usize) -> Vec<u8> {
 
 /// A name of 1 to `longest` bytes that aren't NUL.
 pub fn any(rng: &mut Rng, earlier: &[Vec<u8>], longest: usize) -> Vec<u8> {
-    let like = if earlier.is_empty() { Vec::new() } else { earlier[rng.below(earlier.len())].clone() };
     match rng.below(8) {
         0 | 1 => letters_within(rng, 1, 4),
         2 | 3 => format!("flag-{}", rng.below(1000)).into_bytes(),
         4 => [b"same-beginning".as_slice(), &letters(rng, 20)].concat()[..longest].to_vec(),
         5 => (0..rng.within(1, longest)).map(|_| rng.within(1, 255) as u8).collect(),
-        6 if !like.is_empty() => near(rng, &like, longest),
+        6 => match earlier.get(rng.below(earlier.len().max(1))) {
+            Some(like) if !like.is_empty() => near(rng, like, longest),
+            _ => letters_within(rng, 1, longest),
+        },
         _ => letters_within(rng, 3, longest),
     }
 }

@@ -1,17 +1,24 @@
 //! The cases reach every answer, are the same on every run, and a difference is seen wherever it is.
 
 use cases::{Case, HandleCase, NormaliseCase};
-use compare::{compare, Implementation, Reader, Tally};
+use compare::{compare, outcome, Implementation, Reader, Tally};
 use reader::Answer;
 use std::io::{stdout, Write};
 
 #[test]
 fn every_number_is_reached_100_times_in_200_000_cases() {
     let mut tally = Tally::default();
-    assert!(compare(&Reader, &Reader, 1, 200_000, &mut tally).is_none());
+    for number in 0..200_000 {
+        tally.count(&outcome(&Reader, &cases::case(1, number)));
+    }
     // Written past the harness, so that the counts show in every run.
     let _ = writeln!(stdout(), "seed 1, 200000 cases\n{tally}");
     assert_eq!(tally.rare(100), Vec::<String>::new());
+}
+
+#[test]
+fn the_reader_does_not_differ_from_itself() {
+    assert!(compare(&Reader, &Reader, 4, 2_000, &mut Tally::default()).is_none());
 }
 
 #[test]
