@@ -1,0 +1,4 @@
+pub mod Put
+pub mod Headers
+pub mod Attributes
+pub mod Error
