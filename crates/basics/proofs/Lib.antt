@@ -1,2 +1,5 @@
+pub mod Numbers
 pub mod Order
+pub mod Put
 pub mod Scan
+pub mod Truth

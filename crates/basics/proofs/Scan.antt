@@ -1,14 +1,14 @@
--- Laws of `all` and `first`: how a loop that counts up goes on, how it ends, and what the two mean.
+-- Laws of `all`, `any` and `first`: how a loop that counts up goes on, how it ends, and what they mean.
 use Prim.Native.Nat.{ℕ, zero, suc, _+_, _<_, _≤_}
 use mathlib.Core.Path.{_≡_, refl, sym, ap, _∙_}
-use mathlib.Core.Bool.{Bool, true, false, _&&_, cond, and-false}
+use mathlib.Core.Bool.{Bool, true, false, _&&_, _||_, cond, and-false, or-true}
 use native.Mathlib.Numerals.{add-one}
 use native.Mathlib.Nat.{eq-or-lt-of-le}
 use native.Mathlib.Omega.{arith}
 use mathlib.Core.Logic.{⊎-elim}
 use lib.Dec.{ltb}
 use borrow.Author.Tests.{lt-ltb, le-ltb}
-use Rattle.basics.specs.Scan.{all, first}
+use Rattle.basics.specs.Scan.{all, any, first}
 use Rattle.basics.proofs.Order.{lt-or-ge}
 
 module _ (f : ℕ → Bool) where
@@ -49,6 +49,33 @@ module _ (f : ℕ → Bool) where
       go : (b : Bool) → f i ≡ b → f i ≡ true
       go true e = e
       go false e = let z : true ≡ false = sym h ∙ all-fails n i l e in e ∙ sym z
+
+  pub all-of : (n : ℕ) → ((k : ℕ) → k < n → f k ≡ true) → all n f ≡ true
+  unfolding all
+  all-of zero g = refl
+  all-of (suc n) g = rw (all-of n (λ k l. g k (omega arith)), g n (omega arith))
+
+  -- some number below n, or none
+  pub any-one : (n i : ℕ) → i < n → f i ≡ true → any n f ≡ true
+  unfolding any
+  any-one zero i l e = absurd (omega arith)
+  any-one (suc n) i l e =
+      ⊎-elim
+      (λ (q : i < n). rw (any-one n i q e))
+      (λ (q : n ≤ i). let p : n ≡ i = omega arith in rw (p, e, or-true))
+      (lt-or-ge i n)
+
+  pub any-none : (n : ℕ) → ((k : ℕ) → k < n → f k ≡ false) → any n f ≡ false
+  unfolding any
+  any-none zero g = refl
+  any-none (suc n) g = rw (any-none n (λ k l. g k (omega arith)), g n (omega arith))
+
+  pub any-not : (n i : ℕ) → any n f ≡ false → i < n → f i ≡ false
+  any-not n i h l = go (f i) refl
+    where
+      go : (b : Bool) → f i ≡ b → f i ≡ false
+      go true e = let z : false ≡ true = sym h ∙ any-one n i l e in e ∙ sym z
+      go false e = e
 
   -- the search has passed every number below i
   pub first-none : first 0 f ≡ 0

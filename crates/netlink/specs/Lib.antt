@@ -4,3 +4,4 @@ pub mod Messages
 pub mod Attributes
 pub mod Policy
 pub mod Walk
+pub mod Claims

@@ -93,7 +93,7 @@ module _ (s : List ℕ) (a e : ℕ) where
 abbrev pub Bounded : List ℕ → ℕ → AttributeRead → Type 0
 Bounded s at End = length s ≤ at
 Bounded s at Broken = at < length s
-Bounded s at (Attribute k b a e n) = (a ≡ at + 4) × (a ≤ e) × (e ≤ n) × (n ≤ length s)
+Bounded s at (Attribute k b a e n) = (a ≡ at + 4) × (e ≡ at + u16At s at) × (a ≤ e) × (e ≤ n) × (n ≤ length s)
 
 pub bounded : (s : List ℕ) (at : ℕ) → Bounded s at (attributeAt s at)
 bounded s at =

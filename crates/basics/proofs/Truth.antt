@@ -1,0 +1,16 @@
+-- A Bool is what it is not the other of.
+use mathlib.Core.Path.{_≡_, refl}
+use mathlib.Core.Bool.{Bool, true, false}
+use Prim.Native.Nat.{ℕ}
+use native.Mathlib.Omega.{arith}
+
+pub true-of : (t : Bool) → (t ≡ false → ⊥) → t ≡ true
+true-of true h = refl
+true-of false h = absurd (h refl)
+
+pub false-of : (t : Bool) → (t ≡ true → ⊥) → t ≡ false
+false-of true h = absurd (h refl)
+false-of false h = refl
+
+pub clash : {t : Bool} → t ≡ true → t ≡ false → ⊥
+clash p q = let z : _≡_ {A = ℕ} 0 1 = cc in omega arith

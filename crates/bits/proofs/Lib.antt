@@ -1,0 +1,6 @@
+pub mod Bit
+pub mod Words
+pub mod Merge
+pub mod Cut
+pub mod Change
+pub mod WordBytes

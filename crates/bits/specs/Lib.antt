@@ -1,0 +1,4 @@
+pub mod Bit
+pub mod Set
+pub mod Change
+pub mod Bytes

@@ -1,0 +1,83 @@
+// Words as their little-endian bytes.
+ghost use mathlib.Core.Path.{_≡_};
+ghost use Prim.Native.Nat.{_+_, _*_, _/_, _≤_, _<_};
+ghost use lib.ListN.{length, getD};
+ghost use Rattle.basics.specs.Numbers.{le32, u32At};
+ghost use Rattle.basics.specs.Put.{put};
+ghost use Rattle.bits.specs.Set.{has, somePast};
+ghost use Rattle.bits.specs.Bytes.{wordsIn, bytesOf};
+
+// A byte as a word.
+fn wide(b: u8) -> u32
+    ensures { λ r. ⌜ (r ≡ b) × (r < 256) ⌝ }
+{
+    b as u32
+}
+
+// The number in the four bytes from `at` on.
+fn four(bytes: &[u8], at: usize) -> u32
+    requires { ⌜ at + 4 ≤ length (now bytes) ⌝ }
+    ensures { λ r. ⌜ r ≡ u32At (now (bytes .entry)) at ⌝ }
+{
+    wide(bytes[at])
+        + wide(bytes[at + 1]) * 256
+        + wide(bytes[at + 2]) * 65536
+        + wide(bytes[at + 3]) * 16777216
+}
+
+// Word j of the bytes, 0 past the last whole one.
+pub fn word_in(bytes: &[u8], j: usize) -> u32
+    ensures { λ r. ⌜ r ≡ getD (wordsIn (now (bytes .entry))) j 0 ⌝ }
+{
+    if j < bytes.len() / 4 {
+        four(bytes, j * 4)
+    } else {
+        0
+    }
+}
+
+// Whether a bit i with n <= i < size is in the set whose words' bytes these are.
+pub fn some_past(bytes: &[u8], n: usize, size: usize) -> bool
+    ensures { λ r. ⌜ r ≡ somePast (has (wordsIn (now (bytes .entry)))) n size ⌝ }
+{
+    let mut j = n / 32;
+    while j < bytes.len() / 4 {
+        if crate::word::bit_between(word_in(bytes, j), j, n, size) {
+            return true;
+        }
+        j += 1;
+    }
+    false
+}
+
+// The words of the bytes, at the front of `words`.
+pub fn read_words(bytes: &[u8], words: &mut [u32])
+    requires { ⌜ length (now bytes) / 4 ≤ length (now words) ⌝ }
+    ensures { λ _. ⌜ now (words .exit) ≡ put (now (words .entry)) (wordsIn (now (bytes .entry))) ⌝ }
+{
+    for j in 0..bytes.len() / 4 {
+        words[j] = word_in(bytes, j);
+    }
+}
+
+// The bytes of a word, at the front of `bytes`.
+fn write_word(word: u32, bytes: &mut [u8])
+    requires { ⌜ 4 ≤ length (now bytes) ⌝ }
+    ensures { λ _. ⌜ now (bytes .exit) ≡ put (now (bytes .entry)) (le32 word) ⌝ }
+{
+    bytes[0] = (word % 256) as u8;
+    bytes[1] = (word / 256 % 256) as u8;
+    bytes[2] = (word / 65536 % 256) as u8;
+    bytes[3] = (word / 16777216 % 256) as u8;
+}
+
+// The bytes of the words, at the front of `bytes`.
+pub fn write_words(words: &[u32], bytes: &mut [u8])
+    requires { ⌜ length (now words) * 4 ≤ length (now bytes) ⌝ }
+    ensures { λ _. ⌜ now (bytes .exit) ≡ put (now (bytes .entry)) (bytesOf (now (words .entry))) ⌝ }
+{
+    for j in 0..words.len() {
+        let at = j * 4;
+        write_word(words[j], &mut bytes[at..]);
+    }
+}
