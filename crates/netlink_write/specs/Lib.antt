@@ -1,4 +1,4 @@
-pub mod Put
+pub mod Page
 pub mod Headers
 pub mod Attributes
 pub mod Error

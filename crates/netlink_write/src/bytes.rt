@@ -3,7 +3,7 @@ ghost use mathlib.Core.Path.{_≡_};
 ghost use Prim.Native.Nat.{_≤_, _-_};
 ghost use mathlib.Core.List.{_++_};
 ghost use lib.ListN.{length, replicate};
-ghost use Rattle.netlink_write.specs.Put.{put};
+ghost use Rattle.basics.specs.Put.{put};
 
 // A copy of the bytes.
 pub fn put_bytes(page: &mut [u8], bytes: &[u8])

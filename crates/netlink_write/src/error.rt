@@ -2,7 +2,8 @@
 ghost use mathlib.Core.Path.{_≡_};
 ghost use Prim.Native.Nat.{_≤_};
 ghost use lib.ListN.{length};
-ghost use Rattle.netlink_write.specs.Put.{put, Wrote};
+ghost use Rattle.basics.specs.Put.{put};
+ghost use Rattle.netlink_write.specs.Page.{Wrote};
 ghost use Rattle.netlink_write.specs.declared.error.Detail.the-variants.{Nothing};
 ghost use Rattle.netlink_write.specs.Error.{detailBytes, flagsOf, negative, errorStart, errorMessage};
 use crate::attributes::put_low_number;

@@ -2,7 +2,7 @@
 ghost use mathlib.Core.Path.{_≡_};
 ghost use Prim.Native.Nat.{_≤_};
 ghost use lib.ListN.{length};
-ghost use Rattle.netlink_write.specs.Put.{put};
+ghost use Rattle.basics.specs.Put.{put};
 ghost use Rattle.netlink_write.specs.Headers.{messageHeaderBytes, genericHeaderBytes, attributeHeaderBytes};
 use crate::numbers::put_u16;
 use crate::numbers::put_u32;

@@ -3,7 +3,7 @@ ghost use mathlib.Core.Path.{_≡_};
 ghost use Prim.Native.Nat.{_≤_};
 ghost use lib.ListN.{length};
 ghost use Rattle.basics.specs.Numbers.{le16, le32};
-ghost use Rattle.netlink_write.specs.Put.{put};
+ghost use Rattle.basics.specs.Put.{put};
 
 // A number of 16 bits: two bytes.
 pub fn put_u16(page: &mut [u8], x: u16)

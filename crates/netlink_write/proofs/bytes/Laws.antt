@@ -5,8 +5,8 @@ use mathlib.Core.List.{List, _++_}
 use native.Mathlib.Omega.{arith}
 use borrow.Rule.Slice.PartMut.{putMid}
 use lib.ListN.{length, take, drop, replicate}
-use Rattle.netlink_write.specs.Put.{put}
-use Rattle.netlink_write.proofs.Put.{then-rest}
+use Rattle.basics.specs.Put.{put}
+use Rattle.basics.proofs.Put.{then-rest}
 
 -- the bytes, then k zeros
 pub filled-put : (P bytes A B : List ℕ) (n k : ℕ) → n ≤ length P → length bytes ≤ n → k ≡ n - length bytes → A ≡ put P bytes

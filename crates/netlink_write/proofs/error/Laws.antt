@@ -8,13 +8,15 @@ use lib.ListN.{length, take, drop, length-append}
 use lib.Seq.{length-take-le}
 use Rattle.basics.specs.Numbers.{le32, u32At}
 use Rattle.netlink.specs.declared.headers.MessageHeader.{MessageHeader}
-use Rattle.netlink_write.specs.Put.{put, Wrote}
+use Rattle.basics.specs.Put.{put}
+use Rattle.netlink_write.specs.Page.{Wrote}
 use Rattle.netlink_write.specs.Headers.{messageHeaderBytes}
 use Rattle.netlink_write.specs.Attributes.{attr}
 use Rattle.netlink_write.specs.Error.{detailBytes, flagsOf, negative, errorHeader, errorStart, errorMessage}
 use Rattle.netlink_write.specs.declared.error.Detail.{Detail}
 use Rattle.netlink_write.specs.declared.error.Detail.the-variants.{Nothing, Offset, MissTop, MissIn}
-use Rattle.netlink_write.proofs.Put.{put-nil, then-rest, then-sized}
+use Rattle.basics.proofs.Put.{put-nil, then-rest}
+use Rattle.netlink_write.proofs.Page.{then-sized}
 use Rattle.netlink_write.proofs.headers.Laws.{length-message-header}
 
 module _ (d : Detail) where

@@ -8,9 +8,9 @@ use lib.ListN.{length, take, drop}
 use Rattle.basics.specs.Numbers.{le16, le32}
 use Rattle.netlink.specs.declared.headers.MessageHeader.{MessageHeader}
 use Rattle.netlink.specs.declared.headers.GenericHeader.{GenericHeader}
-use Rattle.netlink_write.specs.Put.{put}
+use Rattle.basics.specs.Put.{put}
 use Rattle.netlink_write.specs.Headers.{messageHeaderBytes, genericHeaderBytes, attributeHeaderBytes}
-use Rattle.netlink_write.proofs.Put.{then-rest}
+use Rattle.basics.proofs.Put.{then-rest}
 
 pub length-message-header : (h : MessageHeader) → length (messageHeaderBytes h) ≡ 16
 unfolding messageHeaderBytes

@@ -2,8 +2,8 @@ use Prim.Native.Nat.{_≤_, _-_}
 use mathlib.Core.Path.{_≡_, sym, ap, _∙_}
 use lib.ListN.{length, take, length-set}
 use lib.Seq.{take-all}
-use Rattle.netlink_write.specs.Put.{put}
-use Rattle.netlink_write.proofs.Put.{put-nil, put-take}
+use Rattle.basics.specs.Put.{put}
+use Rattle.basics.proofs.Put.{put-nil, put-take}
 use borrow.Author.Needs.{needs}
 use native.Mathlib.Omega.{arith}
 use Rattle.netlink_write.proofs.bytes.put_bytes.Statement.{statement}

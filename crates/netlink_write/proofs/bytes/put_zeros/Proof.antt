@@ -2,8 +2,9 @@ use Prim.Native.Nat.{_≤_, _-_}
 use mathlib.Core.Path.{_≡_, sym, ap, _∙_}
 use native.Mathlib.Nat.{le-antisymm}
 use lib.ListN.{length, replicate, length-set}
-use Rattle.netlink_write.specs.Put.{put}
-use Rattle.netlink_write.proofs.Put.{put-nil, put-zero}
+use Rattle.basics.specs.Put.{put}
+use Rattle.basics.proofs.Put.{put-nil}
+use Rattle.netlink_write.proofs.Page.{put-zero}
 use borrow.Author.Needs.{needs}
 use native.Mathlib.Omega.{arith}
 use Rattle.netlink_write.proofs.bytes.put_zeros.Statement.{statement}

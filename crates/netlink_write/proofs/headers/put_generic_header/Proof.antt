@@ -1,4 +1,4 @@
-use Rattle.netlink_write.proofs.Put.{put-set4}
+use Rattle.basics.proofs.Put.{put-set4}
 use lib.ListN.{length-set}
 use Rattle.netlink_write.specs.Headers.{genericHeaderBytes}
 use native.Mathlib.Omega.{arith}

@@ -4,7 +4,7 @@ use mathlib.Core.List.{_++_}
 use lib.ListN.{length}
 use Rattle.basics.specs.Numbers.{le16, le32}
 use Rattle.netlink_write.specs.Headers.{messageHeaderBytes}
-use Rattle.netlink_write.proofs.Put.{then-rest}
+use Rattle.basics.proofs.Put.{then-rest}
 use native.Mathlib.Omega.{arith}
 use borrow.Author.Needs.{needs}
 use Rattle.netlink_write.proofs.headers.put_message_header.Statement.{statement}

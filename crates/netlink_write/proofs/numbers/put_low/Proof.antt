@@ -1,4 +1,4 @@
-use Rattle.netlink_write.proofs.Put.{put-set4}
+use Rattle.basics.proofs.Put.{put-set4}
 use lib.ListN.{length-set}
 use native.Mathlib.Omega.{arith}
 use borrow.Author.Needs.{needs}

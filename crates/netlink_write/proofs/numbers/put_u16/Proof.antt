@@ -1,4 +1,4 @@
-use Rattle.netlink_write.proofs.Put.{put-set2}
+use Rattle.netlink_write.proofs.Page.{put-set2}
 use borrow.Author.Needs.{needs}
 use Rattle.netlink_write.proofs.numbers.put_u16.Statement.{statement}
 use Rattle.netlink_write.proofs.numbers.put_u16.Tie as tie
