@@ -1,4 +1,4 @@
--- A number of 32 bits and its four bytes say the same.
+-- A number and its bytes say the same.
 use Prim.Native.Nat.{ℕ, _+_, _*_, _/_, _%_, _<_}
 use mathlib.Core.Path.{_≡_, refl, sym, ap, _∙_}
 use mathlib.Core.List.{List, _++_}
@@ -22,3 +22,11 @@ le32At-le32 x s h = digits32 x h
 
 pub le32-inj : (x y : ℕ) → x < 4294967296 → y < 4294967296 → le32 x ≡ le32 y → x ≡ y
 le32-inj x y hx hy e = sym (digits32 x hx) ∙ ap (λ (l : List ℕ). le32At l 0) e ∙ digits32 y hy
+
+-- equal numbers are of equal bytes
+pub same-four : (a b c d a′ b′ c′ d′ : ℕ) → a < 256 → b < 256 → c < 256 → a′ < 256 → b′ < 256 → c′ < 256
+    → a + b * 256 + c * 65536 + d * 16777216 ≡ a′ + b′ * 256 + c′ * 65536 + d′ * 16777216 → (a ≡ a′) × (b ≡ b′) × (c ≡ c′) × (d ≡ d′)
+same-four a b c d a′ b′ c′ d′ ha hb hc ha′ hb′ hc′ e =
+    let p : (a ≡ a′) × (b + c * 256 + d * 65536 ≡ b′ + c′ * 256 + d′ * 65536) = (omega arith, omega arith) in
+    let q : (b ≡ b′) × (c + d * 256 ≡ c′ + d′ * 256) = (omega (arith, p .1), omega (arith, p .1)) in
+    (p .0, q .0, omega (arith, q .1), omega (arith, q .1))
