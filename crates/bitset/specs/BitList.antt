@@ -6,7 +6,8 @@ use lib.ListN.{getD}
 use lib.Dec.{leb}
 use Rattle.bits.specs.Set.{wordsOf}
 use Rattle.bits.specs.Change.{Listed, listMask, listValue}
-use Rattle.names.specs.Names.{lookup, count}
+use Rattle.entries.specs.Entry.{count}
+use Rattle.names.specs.Search.{lookup}
 use Rattle.names.specs.declared.Lookup.{Lookup}
 use Rattle.netlink.specs.Attributes.{Attributes, attributes, partOf}
 use Rattle.netlink.specs.Attributes.Attributes.{done, broken, attribute}

@@ -3,7 +3,7 @@ use Prim.Native.Nat.{ℕ, _-_}
 use mathlib.Core.Bool.{Bool, _&&_, cond}
 use mathlib.Core.List.{List}
 use lib.ListN.{getD}
-use Rattle.names.specs.Names.{count}
+use Rattle.entries.specs.Entry.{count}
 use Rattle.netlink.specs.Walk.{absent, walked}
 use Rattle.netlink.specs.declared.walk.Slot.{Slot}
 use Rattle.refusal.specs.declared.Refusal.the-variants.{Mixed}

@@ -1,6 +1,6 @@
 // A bitset's contents judged: a refusal with its place, or the form of its change.
 ghost use mathlib.Core.Path.{_≡_};
-ghost use Rattle.names.specs.Names.{count};
+ghost use Rattle.entries.specs.Entry.{count};
 ghost use Rattle.bitset.specs.Bitset.{judgedAs};
 ghost use Rattle.bitset.specs.Judge.{mixedAt, partsReading, bitsetReading};
 use crate::compact::judge_compact;

@@ -3,7 +3,7 @@ ghost use mathlib.Core.Path.{_≡_};
 ghost use Rattle.netlink.specs.Attributes.{attributes};
 ghost use Rattle.bitset.specs.Bitset.{judgedAs};
 ghost use Rattle.bitset.specs.BitList.{byIndex, byName, identified, partsReading, bitReading, bitsReading, listReading, listJudged};
-ghost use Rattle.names.specs.Names.{count};
+ghost use Rattle.entries.specs.Entry.{count};
 use crate::form::{Form, Judged, Judgement, listed, refused, under_nomask};
 use crate::policies::{INDEX, NAME, ON, bit_policy, bits_policy};
 use netlink::attributes::{AttributeRead, payload, place, read_attribute};

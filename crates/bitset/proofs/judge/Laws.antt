@@ -5,7 +5,7 @@ use mathlib.Core.List.{List}
 use mathlib.Core.Bool.{Bool, true, false, _&&_, cond}
 use lib.ListN.{getD}
 use Rattle.basics.proofs.Truth.{cond-true, cond-false}
-use Rattle.names.specs.Names.{count}
+use Rattle.entries.specs.Entry.{count}
 use Rattle.netlink.specs.Walk.{absent, walked}
 use Rattle.netlink.specs.declared.policy.Fault.{Fault}
 use Rattle.netlink.specs.declared.policy.Rule.{Rule}

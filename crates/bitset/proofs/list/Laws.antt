@@ -13,7 +13,8 @@ use Rattle.bits.specs.Set.{has, wordsOf, putBit, allBelow}
 use Rattle.bits.specs.Change.{Listed, applied, listMask, listValue}
 use Rattle.bits.proofs.Words.{has-wordsOf, wordsOf-cong}
 use Rattle.bits.proofs.Change.{list-is-merge, list-within}
-use Rattle.names.specs.Names.{lookup, count}
+use Rattle.entries.specs.Entry.{count}
+use Rattle.names.specs.Search.{lookup}
 use Rattle.names.specs.declared.Lookup.{Lookup}
 use Rattle.netlink.specs.Attributes.{Attributes, attributes, attributeAt, onRead, partOf}
 use Rattle.netlink.specs.Attributes.Attributes.{done, broken, attribute}
