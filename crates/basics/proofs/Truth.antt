@@ -1,10 +1,6 @@
 -- A Bool is what it is not the other of, and both of two are true where their `&&` is.
 use mathlib.Core.Path.{_≡_, refl}
-<<<<<<< HEAD
-use mathlib.Core.Bool.{Bool, true, false, cond}
-=======
-use mathlib.Core.Bool.{Bool, true, false, _&&_}
->>>>>>> 648d890e8f77aa5e02ae0dbfe09dc450f2fe5995
+use mathlib.Core.Bool.{Bool, true, false, _&&_, cond}
 use Prim.Native.Nat.{ℕ}
 use native.Mathlib.Omega.{arith}
 
@@ -19,7 +15,6 @@ false-of false h = refl
 pub clash : {t : Bool} → t ≡ true → t ≡ false → ⊥
 clash p q = let z : _≡_ {A = ℕ} 0 1 = cc in omega arith
 
-<<<<<<< HEAD
 -- the branch that a test takes
 module _ {A : Type 0} (t : Bool) (a b : A) where
   pub cond-true : t ≡ true → cond t a b ≡ a
@@ -27,8 +22,7 @@ module _ {A : Type 0} (t : Bool) (a b : A) where
 
   pub cond-false : t ≡ false → cond t a b ≡ b
   cond-false e = rw e
-=======
+
 pub both-true : (x y : Bool) → x && y ≡ true → (x ≡ true) × (y ≡ true)
 both-true true y e = (refl, e)
 both-true false y e = absurd (clash e refl)
->>>>>>> 648d890e8f77aa5e02ae0dbfe09dc450f2fe5995
