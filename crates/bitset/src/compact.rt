@@ -2,11 +2,22 @@
 ghost use mathlib.Core.Path.{_≡_};
 ghost use Rattle.bitset.specs.Bitset.{judgedAs};
 ghost use Rattle.bitset.specs.Compact.{wholeReading, maskedReading, compactReading};
-use crate::form::{Form, Judged, Judgement, all_below, cut_at, refused, within};
-use crate::policies::{MASK, SIZE, VALUE};
-use bits::{some_past, words_for};
-use netlink::attributes::{payload, place};
-use netlink::walk::{Slot, slot_number};
+use crate::form::Form;
+use crate::form::Judged;
+use crate::form::Judgement;
+use crate::form::all_below;
+use crate::form::cut_at;
+use crate::form::refused;
+use crate::form::within;
+use crate::policies::MASK;
+use crate::policies::SIZE;
+use crate::policies::VALUE;
+use bits::some_past;
+use bits::words_for;
+use netlink::attributes::payload;
+use netlink::attributes::place;
+use netlink::walk::Slot;
+use netlink::walk::slot_number;
 use refusal::Refusal;
 
 // Under NOMASK: VALUE alone counts.

@@ -4,12 +4,21 @@ ghost use Rattle.entries.specs.Entry.{count};
 ghost use Rattle.bitset.specs.Bitset.{judgedAs};
 ghost use Rattle.bitset.specs.Judge.{mixedAt, partsReading, bitsetReading};
 use crate::compact::judge_compact;
-use crate::form::{Judged, refused};
+use crate::form::Judged;
+use crate::form::refused;
 use crate::list::judge_list;
-use crate::policies::{BITS, MASK, NOMASK, SIZE, VALUE, bitset_policy};
+use crate::policies::BITS;
+use crate::policies::MASK;
+use crate::policies::NOMASK;
+use crate::policies::SIZE;
+use crate::policies::VALUE;
+use crate::policies::bitset_policy;
 use netlink::attributes::place;
-use netlink::walk::{Slot, Stop, walk};
-use refusal::{Refusal, of_fault};
+use netlink::walk::Slot;
+use netlink::walk::Stop;
+use netlink::walk::walk;
+use refusal::Refusal;
+use refusal::of_fault;
 
 // Where the forms of a bitset are mixed, if they are.
 pub enum Mixing {

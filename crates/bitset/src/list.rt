@@ -4,11 +4,27 @@ ghost use Rattle.netlink.specs.Attributes.{attributes};
 ghost use Rattle.bitset.specs.Bitset.{judgedAs};
 ghost use Rattle.bitset.specs.BitList.{byIndex, byName, identified, partsReading, bitReading, bitsReading, listReading, listJudged};
 ghost use Rattle.entries.specs.Entry.{count};
-use crate::form::{Form, Judged, Judgement, listed, refused, under_nomask};
-use crate::policies::{INDEX, NAME, ON, bit_policy, bits_policy};
-use netlink::attributes::{AttributeRead, payload, place, read_attribute};
-use netlink::walk::{Slot, Stop, slot_number, walk};
-use refusal::{Refusal, of_fault};
+use crate::form::Form;
+use crate::form::Judged;
+use crate::form::Judgement;
+use crate::form::listed;
+use crate::form::refused;
+use crate::form::under_nomask;
+use crate::policies::INDEX;
+use crate::policies::NAME;
+use crate::policies::ON;
+use crate::policies::bit_policy;
+use crate::policies::bits_policy;
+use netlink::attributes::AttributeRead;
+use netlink::attributes::payload;
+use netlink::attributes::place;
+use netlink::attributes::read_attribute;
+use netlink::walk::Slot;
+use netlink::walk::Stop;
+use netlink::walk::slot_number;
+use netlink::walk::walk;
+use refusal::Refusal;
+use refusal::of_fault;
 
 // Which bit a BIT means: its number, or nothing where it has neither INDEX nor NAME.
 pub enum Identity {

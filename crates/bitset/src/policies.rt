@@ -5,14 +5,20 @@ use netlink::policy::Rule;
 
 // Types in a bitset.
 pub const NOMASK: usize = 1;
+
 pub const SIZE: usize = 2;
+
 pub const BITS: usize = 3;
+
 pub const VALUE: usize = 4;
+
 pub const MASK: usize = 5;
 
 // Types in a BIT; the last is its VALUE flag.
 pub const INDEX: usize = 1;
+
 pub const NAME: usize = 2;
+
 pub const ON: usize = 3;
 
 pub fn bitset_policy() -> [Rule; 8]

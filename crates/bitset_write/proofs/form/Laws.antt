@@ -23,7 +23,7 @@ parts-wrote P A B C value mask n a v at m room fits ea wa ev wb et wc =
     let first : Wrote (attr 2 (le32 n)) P A 8 = rw ea at wa in
     let two = wrote-then P A B (attr 2 (le32 n)) (attr 4 (bytesOf value)) 8 v (omega arith) first wb in
     let three = wrote-then P (putMid 8 (length A - 8) A B) C (attr 2 (le32 n) ++ attr 4 (bytesOf value)) (attr 5 (bytesOf mask)) (8 + v) m (omega arith) two
-        (rw et at wc) in
+    (rw et at wc) in
     rw (← append-assoc (attr 2 (le32 n)) (attr 4 (bytesOf value)) (attr 5 (bytesOf mask)), et) three
 
 -- a form's own words

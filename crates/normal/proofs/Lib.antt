@@ -1,0 +1,4 @@
+pub mod Laws
+pub mod Effect
+pub mod Forms
+pub mod Fits
