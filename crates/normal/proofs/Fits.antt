@@ -25,6 +25,7 @@ use Rattle.netlink.specs.declared.walk.Slot.{Slot}
 use Rattle.netlink.specs.declared.walk.Stop.{Stop}
 use Rattle.netlink.specs.declared.walk.Stop.the-variants as S
 use Rattle.refusal.specs.declared.Refusal.{Refusal}
+use Rattle.refusal.specs.declared.Refusal.the-variants.{MissingIn, ShortBitmap, PastLength, UnknownBit}
 use Rattle.bitset.specs.Policies.{bitsetPolicy, bitPolicy, bitsPolicy}
 use Rattle.bitset.specs.Bitset.{Bitset, Reading}
 use Rattle.bitset.specs.Bitset.Bitset.{masked, whole, listed, only}
@@ -56,6 +57,9 @@ pass-stop : (t : Stop) (x : Reading) (b : Bitset) → onStop t refused x ≡ acc
 pass-stop S.Whole x b e = e
 pass-stop (S.At f at) x b e = absurd (never _ b e)
 
+same-bitset : (a b : Bitset) → accepted a ≡ accepted b → b ≡ a
+same-bitset a b e = cc
+
 -- no bit i with N <= i < SIZE: no bit of those below SIZE is at or past N
 none-past : (f : ℕ → Bool) (n size : ℕ) → somePast f n size ≡ false → Below n (λ i. ltb i size && f i)
 unfolding somePast past
@@ -69,27 +73,32 @@ whole-fits : (s : List ℕ) (n size : ℕ) (value : Slot) (b : Bitset) → whole
 unfolding wholeReading
 whole-fits s n size value b e =
     let f = has (wordsIn (bitmap s value)) in
-    let one = pass _ _ _ b e in
-    let two = pass (somePast f n size) _ _ b (one .1) in
-    let q : b ≡ whole size f = cc (two .1) in
-    rw q (none-past f n size (two .0))
+    let last : Reading = accepted (whole size f) in
+    let then : Reading = cond (somePast f n size) (refused (PastLength (value .start - 4))) last in
+    let one = pass (ltb (length (bitmap s value) / 4) (wordsFor size)) (ShortBitmap (value .start - 4)) then b e in
+    let two = pass (somePast f n size) (PastLength (value .start - 4)) last b (one .1) in
+    rw (same-bitset (whole size f) b (two .1)) (none-past f n size (two .0))
 
 masked-fits : (s : List ℕ) (nest n size : ℕ) (value mask : Slot) (b : Bitset) → maskedReading s nest n size value mask ≡ accepted b → Fits n b
 unfolding maskedReading
 masked-fits s nest n size value mask b e =
     let f = has (wordsIn (bitmap s mask)) in
-    let one = pass (not (mask .present)) _ _ b e in
-    let two = pass _ _ _ b (one .1) in
-    let three = pass _ _ _ b (two .1) in
-    let four = pass (somePast f n size) _ _ b (three .1) in
-    let q : b ≡ masked size (has (wordsIn (bitmap s value))) f = cc (four .1) in
-    rw q (none-past f n size (four .0))
+    let last : Reading = accepted (masked size (has (wordsIn (bitmap s value))) f) in
+    let past : Reading = cond (somePast f n size) (refused (PastLength (mask .start - 4))) last in
+    let short : Reading = cond (ltb (length (bitmap s mask) / 4) (wordsFor size)) (refused (ShortBitmap (mask .start - 4))) past in
+    let rest : Reading = cond (ltb (length (bitmap s value) / 4) (wordsFor size)) (refused (ShortBitmap (value .start - 4))) short in
+    let one = pass (not (mask .present)) (MissingIn 5 nest) rest b e in
+    let two = pass (ltb (length (bitmap s value) / 4) (wordsFor size)) (ShortBitmap (value .start - 4)) short b (one .1) in
+    let three = pass (ltb (length (bitmap s mask) / 4) (wordsFor size)) (ShortBitmap (mask .start - 4)) past b (two .1) in
+    let four = pass (somePast f n size) (PastLength (mask .start - 4)) last b (three .1) in
+    rw (same-bitset (masked size (has (wordsIn (bitmap s value))) f) b (four .1)) (none-past f n size (four .0))
 
 compact-fits : (s : List ℕ) (nest n : ℕ) (nomask size value mask : Slot) (b : Bitset) → compactReading s nest n nomask size value mask ≡ accepted b → Fits n b
 unfolding compactReading
 compact-fits s nest n nomask size value mask b e =
-    let one = pass (not (size .present)) _ _ b e in
-    let two = pass (not (value .present)) _ _ b (one .1) in
+    let rest : Reading = cond (nomask .present) (wholeReading s n (slotNumber s size) value) (maskedReading s nest n (slotNumber s size) value mask) in
+    let one = pass (not (size .present)) (MissingIn 2 nest) (cond (not (value .present)) (refused (MissingIn 4 nest)) rest) b e in
+    let two = pass (not (value .present)) (MissingIn 4 nest) rest b (one .1) in
     go (nomask .present) (two .1)
   where
     go : (t : Bool) → cond t (wholeReading s n (slotNumber s size) value) (maskedReading s nest n (slotNumber s size) value mask) ≡ accepted b → Fits n b
@@ -101,7 +110,7 @@ index-below : (s : List ℕ) (n : ℕ) (index : Slot) (k : ℕ) → byIndex s n 
 unfolding byIndex
 index-below s n index k e = go (leb n (slotNumber s index)) refl e
   where
-    go : (t : Bool) → leb n (slotNumber s index) ≡ t → cond t (L.Refused _) (L.Up (Number (slotNumber s index))) ≡ L.Up (Number k) → k < n
+    go : (t : Bool) → leb n (slotNumber s index) ≡ t → cond t (L.Refused (PastLength (index .start - 4))) (L.Up (Number (slotNumber s index))) ≡ L.Up (Number k) → k < n
     go true q e = absurd (let z : _≡_ {A = ℕ} 0 1 = cc in omega arith)
     go false q e = let k : k ≡ slotNumber s index = cc in omega (arith, leb-false n (slotNumber s index) q)
 
@@ -112,7 +121,7 @@ name-below s names name k e = go (lookup names (partOf s (name .start) (name .en
     p : List ℕ
     p = partOf s (name .start) (name .end)
 
-    found : (t : Bool) → lookup names p .found ≡ t → cond t (L.Up (Number (lookup names p .bit))) (L.Refused _) ≡ L.Up (Number k) → k < count names
+    found : (t : Bool) → lookup names p .found ≡ t → cond t (L.Up (Number (lookup names p .bit))) (L.Refused (UnknownBit (name .start - 4))) ≡ L.Up (Number k) → k < count names
     found true q e = let j : k ≡ lookup names p .bit = cc in rw j (lookup-found names p q .0)
     found false q e = absurd (let z : _≡_ {A = ℕ} 0 1 = cc in omega arith)
 

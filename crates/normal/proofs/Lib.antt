@@ -2,3 +2,5 @@ pub mod Laws
 pub mod Effect
 pub mod Forms
 pub mod Fits
+pub mod Stable
+pub mod Demand3
