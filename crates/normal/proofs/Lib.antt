@@ -4,3 +4,4 @@ pub mod Forms
 pub mod Fits
 pub mod Stable
 pub mod Demand3
+pub mod Sheet
