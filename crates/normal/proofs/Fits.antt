@@ -1,0 +1,209 @@
+-- An accepted bitset speaks of no bit at or past N.
+use Prim.Native.Nat.{ℕ, zero, suc, _-_, _/_, _≤_, _<_}
+use mathlib.Core.Path.{_≡_, refl, sym, ap, _∙_}
+use mathlib.Core.List.{List, [], _∷_}
+use mathlib.Core.Bool.{Bool, true, false, _&&_, _||_, not, cond}
+use mathlib.Core.Logic.{⊎-elim}
+use lib.ListN.{length, getD}
+use lib.Dec.{ltb, leb, eqb}
+use native.Mathlib.Omega.{arith}
+use borrow.Author.Tests.{lt-ltb, le-ltb, le-leb, lt-leb, leb-false, ltb-true, ne-eqb}
+use Rattle.basics.specs.Scan.{any}
+use Rattle.basics.proofs.Scan.{any-not}
+use Rattle.basics.proofs.Truth.{clash, false-of}
+use Rattle.bits.specs.Set.{has, somePast, past, wordsFor}
+use Rattle.bits.specs.Bytes.{wordsIn}
+use Rattle.bits.specs.Change.{Below, Listed, listMask}
+use Rattle.entries.specs.Entry.{count}
+use Rattle.names.specs.Search.{lookup}
+use Rattle.names.specs.declared.Lookup.{Lookup}
+use Rattle.names.proofs.Search.{lookup-found}
+use Rattle.netlink.specs.Attributes.{Attributes, attributes, partOf}
+use Rattle.netlink.specs.Attributes.Attributes.{done, broken, attribute}
+use Rattle.netlink.specs.Walk.{absent, walked, slotNumber}
+use Rattle.netlink.specs.declared.walk.Slot.{Slot}
+use Rattle.netlink.specs.declared.walk.Stop.{Stop}
+use Rattle.netlink.specs.declared.walk.Stop.the-variants as S
+use Rattle.refusal.specs.declared.Refusal.{Refusal}
+use Rattle.refusal.specs.declared.Refusal.the-variants.{MissingIn, ShortBitmap, PastLength, UnknownBit}
+use Rattle.bitset.specs.Policies.{bitsetPolicy, bitPolicy, bitsPolicy}
+use Rattle.bitset.specs.Bitset.{Bitset, Reading}
+use Rattle.bitset.specs.Bitset.Bitset.{masked, whole, listed, only}
+use Rattle.bitset.specs.Bitset.Reading.{refused, accepted}
+use Rattle.bitset.specs.Compact.{bitmap, wholeReading, maskedReading, compactReading}
+use Rattle.bitset.specs.BitList.{byIndex, onLookup, byName, identified, onIdentity, onLooked, onStop, partsReading, bitReading, ListReading, onBit, bitsReading, asBitset, listReading}
+use Rattle.bitset.specs.BitList.ListReading.{stopped, entries}
+use Rattle.bitset.specs.Judge as J
+use Rattle.bitset.specs.declared.judge.Mixing.{Mixing}
+use Rattle.bitset.specs.declared.judge.Mixing.the-variants.{Pure, At}
+use Rattle.bitset.specs.declared.list.Identity.{Identity}
+use Rattle.bitset.specs.declared.list.Identity.the-variants.{Number, Neither}
+use Rattle.bitset.specs.declared.list.Looked.{Looked}
+use Rattle.bitset.specs.declared.list.Looked.the-variants as L
+use Rattle.bitset.specs.declared.list.BitRead.{BitRead}
+use Rattle.bitset.specs.declared.list.BitRead.the-variants as B
+use Rattle.normal.specs.Claims.{Fits}
+
+-- a refusal is no acceptance
+never : (r : Refusal) (b : Bitset) → refused r ≡ accepted b → ⊥
+never r b e = let z : _≡_ {A = ℕ} 0 1 = cc in omega arith
+
+-- a check that was passed
+pass : (t : Bool) (r : Refusal) (x : Reading) (b : Bitset) → cond t (refused r) x ≡ accepted b → (t ≡ false) × (x ≡ accepted b)
+pass true r x b e = absurd (never r b e)
+pass false r x b e = (refl, e)
+
+pass-stop : (t : Stop) (x : Reading) (b : Bitset) → onStop t refused x ≡ accepted b → x ≡ accepted b
+pass-stop S.Whole x b e = e
+pass-stop (S.At f at) x b e = absurd (never _ b e)
+
+same-bitset : (a b : Bitset) → accepted a ≡ accepted b → b ≡ a
+same-bitset a b e = cc
+
+-- no bit i with N <= i < SIZE: no bit of those below SIZE is at or past N
+none-past : (f : ℕ → Bool) (n size : ℕ) → somePast f n size ≡ false → Below n (λ i. ltb i size && f i)
+unfolding somePast past
+none-past f n size h i l = go (ltb i size) refl
+  where
+    go : (t : Bool) → ltb i size ≡ t → t && f i ≡ false
+    go false e = refl
+    go true e = rw (le-leb n i l) at (any-not (past n f) size i h (ltb-true i size e))
+
+whole-fits : (s : List ℕ) (n size : ℕ) (value : Slot) (b : Bitset) → wholeReading s n size value ≡ accepted b → Fits n b
+unfolding wholeReading
+whole-fits s n size value b e =
+    let f = has (wordsIn (bitmap s value)) in
+    let last : Reading = accepted (whole size f) in
+    let then : Reading = cond (somePast f n size) (refused (PastLength (value .start - 4))) last in
+    let one = pass (ltb (length (bitmap s value) / 4) (wordsFor size)) (ShortBitmap (value .start - 4)) then b e in
+    let two = pass (somePast f n size) (PastLength (value .start - 4)) last b (one .1) in
+    rw (same-bitset (whole size f) b (two .1)) (none-past f n size (two .0))
+
+masked-fits : (s : List ℕ) (nest n size : ℕ) (value mask : Slot) (b : Bitset) → maskedReading s nest n size value mask ≡ accepted b → Fits n b
+unfolding maskedReading
+masked-fits s nest n size value mask b e =
+    let f = has (wordsIn (bitmap s mask)) in
+    let last : Reading = accepted (masked size (has (wordsIn (bitmap s value))) f) in
+    let past : Reading = cond (somePast f n size) (refused (PastLength (mask .start - 4))) last in
+    let short : Reading = cond (ltb (length (bitmap s mask) / 4) (wordsFor size)) (refused (ShortBitmap (mask .start - 4))) past in
+    let rest : Reading = cond (ltb (length (bitmap s value) / 4) (wordsFor size)) (refused (ShortBitmap (value .start - 4))) short in
+    let one = pass (not (mask .present)) (MissingIn 5 nest) rest b e in
+    let two = pass (ltb (length (bitmap s value) / 4) (wordsFor size)) (ShortBitmap (value .start - 4)) short b (one .1) in
+    let three = pass (ltb (length (bitmap s mask) / 4) (wordsFor size)) (ShortBitmap (mask .start - 4)) past b (two .1) in
+    let four = pass (somePast f n size) (PastLength (mask .start - 4)) last b (three .1) in
+    rw (same-bitset (masked size (has (wordsIn (bitmap s value))) f) b (four .1)) (none-past f n size (four .0))
+
+compact-fits : (s : List ℕ) (nest n : ℕ) (nomask size value mask : Slot) (b : Bitset) → compactReading s nest n nomask size value mask ≡ accepted b → Fits n b
+unfolding compactReading
+compact-fits s nest n nomask size value mask b e =
+    let rest : Reading = cond (nomask .present) (wholeReading s n (slotNumber s size) value) (maskedReading s nest n (slotNumber s size) value mask) in
+    let one = pass (not (size .present)) (MissingIn 2 nest) (cond (not (value .present)) (refused (MissingIn 4 nest)) rest) b e in
+    let two = pass (not (value .present)) (MissingIn 4 nest) rest b (one .1) in
+    go (nomask .present) (two .1)
+  where
+    go : (t : Bool) → cond t (wholeReading s n (slotNumber s size) value) (maskedReading s nest n (slotNumber s size) value mask) ≡ accepted b → Fits n b
+    go true q = whole-fits s n (slotNumber s size) value b q
+    go false q = masked-fits s nest n (slotNumber s size) value mask b q
+
+-- the number of a BIT is below N
+index-below : (s : List ℕ) (n : ℕ) (index : Slot) (k : ℕ) → byIndex s n index ≡ L.Up (Number k) → k < n
+unfolding byIndex
+index-below s n index k e = go (leb n (slotNumber s index)) refl e
+  where
+    go : (t : Bool) → leb n (slotNumber s index) ≡ t → cond t (L.Refused (PastLength (index .start - 4))) (L.Up (Number (slotNumber s index))) ≡ L.Up (Number k) → k < n
+    go true q e = absurd (let z : _≡_ {A = ℕ} 0 1 = cc in omega arith)
+    go false q e = let k : k ≡ slotNumber s index = cc in omega (arith, leb-false n (slotNumber s index) q)
+
+name-below : (s names : List ℕ) (name : Slot) (k : ℕ) → byName s names name ≡ L.Up (Number k) → k < count names
+unfolding byName
+name-below s names name k e = go (lookup names (partOf s (name .start) (name .end))) refl e
+  where
+    p : List ℕ
+    p = partOf s (name .start) (name .end)
+
+    found : (t : Bool) → lookup names p .found ≡ t → cond t (L.Up (Number (lookup names p .bit))) (L.Refused (UnknownBit (name .start - 4))) ≡ L.Up (Number k) → k < count names
+    found true q e = let j : k ≡ lookup names p .bit = cc in rw j (lookup-found names p q .0)
+    found false q e = absurd (let z : _≡_ {A = ℕ} 0 1 = cc in omega arith)
+
+    go : (l : Lookup) → lookup names p ≡ l → onLookup (lookup names p) (name .start - 4) ≡ L.Up (Number k) → k < count names
+    go l q e = found (lookup names p .found) refl e
+
+identified-below : (s names : List ℕ) (index name : Slot) (k : ℕ) → identified s names index name ≡ L.Up (Number k) → k < count names
+unfolding identified
+identified-below s names index name k e = go (index .present) (name .present) e
+  where
+    go : (t u : Bool) → cond t (byIndex s (count names) index) (cond u (byName s names name) (L.Up Neither)) ≡ L.Up (Number k) → k < count names
+    go true u e = index-below s (count names) index k e
+    go false true e = name-below s names name k e
+    go false false e = absurd (let z : _≡_ {A = ℕ} 0 1 = cc in omega arith)
+
+bit-below : (s names : List ℕ) (from k : ℕ) (on : Bool) → bitReading s names from ≡ B.Bit k on → k < count names
+unfolding bitReading partsReading
+bit-below s names from k on e =
+    go (walked bitPolicy s from .stop) (identified s names (getD (walked bitPolicy s from .slots) 1 absent) (getD (walked bitPolicy s from .slots) 2 absent)) refl e
+  where
+    slots : List Slot
+    slots = walked bitPolicy s from .slots
+
+    go : (t : Stop) (l : Looked) → identified s names (getD slots 1 absent) (getD slots 2 absent) ≡ l
+        → onStop t B.Refused (onLooked l (from - 4) (getD slots 3 absent .present)) ≡ B.Bit k on → k < count names
+    go (S.At f at) l q e = absurd (let z : _≡_ {A = ℕ} 0 1 = cc in omega arith)
+    go S.Whole (L.Refused r) q e = absurd (let z : _≡_ {A = ℕ} 0 1 = cc in omega arith)
+    go S.Whole (L.Up Neither) q e = absurd (let z : _≡_ {A = ℕ} 0 1 = cc in omega arith)
+    go S.Whole (L.Up (Number j)) q e = let i : k ≡ j = cc in rw i (identified-below s names (getD slots 1 absent) (getD slots 2 absent) j q)
+
+bits-below : (s names : List ℕ) (xs : Attributes) (es : List Listed) → bitsReading s names xs ≡ entries es → Below (count names) (listMask es)
+unfolding bitsReading listMask
+bits-below s names done es e i l = let q : es ≡ [] = cc in rw q
+bits-below s names (broken at) es e i l = let q : es ≡ [] = cc in rw q
+bits-below s names (attribute k b a z rest) es e i l =
+    go (bitReading (partOf s 0 z) names a) refl (bitsReading s names rest) refl e (λ fs h. bits-below s names rest fs h i l)
+  where
+    go : (v : BitRead) → bitReading (partOf s 0 z) names a ≡ v → (x : ListReading) → bitsReading s names rest ≡ x → onBit v x ≡ entries es
+        → ((fs : List Listed) → bitsReading s names rest ≡ entries fs → listMask fs i ≡ false) → listMask es i ≡ false
+    go (B.Refused r) q x u e f = absurd (let z : _≡_ {A = ℕ} 0 1 = cc in omega arith)
+    go (B.Bit j on) q (stopped r) u e f = absurd (let z : _≡_ {A = ℕ} 0 1 = cc in omega arith)
+    go (B.Bit j on) q (entries fs) u e f =
+        let w : es ≡ record { bit = j; on = on } ∷ fs = cc in
+        let lt = bit-below (partOf s 0 z) names a j on q in
+        let ne : eqb i j ≡ false = ne-eqb i j (λ h. omega arith) in
+        rw w (rw (ne, f fs u))
+
+list-fits : (s names : List ℕ) (nomask bits : Slot) (b : Bitset) → listReading s names nomask bits ≡ accepted b → Fits (count names) b
+unfolding listReading
+list-fits s names nomask bits b e =
+    go (nomask .present) (bitsReading p names xs) refl (pass-stop (walked bitsPolicy p (bits .start) .stop) _ b e)
+  where
+    p : List ℕ
+    p = partOf s 0 (bits .end)
+
+    xs : Attributes
+    xs = attributes p (bits .start)
+
+    go : (t : Bool) (x : ListReading) → bitsReading p names xs ≡ x → asBitset t x ≡ accepted b → Fits (count names) b
+    go true (stopped r) q e = absurd (never r b e)
+    go false (stopped r) q e = absurd (never r b e)
+    go true (entries es) q e = let w : b ≡ only es = cc in rw w (bits-below p names xs es q)
+    go false (entries es) q e = let w : b ≡ listed es = cc in rw w (bits-below p names xs es q)
+
+-- of an accepted bitset
+pub accepted-fits : (s : List ℕ) (from : ℕ) (names : List ℕ) (b : Bitset) → J.bitsetReading s from names ≡ accepted b → Fits (count names) b
+unfolding J.bitsetReading J.partsReading
+accepted-fits s from names b e =
+    parts (getD slots 1 absent) (getD slots 2 absent) (getD slots 3 absent) (getD slots 4 absent) (getD slots 5 absent)
+    (pass-stop (walked bitsetPolicy s from .stop) _ b e)
+  where
+    slots : List Slot
+    slots = walked bitsetPolicy s from .slots
+
+    parts : (nomask size bits value mask : Slot)
+        → J.onMixing (J.mixedAt nomask bits value mask)
+        (cond (bits .present) (listReading s names nomask bits) (compactReading s (from - 4) (count names) nomask size value mask)) ≡ accepted b
+        → Fits (count names) b
+    parts nomask size bits value mask e = go (J.mixedAt nomask bits value mask) (bits .present) e
+      where
+        go : (m : Mixing) (t : Bool) → J.onMixing m (cond t (listReading s names nomask bits) (compactReading s (from - 4) (count names) nomask size value mask)) ≡ accepted b
+            → Fits (count names) b
+        go (At at) t e = absurd (never _ b e)
+        go Pure true e = list-fits s names nomask bits b e
+        go Pure false e = compact-fits s (from - 4) (count names) nomask size value mask b e

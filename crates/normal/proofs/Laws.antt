@@ -1,0 +1,96 @@
+-- Laws of the normaliser: one for each return.
+use Prim.Native.Nat.{ℕ, _≤_, _<_}
+use mathlib.Core.Path.{_≡_, refl, sym, ap, _∙_}
+use mathlib.Core.List.{List, []}
+use mathlib.Core.Bool.{Bool, true, false, cond, not}
+use lib.ListN.{length}
+use lib.Dec.{ltb}
+use native.Mathlib.Omega.{arith}
+use borrow.Author.Tests.{lt-ltb, le-ltb, not-true, not-false}
+use Rattle.basics.specs.Put.{put}
+use Rattle.basics.proofs.Put.{put-nil}
+use Rattle.bits.specs.Set.{wordsOf}
+use Rattle.entries.specs.Entry.{count}
+use Rattle.names.specs.Rule.{namesRight}
+use Rattle.names.proofs.Rules.{Right, right-means}
+use Rattle.refusal.specs.Refusal.{numberOf}
+use Rattle.refusal.specs.declared.Refusal.{Refusal}
+use Rattle.refusal.specs.declared.Refusal.the-variants.{Box, Page, Datagram}
+use Rattle.bitset.specs.Bitset.{Bitset, Reading, maskOf, valueOf, judgedAs}
+use Rattle.bitset.specs.Bitset.Reading.{refused, accepted}
+use Rattle.bitset.specs.Judge.{bitsetReading}
+use Rattle.bitset.specs.declared.form.Judgement.{Judgement}
+use Rattle.bitset.specs.declared.form.Judgement.the-variants.{Accepted, Refused}
+use Rattle.bitset.specs.declared.form.Judged.{Judged}
+use Rattle.netlink_write.specs.Page.{Wrote}
+use Rattle.bitset_write.specs.Form.{formBytes}
+use Rattle.normal.specs.Normal.{normalForm, Outcome, refusedBy, onReading, normalised, shown, Normalised}
+use Rattle.normal.specs.declared.Normal.{Normal}
+
+-- a refusal writes nothing
+quiet : (o : Outcome) (y : Refusal) (P : List ℕ) (r : Normal) → r ≡ shown (refusedBy y) → o ≡ refusedBy y → Normalised o P P r
+quiet o y P r e q = rw q (record { result = e; page = sym (put-nil P) })
+
+-- a judged bitset that is refused, and one that is accepted
+reading-refused : (n : ℕ) (x : Reading) (y : Refusal) → judgedAs n x .judgement ≡ Refused y → x ≡ refused y
+unfolding judgedAs
+reading-refused n (refused r) y e = ap refused (cc)
+reading-refused n (accepted b) y e = absurd (let z : _≡_ {A = ℕ} 0 1 = cc in never z)
+  where
+    never : _≡_ {A = ℕ} 0 1 → ⊥
+    never z = omega arith
+
+written : (n : ℕ) (x : Reading) (P Q m v : List ℕ) (w : ℕ) → judgedAs n x .judgement ≡ Accepted → m ≡ judgedAs n x .form .mask → v ≡ judgedAs n x .form .value
+    → Wrote (formBytes n m v) P Q w → Normalised (onReading x n) P Q (record { number = 0; written = w })
+unfolding judgedAs normalForm
+written n (refused r) P Q m v w e em ev h = absurd (let z : _≡_ {A = ℕ} 0 1 = cc in never z)
+  where
+    never : _≡_ {A = ℕ} 0 1 → ⊥
+    never z = omega arith
+written n (accepted b) P Q m v w e em ev h =
+    record {
+      result = ap (λ (k : ℕ). record { number = 0; written = k }) (h .count ∙ ap length (both));
+      page = h .page ∙ ap (put P) both;
+    }
+  where
+    both : formBytes n m v ≡ formBytes n (wordsOf 16 (maskOf n b)) (wordsOf 16 (valueOf b))
+    both = rw (em, ev)
+
+module _ (contents names P : List ℕ) (t : Bool) (et : t ≡ namesRight names) where
+  pub normal-box : (r : Normal) → not t ≡ true → r ≡ shown (refusedBy Box) → Normalised (normalised contents names (length P)) P P r
+  unfolding normalised
+  normal-box r z e = quiet _ Box P r e (rw (← et, z))
+
+  pub normal-few : (n : ℕ) → not t ≡ false → n ≡ count names → n ≤ 512
+  normal-few n z e = rw e (right-means names (sym et ∙ not-false t z) .few)
+
+  module _ (right : not t ≡ false) where
+    pub normal-page : (r : Normal) → length P < 144 → r ≡ shown (refusedBy Page) → Normalised (normalised contents names (length P)) P P r
+    unfolding normalised
+    normal-page r l e = quiet _ Page P r e (rw (← et, right, lt-ltb _ _ l))
+
+    module _ (room : 144 ≤ length P) where
+      pub normal-long : (r : Normal) → 32768 < length contents → r ≡ shown (refusedBy Datagram) → Normalised (normalised contents names (length P)) P P r
+      unfolding normalised
+      normal-long r l e = quiet _ Datagram P r e (rw (← et, right, le-ltb _ _ room, lt-ltb _ _ l))
+
+      module _ (short : length contents ≤ 32768) (j : Judged) (ej : j ≡ judgedAs (count names) (bitsetReading contents 0 names)) where
+        read : normalised contents names (length P) ≡ onReading (bitsetReading contents 0 names) (count names)
+        unfolding normalised
+        read = rw (← et, right, le-ltb _ _ room, le-ltb _ _ short)
+
+        pub normal-refused : (y : Refusal) (r : Normal) → j .judgement ≡ Refused y → r ≡ shown (refusedBy y)
+            → Normalised (normalised contents names (length P)) P P r
+        normal-refused y r q e =
+            quiet _ y P r e
+            (read ∙ ap (λ (x : Reading). onReading x (count names))
+            (reading-refused (count names) (bitsetReading contents 0 names) y (ap (λ (x : Judged). x .judgement) (sym ej) ∙ q)))
+
+        pub normal-accepted : (n w : ℕ) (Q : List ℕ) → n ≡ count names → j .judgement ≡ Accepted → Wrote (formBytes n (j .form .mask) (j .form .value)) P Q w
+            → Normalised (normalised contents names (length P)) P Q (record { number = 0; written = w })
+        normal-accepted n w Q en q h =
+            rw read
+            (written (count names) (bitsetReading contents 0 names) P Q (j .form .mask) (j .form .value) w (ap (λ (x : Judged). x .judgement) (sym ej) ∙ q)
+            (ap (λ (x : Judged). x .form .mask) ej) (ap (λ (x : Judged). x .form .value) ej) (rw en at h))
+
+pub ruleset normal-laws = (normal-box, normal-few, normal-page, normal-long, normal-refused, normal-accepted)

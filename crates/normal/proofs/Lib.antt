@@ -1,0 +1,7 @@
+pub mod Laws
+pub mod Effect
+pub mod Forms
+pub mod Fits
+pub mod Stable
+pub mod Demand3
+pub mod Sheet

@@ -1,0 +1,27 @@
+-- The sheet P1 to P12, computed from the definitions.
+use mathlib.Core.Path.{_≡_, refl}
+use mathlib.Core.Bool.{true}
+use Rattle.basics.specs.Numbers.{u16At, u32At}
+use Rattle.basics.specs.Scan.{all, any, first}
+use Rattle.bits.specs.Bit.{number}
+use Rattle.bits.specs.Set.{has, wordsOf, somePast, past}
+use Rattle.bits.specs.Bytes.{table, wordsIn, bytesOf}
+use Rattle.bits.specs.Change.{applied, listMask, listValue}
+use Rattle.entries.specs.Entry.{entryAt, sameByte, same}
+use Rattle.names.specs.Search.{isName, noName, lookup}
+use Rattle.netlink.specs.Attributes.{attributeAt, partOf, attributesUpTo, attributes}
+use Rattle.netlink.specs.Policy as P
+use Rattle.netlink.specs.Walk.{firstFault, lastOf, walked, slotNumber}
+use Rattle.netlink_write.specs.Headers.{attributeHeaderBytes}
+use Rattle.netlink_write.specs.Attributes.{padding, attr, nest}
+use Rattle.bitset.specs.Bitset.{effect, maskOf, valueOf}
+use Rattle.bitset.specs.Compact.{wholeReading, maskedReading, compactReading}
+use Rattle.bitset.specs.BitList as BL
+use Rattle.bitset.specs.Judge.{mixedAt, partsReading, bitsetReading}
+use Rattle.bitset_write.specs.Form.{partsBytes, formBytes}
+use Rattle.normal.specs.Normal.{normalForm}
+use Rattle.normal.specs.Sheet.{sheetNames, sheet, holds}
+
+pub sheet-holds : holds sheet ≡ true
+unfolding sheetNames sheet u16At u32At all any first number has wordsOf somePast past table wordsIn bytesOf applied listMask listValue entryAt sameByte same isName noName lookup attributeAt partOf attributesUpTo attributes P.ruleOf P.nulAt P.isName P.plain P.nested P.judged firstFault lastOf walked slotNumber attributeHeaderBytes padding attr nest effect maskOf valueOf wholeReading maskedReading compactReading BL.byIndex BL.byName BL.identified BL.partsReading BL.bitReading BL.bitsReading BL.listReading mixedAt partsReading bitsetReading partsBytes formBytes normalForm
+sheet-holds = refl

@@ -1,0 +1,52 @@
+-- Document 01, "Bitsets": the normaliser and the normal form.
+use Prim.Native.Nat.{ℕ}
+use mathlib.Core.Path.{_≡_}
+use mathlib.Core.List.{List, []}
+use mathlib.Core.Bool.{Bool, cond, not}
+use lib.ListN.{length}
+use lib.Dec.{ltb}
+use Rattle.basics.specs.Put.{put}
+use Rattle.bits.specs.Set.{wordsOf}
+use Rattle.entries.specs.Entry.{count}
+use Rattle.names.specs.Rule.{namesRight}
+use Rattle.refusal.specs.Refusal.{numberOf}
+use Rattle.refusal.specs.declared.Refusal.{Refusal}
+use Rattle.refusal.specs.declared.Refusal.the-variants.{Box, Page, Datagram}
+use Rattle.bitset.specs.Bitset.{Bitset, Reading, maskOf, valueOf}
+use Rattle.bitset.specs.Bitset.Reading.{refused, accepted}
+use Rattle.bitset.specs.Judge.{bitsetReading}
+use Rattle.bitset_write.specs.Form.{formBytes}
+use Rattle.normal.specs.declared.Normal.{Normal}
+
+-- "contents of a compact bitset: SIZE N, VALUE W words, MASK W words", of the mask and value of the bitset
+unfoldable pub normalForm : ℕ → Bitset → List ℕ
+normalForm n b = formBytes n (wordsOf 16 (maskOf n b)) (wordsOf 16 (valueOf b))
+
+-- the number, 0 if accepted, and the bytes written
+pub record Outcome : Type 0 where
+  pub number : ℕ
+  pub bytes : List ℕ
+
+abbrev pub refusedBy : Refusal → Outcome
+refusedBy r = record { number = numberOf r; bytes = [] }
+
+abbrev pub onReading : Reading → ℕ → Outcome
+onReading (refused r) n = refusedBy r
+onReading (accepted b) n = record { number = 0; bytes = normalForm n b }
+
+-- "It refuses by 1 (list), 2 (page), 3 (contents over 32,768 bytes), then 10 to 13 and 18 to 22 in the handler's order, and then writes nothing"
+unfoldable pub normalised : List ℕ → List ℕ → ℕ → Outcome
+normalised contents names room =
+    cond (not (namesRight names)) (refusedBy Box)
+    (cond (ltb room 144) (refusedBy Page)
+    (cond (ltb 32768 (length contents)) (refusedBy Datagram)
+    (onReading (bitsetReading contents 0 names) (count names))))
+
+-- the code's answer: the count is the length of the bytes
+abbrev pub shown : Outcome → Normal
+shown o = record { number = o .number; written = length (o .bytes) }
+
+-- the bytes stand at the front of the page, and the rest of the page is as before
+pub record Normalised (o : Outcome) (before after : List ℕ) (r : Normal) : Type 0 where
+  pub result : r ≡ shown o
+  pub page : after ≡ put before (o .bytes)

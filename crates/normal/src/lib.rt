@@ -1,0 +1,52 @@
+// The normaliser: a bitset's contents to the bytes of its normal form.
+ghost use mathlib.Core.Path.{_≡_};
+ghost use lib.ListN.{length};
+ghost use Rattle.normal.specs.Normal.{normalised, Normalised, shown, refusedBy};
+use bitset::form::Judgement;
+use bitset::judge::judge;
+use bitset_write::form::put_form;
+use refusal::Refusal;
+
+pub const PAGE: usize = 144;
+
+pub const CONTENTS: usize = 32768;
+
+// What the normaliser answers: document 01's number, 0 if the bitset is accepted, and the bytes written.
+pub struct Normal {
+    pub number: u32,
+    pub written: usize,
+}
+
+fn refused(why: Refusal) -> Normal
+    ensures { λ r. ⌜ r ≡ shown (refusedBy why) ⌝ }
+{
+    Normal {
+        number: why.number(),
+        written: 0,
+    }
+}
+
+// Normalises the contents of a bitset for the set that a list names. Bytes of the page past the form stay.
+pub fn normalise(contents: &[u8], names: &[u8], page: &mut [u8]) -> Normal
+    ensures { λ r. ⌜ Normalised (normalised (now (contents .entry)) (now (names .entry)) (length (now (page .entry)))) (now (page .entry)) (now (page .exit)) r ⌝ }
+{
+    if !names::names_right(names) {
+        return refused(Refusal::Box);
+    }
+    if page.len() < PAGE {
+        return refused(Refusal::Page);
+    }
+    if CONTENTS < contents.len() {
+        return refused(Refusal::Datagram);
+    }
+    let judged = judge(contents, 0, names);
+    let judgement = judged.judgement;
+    if let Judgement::Refused(why) = judgement {
+        return refused(why);
+    }
+    let form = judged.form;
+    let mask = form.mask;
+    let value = form.value;
+    let written = put_form(page, names::count(names), mask, value);
+    Normal { number: 0, written }
+}
