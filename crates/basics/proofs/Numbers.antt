@@ -66,3 +66,11 @@ module _ (pre post : List ℕ) (x : ℕ) where
 
   pub u32-back : x < 4294967296 → u32At (pre ++ (le32 x ++ post)) (length pre) ≡ x
   u32-back h = u32-past pre (le32 x ++ post) (length pre) 0 zeroth ∙ u32-le32 x post h
+
+-- equal numbers are of equal bytes
+pub same-four : (a b c d a′ b′ c′ d′ : ℕ) → a < 256 → b < 256 → c < 256 → a′ < 256 → b′ < 256 → c′ < 256
+    → a + b * 256 + c * 65536 + d * 16777216 ≡ a′ + b′ * 256 + c′ * 65536 + d′ * 16777216 → (a ≡ a′) × (b ≡ b′) × (c ≡ c′) × (d ≡ d′)
+same-four a b c d a′ b′ c′ d′ ha hb hc ha′ hb′ hc′ e =
+    let p : (a ≡ a′) × (b + c * 256 + d * 65536 ≡ b′ + c′ * 256 + d′ * 65536) = (omega arith, omega arith) in
+    let q : (b ≡ b′) × (c + d * 256 ≡ c′ + d′ * 256) = (omega (arith, p .1), omega (arith, p .1)) in
+    (p .0, q .0, omega (arith, q .1), omega (arith, q .1))

@@ -7,7 +7,7 @@ use native.Mathlib.Nat.{eq-or-lt-of-le}
 use native.Mathlib.Omega.{arith}
 use mathlib.Core.Logic.{⊎-elim}
 use lib.Dec.{ltb}
-use borrow.Author.Tests.{lt-ltb, le-ltb}
+use borrow.Author.Tests.{lt-ltb, le-ltb, ltb-true}
 use Rattle.basics.specs.Scan.{all, any, first}
 use Rattle.basics.proofs.Order.{lt-or-ge}
 
@@ -15,6 +15,10 @@ module _ (f : ℕ → Bool) where
   pub all-none : all 0 f ≡ true
   unfolding all
   all-none = refl
+
+  pub all-plus : (i : ℕ) → all (i + 1) f ≡ all i f && f i
+  unfolding all
+  all-plus i = rw (add-one i)
 
   pub all-more : (i : ℕ) → all i f ≡ true → f i ≡ true → all (i + 1) f ≡ true
   unfolding all
@@ -98,3 +102,15 @@ module _ (f : ℕ → Bool) where
 
       here : n ≤ i → cond (ltb (first n f) n) (first n f) (cond (f n) n (suc n)) ≡ i
       here q = let p : n ≡ i = omega arith in rw (p, h, le-ltb i i (omega arith), e)
+
+  -- where it ends f holds
+  pub first-is : (n : ℕ) → first n f < n → f (first n f) ≡ true
+  unfolding first
+  first-is zero h = absurd (omega arith)
+  first-is (suc n) h = go (ltb (first n f) n) (f n) refl refl (first-is n) h
+    where
+      go : (t u : Bool) → ltb (first n f) n ≡ t → f n ≡ u → (first n f < n → f (first n f) ≡ true)
+          → cond t (first n f) (cond u n (suc n)) < suc n → f (cond t (first n f) (cond u n (suc n))) ≡ true
+      go true u et eu r h = r (ltb-true (first n f) n et)
+      go false true et eu r h = eu
+      go false false et eu r h = absurd (omega arith)

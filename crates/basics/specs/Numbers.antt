@@ -16,6 +16,10 @@ u16At s at = getD s at 0 + getD s (at + 1) 0 * 256
 unfoldable pub u32At : List ℕ → ℕ → ℕ
 u32At s at = getD s at 0 + getD s (at + 1) 0 * 256 + getD s (at + 2) 0 * 65536 + getD s (at + 3) 0 * 16777216
 
+-- the number of 64 bits at a position
+abbrev pub u64At : List ℕ → ℕ → ℕ
+u64At s at = u32At s at + u32At s (at + 4) * 4294967296
+
 -- the two bytes of a number of 16 bits
 abbrev pub le16 : ℕ → List ℕ
 le16 x = x % 256 ∷ x / 256 % 256 ∷ []

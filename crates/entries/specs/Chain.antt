@@ -1,0 +1,39 @@
+-- How equal entries are found: each entry leads to the last one before it that has the same hash. No promise rests on the hash.
+use Prim.Native.Nat.{ℕ, zero, suc, _+_, _-_, _*_, _/_, _%_, _^_, _<_}
+use mathlib.Core.Path.{_≡_}
+use mathlib.Core.Bool.{cond}
+use mathlib.Core.List.{List}
+use lib.ListN.{getD}
+use lib.Bits.{bitOr, bitXor}
+use lib.Dec.{eqb}
+use Rattle.basics.specs.Numbers.{u64At}
+use Rattle.entries.specs.Entry.{entryAt, isEmpty}
+
+-- a number of 64 bits turned by k bits
+abbrev pub turned : ℕ → ℕ → ℕ
+turned k x = bitOr ((x * 2 ^ k) % 2 ^ 64) (x / 2 ^ (64 - k))
+
+-- four numbers in one, each turned by bits of its own
+unfoldable pub folded : ℕ → ℕ → ℕ → ℕ → ℕ
+folded a b c d = bitXor (bitXor (bitXor a (turned 44 b)) (turned 45 c)) (turned 16 d)
+
+-- a number of 64 bits spread over 1024
+unfoldable pub spread : ℕ → ℕ
+spread x = (x % 4294967296 * 1883130339 + x / 4294967296 * 1207823575) / 16777216 % 1024
+
+-- the chain of an entry, of which there are 1024, and one more for the empty ones
+unfoldable pub hashOf : List ℕ → ℕ
+hashOf e = cond (isEmpty e) 1024 (spread (folded (u64At e 0) (u64At e 8) (u64At e 16) (u64At e 24)))
+
+-- the last entry below i with the hash h, counted from 1; 0 for none
+unfoldable pub lastOf : List ℕ → ℕ → ℕ → ℕ
+lastOf list h zero = 0
+lastOf list h (suc i) = cond (eqb (hashOf (entryAt list i)) h) (suc i) (lastOf list h i)
+
+-- head holds, for each hash, the last entry below i
+abbrev pub HeadRight : List ℕ → List ℕ → ℕ → Type 0
+HeadRight list head i = (h : ℕ) → h < 1025 → getD head h 0 ≡ lastOf list h i
+
+-- next holds, for each entry below i, the one before it in its chain
+abbrev pub NextRight : List ℕ → List ℕ → ℕ → Type 0
+NextRight list next i = (j : ℕ) → j < i → getD next j 0 ≡ lastOf list (hashOf (entryAt list j)) j

@@ -1,0 +1,118 @@
+-- Laws of the search: how it goes by entries and bytes, and what it finds in a list whose names are distinct.
+use Prim.Native.Nat.{ℕ, zero, suc, _+_, _*_, _/_, _≤_, _<_}
+use mathlib.Core.Path.{_≡_, refl, sym, ap, _∙_}
+use mathlib.Core.Bool.{Bool, true, false, _||_, cond, or-true}
+use mathlib.Core.Logic.{⊎-elim}
+use mathlib.Core.List.{List}
+use native.Mathlib.Nat.{le-of-eq}
+use native.Mathlib.Numerals.{add-one}
+use native.Mathlib.Omega.{arith}
+use lib.Dec.{eqb, ltb}
+use lib.ListN.{length, getD}
+use borrow.Author.Tests.{eq-eqb, ne-eqb, lt-ltb, le-ltb, ltb-true}
+use Rattle.basics.specs.Scan.{all, first}
+use Rattle.basics.proofs.Order.{lt-or-ge}
+use Rattle.basics.proofs.Scan.{all-none, all-more, all-fails, all-done, first-none, first-more, first-at, first-is}
+use Rattle.basics.proofs.Truth.{false-of, clash}
+use Rattle.entries.specs.Entry.{count, entryAt, sameByte, same, isEmpty, distinct}
+use Rattle.entries.proofs.Entries.{entry-byte, entry-length, equal-same, same-bytes, same-of, distinct-one}
+use Rattle.names.specs.declared.Lookup.{Lookup}
+use Rattle.names.specs.Rule.{namesRight}
+use Rattle.names.specs.Search.{isName, noName, notFound, foundAt, lookup}
+use Rattle.names.proofs.Rules.{right-means}
+
+module _ (names name : List ℕ) where
+  pub name-empty : (b : ℕ) → b ≡ getD name 0 0 → b ≡ 0 → notFound ≡ lookup names name
+  unfolding lookup noName
+  name-empty b e z = sym (rw (eq-eqb (getD name 0 0) 0 (sym e ∙ z)))
+
+  pub name-long : 32 < length name → notFound ≡ lookup names name
+  unfolding lookup noName
+  name-long h = sym (rw (lt-ltb 32 (length name) h, or-true (isEmpty name)))
+
+  -- none of the entries before i is the name
+  abbrev pub NoneBefore : ℕ → Type 0
+  NoneBefore i = first i (isName names name) ≡ i
+
+  -- the bytes before j of entry i are the name's
+  abbrev pub SameBefore : ℕ → ℕ → Type 0
+  SameBefore i j = all j (sameByte (entryAt names i) name) ≡ true
+
+  pub none-start : NoneBefore 0
+  none-start = first-none (isName names name)
+
+  pub same-start : (i : ℕ) → SameBefore i 0
+  same-start i = all-none (sameByte (entryAt names i) name)
+
+  pub same-more : (i j y : ℕ) → i < count names → j < 32 → SameBefore i j → y ≡ getD name j 0 → getD names (i * 32 + j) 0 ≡ y → SameBefore i (j + 1)
+  unfolding sameByte
+  same-more i j y h l s e q = all-more _ j s (eq-eqb _ _ (entry-byte names i h j l ∙ q ∙ e))
+
+  pub none-more : (i j y : ℕ) → i < count names → j < 32 → NoneBefore i → y ≡ getD name j 0 → (getD names (i * 32 + j) 0 ≡ y → ⊥) → NoneBefore (i + 1)
+  unfolding isName same sameByte
+  none-more i j y h l s e n =
+      first-more _ i s (all-fails _ 32 j l (ne-eqb _ _ (λ q. n (sym (entry-byte names i h j l) ∙ q ∙ sym e))))
+
+  module _ (b : ℕ) (e : b ≡ getD name 0 0) (z : b ≡ 0 → ⊥) (s : length name ≤ 32) where
+    named : noName name ≡ false
+    unfolding noName
+    named = rw (ne-eqb (getD name 0 0) 0 (λ q. z (e ∙ q)), le-ltb 32 (length name) s)
+
+    pub name-at : (i j : ℕ) → NoneBefore i → i < count names → SameBefore i j → j ≤ 32 → 32 ≤ j → foundAt i ≡ lookup names name
+    unfolding lookup isName same
+    name-at i j h l t u v =
+        let k : j ≡ 32 = omega arith in
+        let f : first (count names) (isName names name) ≡ i = first-at (isName names name) (count names) i l h (rw k at t) in
+        sym (rw (named, f, lt-ltb i (count names) l))
+
+    pub name-none : (i : ℕ) → NoneBefore i → i ≤ count names → count names ≤ i → notFound ≡ lookup names name
+    unfolding lookup
+    name-none i h l u =
+        let k : i ≡ count names = omega arith in
+        let f : first (count names) (isName names name) ≡ count names = rw k at h in
+        sym (rw (named, f, le-ltb (count names) (count names) (omega arith)))
+
+pub ruleset find-laws = (name-empty, name-long, none-start, same-start, none-more, name-at, name-none)
+
+-- what is found is an entry that equals the name
+module _ (names name : List ℕ) where
+  pub lookup-found : lookup names name .found ≡ true
+      → (lookup names name .bit < count names) × (same (entryAt names (lookup names name .bit)) name ≡ true)
+  unfolding lookup isName
+  lookup-found h = go (noName name) (ltb (first (count names) (isName names name)) (count names)) refl h
+    where
+      go : (t u : Bool) → ltb (first (count names) (isName names name)) (count names) ≡ u
+          → cond t notFound (cond u (foundAt (first (count names) (isName names name))) notFound) .found ≡ true
+          → (cond t notFound (cond u (foundAt (first (count names) (isName names name))) notFound) .bit < count names) × (same (entryAt names (cond t notFound (cond u (foundAt (first (count names) (isName names name))) notFound) .bit)) name ≡ true)
+      go true u e h = absurd (clash h refl)
+      go false false e h = absurd (clash h refl)
+      go false true e h = (ltb-true _ _ e, first-is (isName names name) (count names) (ltb-true _ _ e))
+
+  -- in a right list it is the only one: a name that equals entry i is found there
+  pub lookup-one : namesRight names ≡ true → noName name ≡ false → (i : ℕ) → i < count names → same (entryAt names i) name ≡ true → lookup names name ≡ foundAt i
+  unfolding lookup isName noName
+  lookup-one right n i h s =
+      let f : first (count names) (isName names name) ≡ i = first-at (isName names name) (count names) i h (before i (omega arith)) s in
+      rw (n, f, lt-ltb i (count names) h)
+    where
+      alone : (k : ℕ) → k < i → same (entryAt names k) name ≡ false
+      alone k l =
+          false-of (same (entryAt names k) name)
+          (λ e. let z : i ≡ k =
+          distinct-one names (right-means names right .apart) i k h (omega arith) (ap (λ (x : ℕ). eqb x 0) (same-bytes (entryAt names i) name 0 s (omega arith)) ∙ some) (same-of (entryAt names i) (entryAt names k) (λ j u. same-bytes (entryAt names i) name j s u ∙ sym (same-bytes (entryAt names k) name j e u))) in
+          omega arith)
+        where
+          some : isEmpty name ≡ false
+          some = false-of (isEmpty name) (λ e. clash (rw e) n)
+
+      before : (k : ℕ) → k ≤ i → first k (isName names name) ≡ k
+      before zero l = first-none (isName names name)
+      before (suc k) l =
+          ap (λ (x : ℕ). first x (isName names name)) (sym (add-one k)) ∙ first-more (isName names name) k (before k (omega arith)) (alone k (omega arith)) ∙ add-one k
+
+-- an entry's own name, with any of the NULs that follow it or none, is found at that entry
+pub lookup-own : (names : List ℕ) → namesRight names ≡ true → (i : ℕ) → i < count names → isEmpty (entryAt names i) ≡ false → lookup names (entryAt names i) ≡ foundAt i
+unfolding noName
+lookup-own names right i h e =
+    lookup-one names (entryAt names i) right
+    (rw (e, le-ltb 32 (length (entryAt names i)) (le-of-eq (entry-length names i h)))) i h (equal-same (entryAt names i) (entryAt names i) refl)

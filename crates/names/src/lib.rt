@@ -1,0 +1,56 @@
+// Lists of names, 32 bytes an entry: their rule, and the search for a name.
+pub mod rule;
+
+pub use entries::count;
+pub use entries::entry;
+pub use rule::names_right;
+ghost use mathlib.Core.Path.{_≡_};
+ghost use lib.ListN.{getD};
+ghost use Rattle.names.specs.Search.{lookup};
+
+// What a search found: whether there is such an entry, and which bit it names (0 where there is none).
+pub struct Lookup {
+    pub found: bool,
+    pub bit: usize,
+}
+
+// The byte at a place, 0 past the end.
+fn byte_at(s: &[u8], at: usize) -> u8
+    ensures { λ r. ⌜ r ≡ getD (now (s .entry)) at 0 ⌝ }
+{
+    if at < s.len() { s[at] } else { 0 }
+}
+
+// The entry that equals the name, which may end in NULs. The search passes to the next entry at the first byte that differs.
+pub fn find_name(names: &[u8], name: &[u8]) -> Lookup
+    ensures { λ r. ⌜ r ≡ lookup (now (names .entry)) (now (name .entry)) ⌝ }
+{
+    if byte_at(name, 0) == 0 {
+        return Lookup {
+            found: false,
+            bit: 0,
+        };
+    }
+    if 32 < name.len() {
+        return Lookup {
+            found: false,
+            bit: 0,
+        };
+    }
+    let n = names.len() / 32;
+    'entries: for i in 0..n {
+        for j in 0..32 {
+            if names[i * 32 + j] != byte_at(name, j) {
+                continue 'entries;
+            }
+        }
+        return Lookup {
+            found: true,
+            bit: i,
+        };
+    }
+    Lookup {
+        found: false,
+        bit: 0,
+    }
+}
