@@ -1,5 +1,5 @@
 use native.Mathlib.Omega.{arith}
-use Rattle.netlink_write.proofs.attributes.Laws.{identity-plain, identity-named}
+use Rattle.netlink_write.proofs.attributes.Laws.{nul-le, identity-plain, identity-named}
 use borrow.Author.Needs.{needs}
 use Rattle.netlink_write.proofs.attributes.put_identity.Statement.{statement}
 use Rattle.netlink_write.proofs.attributes.put_identity.Tie as tie
@@ -31,7 +31,7 @@ put-name-requires : tie.Need-put-name-requires
 put-name-requires c κs = search needs
 
 add-result : tie.Need-add-result
-add-result c = search needs
+add-result c = omega (arith, nul-le (c .before .before .before .before .before .before .before .before .before .before .before .before .args .name .now))
 
 same-length-2 : tie.Need-same-length-2
 same-length-2 c = search needs
