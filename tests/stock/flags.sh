@@ -15,7 +15,13 @@ vlan-filter: on
 storm-guard: on
 isolate    : on" --show-priv-flags quay1
 
+# A later word for the same flag wins.
 expect 0 "" --set-priv-flags quay1 lldp on lldp off
+expect 0 "Private flags for quay1:
+vlan-filter: on
+storm-guard: on
+isolate    : on" --show-priv-flags quay1
+
 expect 0 "" --set-priv-flags quay1 0x11/0x1b
 expect 0 "Private flags for quay1:
 lldp       : on
