@@ -4,6 +4,8 @@
  * Standard input is a run of datagrams, each after its length as a 32-bit little-endian number. Standard output
  * gets the answers likewise, one for each message that is answered with any byte. Settings live as long as the
  * program does. Standard error tells of every refusal, by its number in ethnl.h.
+ *
+ *     cc -std=c11 -o daemon daemon.c box.c $(pkg-config --cflags --libs ethnl)
  */
 #include "box.h"
 
