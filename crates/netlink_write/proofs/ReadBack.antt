@@ -5,13 +5,13 @@ use mathlib.Core.List.{List, [], _∷_, _++_, append-assoc}
 use mathlib.Core.Bool.{true}
 use native.Mathlib.Omega.{arith}
 use borrow.Author.Tests.{eq-eqb, le-leb}
-use lib.ListN.{length, take, drop, length-append}
+use lib.ListN.{length, take, length-append}
 use lib.Seq.{take-at, drop-at}
-use Rattle.basics.specs.Numbers.{byteAt, u16At, u32At, le16, le32}
+use Rattle.basics.specs.Numbers.{byteAt, u16At, u32At}
 use Rattle.basics.proofs.Numbers.{digits16, digits32, byte-past, u16-past, u32-past}
 use Rattle.netlink.specs.Lengths.{roundUp4}
 use Rattle.netlink.specs.Headers.{messageHeaderAt, genericHeaderAt}
-use Rattle.netlink.specs.Attributes.{attributeAt, partOf, Attributes, onRead, attributes}
+use Rattle.netlink.specs.Attributes.{attributeAt, partOf, onRead, attributes}
 use Rattle.netlink.specs.Attributes.Attributes.{done, attribute}
 use Rattle.netlink.specs.Policy.{nulAt, isName}
 use Rattle.netlink.specs.declared.headers.MessageHeader.{MessageHeader}
@@ -19,13 +19,13 @@ use Rattle.netlink.specs.declared.headers.MessageHeaderRead.the-variants as M
 use Rattle.netlink.specs.declared.headers.GenericHeader.{GenericHeader}
 use Rattle.netlink.specs.declared.headers.GenericHeaderRead.the-variants as G
 use Rattle.netlink.specs.declared.attributes.AttributeRead.{AttributeRead}
-use Rattle.netlink.specs.declared.attributes.AttributeRead.the-variants.{Attribute, End}
+use Rattle.netlink.specs.declared.attributes.AttributeRead.the-variants.{Attribute}
 use Rattle.netlink.proofs.headers.Laws.{message-whole, generic-whole}
 use Rattle.netlink.proofs.attributes.Laws.{attribute-end, attribute-here, attributes-step, part-in}
 use Rattle.netlink_write.specs.Headers.{messageHeaderBytes, genericHeaderBytes, attributeHeaderBytes}
 use Rattle.netlink_write.specs.Attributes.{padding, attr, nest, nameBytes}
-use Rattle.netlink_write.proofs.headers.Laws.{length-message-header, length-generic-header, length-attribute-header}
-use Rattle.netlink_write.proofs.attributes.Laws.{length-attr, length-nest, nul-le, length-name}
+use Rattle.netlink_write.proofs.headers.Laws.{length-attribute-header}
+use Rattle.netlink_write.proofs.attributes.Laws.{length-attr, length-nest, length-name}
 
 module _ (pre post : List ℕ) where
   -- headers whose fields fit

@@ -24,7 +24,7 @@ flagsOf (MissTop kind) = 768
 flagsOf (MissIn kind nest) = 768
 
 -- minus a number, as 32 bits
-abbrev pub negative : ℕ → ℕ
+unfoldable pub negative : ℕ → ℕ
 negative errno = (4294967296 - errno) % 4294967296
 
 -- type 2, sequence and port id as in the request

@@ -7,12 +7,16 @@ ghost use Rattle.basics.specs.Numbers.{le32};
 ghost use Rattle.basics.specs.Put.{put};
 ghost use Rattle.netlink_write.specs.Page.{Wrote};
 ghost use Rattle.netlink_write.specs.Headers.{attributeHeaderBytes};
-ghost use Rattle.netlink_write.specs.Attributes.{attr, filled, nest, nameBytes, identity, numbered};
+ghost use Rattle.netlink_write.specs.Attributes.{attr, filled, nameBytes, identity, numbered};
 use crate::bytes::put_filled;
 use crate::headers::put_attribute_header;
 use crate::numbers::put_low;
+use netlink::headers::AttributeHeader;
 use netlink::lengths::Stated;
 use netlink::policy::nul_at;
+
+// The type bit that marks a nest.
+const NEST: u16 = 0x8000;
 
 // An attribute.
 pub fn put_attribute(page: &mut [u8], kind: u16, payload: &[u8]) -> usize
@@ -20,7 +24,7 @@ pub fn put_attribute(page: &mut [u8], kind: u16, payload: &[u8]) -> usize
     ensures { λ r. ⌜ Wrote (attr kind (now (payload .entry))) (now (page .entry)) (now (page .exit)) r ⌝ }
     ensures { λ r. ⌜ r ≤ length (now (payload .entry)) + 7 ⌝ }
 {
-    put_stated(page, kind, payload, payload.len() + 4)
+    put_stated(page, kind, payload, payload.len() + AttributeHeader::SIZE)
 }
 
 // A name: its bytes before the first NUL, and one NUL.
@@ -30,6 +34,7 @@ pub fn put_name(page: &mut [u8], kind: u16, name: &[u8]) -> usize
     ensures { λ r. ⌜ r ≤ length (now (name .entry)) + 8 ⌝ }
 {
     let n = nul_at(name);
+    // four bytes of header, and the NUL
     put_stated(page, kind, &name[..n], n + 5)
 }
 
@@ -41,7 +46,11 @@ fn put_stated(page: &mut [u8], kind: u16, payload: &[u8], stated: usize) -> usiz
 {
     let step = Stated(stated as u32).step();
     let next = step.0;
-    put_filled(&mut page[4..], payload, next - 4);
+    put_filled(
+        &mut page[AttributeHeader::SIZE..],
+        payload,
+        next - AttributeHeader::SIZE,
+    );
     put_attribute_header(page, stated as u16, kind);
     next
 }
@@ -52,8 +61,7 @@ pub fn put_flag(page: &mut [u8], kind: u16) -> usize
     ensures { λ r. ⌜ Wrote (attr kind []) (now (page .entry)) (now (page .exit)) r ⌝ }
     ensures { λ r. ⌜ r ≡ 4 ⌝ }
 {
-    put_attribute_header(page, 4, kind);
-    4
+    close_attribute(page, kind, 0)
 }
 
 // A number of 32 bits.
@@ -71,7 +79,7 @@ pub fn put_low_number(page: &mut [u8], kind: u16, x: usize) -> usize
     ensures { λ r. ⌜ Wrote (attr kind (le32 x)) (now (page .entry)) (now (page .exit)) r ⌝ }
     ensures { λ r. ⌜ r ≡ 8 ⌝ }
 {
-    put_low(&mut page[4..], x);
+    put_low(&mut page[AttributeHeader::SIZE..], x);
     close_attribute(page, kind, 4)
 }
 
@@ -81,7 +89,7 @@ pub fn close_attribute(page: &mut [u8], kind: u16, payload: usize) -> usize
     ensures { λ r. ⌜ r ≡ payload + 4 ⌝ }
     ensures { λ _. ⌜ now (page .exit) ≡ put (now (page .entry)) (attributeHeaderBytes (payload + 4) kind) ⌝ }
 {
-    let stated = payload + 4;
+    let stated = payload + AttributeHeader::SIZE;
     put_attribute_header(page, stated as u16, kind);
     stated
 }
@@ -92,7 +100,7 @@ pub fn close_nest(page: &mut [u8], kind: u16, contents: usize) -> usize
     ensures { λ r. ⌜ r ≡ contents + 4 ⌝ }
     ensures { λ _. ⌜ now (page .exit) ≡ put (now (page .entry)) (attributeHeaderBytes (contents + 4) (kind + 32768)) ⌝ }
 {
-    close_attribute(page, kind + 0x8000, contents)
+    close_attribute(page, kind + NEST, contents)
 }
 
 // A nest that identifies a thing by its number and, where it has one, its name.
@@ -101,7 +109,7 @@ pub fn put_numbered(page: &mut [u8], kind: u16, number: u32, name: &[u8]) -> usi
     ensures { λ r. ⌜ Wrote (numbered kind number (now (name .entry))) (now (page .entry)) (now (page .exit)) r ⌝ }
     ensures { λ r. ⌜ r ≤ length (now (name .entry)) + 20 ⌝ }
 {
-    let contents = put_identity(&mut page[4..], number, name);
+    let contents = put_identity(&mut page[AttributeHeader::SIZE..], number, name);
     close_nest(page, kind, contents)
 }
 

@@ -26,6 +26,11 @@ const MISS_TYPE: u16 = 5;
 
 const MISS_NEST: u16 = 6;
 
+// Where the request's header stands in an error message, and where the detail.
+const ECHO: usize = 20;
+
+const DETAIL: usize = 36;
+
 // What an error message tells beside its number.
 pub enum Detail {
     Nothing,
@@ -43,8 +48,8 @@ pub fn put_error(page: &mut [u8], request: &[u8], errno: u32, detail: Detail) ->
     ensures { λ r. ⌜ Wrote (errorMessage (now (request .entry)) errno detail) (now (page .entry)) (now (page .exit)) r ⌝ }
     ensures { λ r. ⌜ r ≤ 52 ⌝ }
 {
-    let n = put_detail(&mut page[36..], detail);
-    let total = n + 36;
+    let n = put_detail(&mut page[DETAIL..], detail);
+    let total = n + DETAIL;
     put_start(page, request, errno, flags_of(detail), total as u32);
     total
 }
@@ -55,8 +60,8 @@ pub fn put_ack(page: &mut [u8], request: &[u8]) -> usize
     ensures { λ r. ⌜ Wrote (errorMessage (now (request .entry)) 0 Nothing) (now (page .entry)) (now (page .exit)) r ⌝ }
     ensures { λ r. ⌜ r ≡ 36 ⌝ }
 {
-    put_start(page, request, 0, CAPPED, 36);
-    36
+    put_start(page, request, 0, CAPPED, DETAIL as u32);
+    DETAIL
 }
 
 // The 36 bytes before the detail.
@@ -72,8 +77,8 @@ fn put_start(page: &mut [u8], request: &[u8], errno: u32, flags: u16, total: u32
         port: u32_at(request, 12),
     };
     put_message_header(page, header);
-    put_u32(&mut page[16..], negative(errno));
-    put_bytes(&mut page[20..], &request[..16]);
+    put_u32(&mut page[MessageHeader::SIZE..], negative(errno));
+    put_bytes(&mut page[ECHO..], &request[..MessageHeader::SIZE]);
 }
 
 fn put_detail(page: &mut [u8], detail: Detail) -> usize

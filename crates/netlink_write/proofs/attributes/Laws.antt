@@ -62,10 +62,10 @@ nest-wrote P ys zs cs kind n r room w er q =
     }
 
 -- a flag is its header
-pub flag-wrote : (P Q : List ℕ) (kind : ℕ) → Q ≡ put P (attributeHeaderBytes 4 kind) → Wrote (attr kind []) P Q 4
-flag-wrote P Q kind q =
+pub flag-wrote : (P Q : List ℕ) (kind r : ℕ) → r ≡ 4 → Q ≡ put P (attributeHeaderBytes 4 kind) → Wrote (attr kind []) P Q r
+flag-wrote P Q kind r e q =
     record {
-      count = sym (length-attr kind []);
+      count = e ∙ sym (length-attr kind []);
       page = q ∙ ap (put P) (sym (attr-whole kind [] refl ∙ append-nil (attributeHeaderBytes 4 kind)));
     }
 
@@ -140,8 +140,6 @@ module _ (name : List ℕ) (number n : ℕ) (e : n ≡ nulAt name) where
         count = omega (arith, a .count, b .count, length-append one two);
         page = then-rest P one two 8 (sym (a .count) ∙ ek) (omega (arith, a .count)) (a .page) (b .page);
       })
-
-pub ruleset identity-laws = (identity-plain, identity-named)
 
 -- the nest of it
 pub numbered-wrote : (P ys zs name : List ℕ) (kind number n r : ℕ) → length name + 20 ≤ length P → Wrote (identity number name) (take (length P - 4) (drop 4 P)) ys n

@@ -1,7 +1,7 @@
 -- Laws of the error message: one for the return of each writer.
 use Prim.Native.Nat.{ℕ, _+_, _-_, _≤_}
 use mathlib.Core.Path.{_≡_, refl, sym, ap, _∙_}
-use mathlib.Core.List.{List, [], _++_, append-assoc, append-nil}
+use mathlib.Core.List.{List, _++_, append-assoc, append-nil}
 use native.Mathlib.Omega.{arith}
 use borrow.Rule.Slice.PartMut.{putMid}
 use lib.ListN.{length, take, drop, length-append}
@@ -62,8 +62,6 @@ module _ (d : Detail) (P : List ℕ) where
         count = omega (arith, q .count, w .count, length-append one two);
         page = then-rest P one two 8 (sym (q .count) ∙ ek) (omega (arith, q .count)) (q .page) (w .page);
       })
-
-pub ruleset detail-laws = (detail-none, detail-offset, detail-top, detail-in)
 
 pub length-start : (request : List ℕ) (errno flags total : ℕ) → 16 ≤ length request → length (errorStart request errno flags total) ≡ 36
 unfolding errorStart

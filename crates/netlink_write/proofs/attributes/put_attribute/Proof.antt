@@ -1,10 +1,11 @@
+use native.Mathlib.Omega.{arith}
 use Rattle.netlink_write.proofs.attributes.Laws.{attribute-filled}
 use borrow.Author.Needs.{needs}
 use Rattle.netlink_write.proofs.attributes.put_attribute.Statement.{statement}
 use Rattle.netlink_write.proofs.attributes.put_attribute.Tie as tie
 
 add-put-stated : tie.Need-add-put-stated
-add-put-stated c = search needs
+add-put-stated c = omega arith
 
 put-stated-requires : tie.Need-put-stated-requires
 put-stated-requires c κs = search needs

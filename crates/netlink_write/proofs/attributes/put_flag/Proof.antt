@@ -3,8 +3,8 @@ use borrow.Author.Needs.{needs}
 use Rattle.netlink_write.proofs.attributes.put_flag.Statement.{statement}
 use Rattle.netlink_write.proofs.attributes.put_flag.Tie as tie
 
-put-attribute-header-requires : tie.Need-put-attribute-header-requires
-put-attribute-header-requires c κs = search needs
+close-attribute-requires : tie.Need-close-attribute-requires
+close-attribute-requires c κs = search needs
 
 same-length : tie.Need-same-length
 same-length c = search needs
@@ -13,4 +13,4 @@ returns : tie.Need-returns
 returns c = search (needs, flag-wrote)
 
 pub put-flag-spec : {M : Type 1} → statement M
-put-flag-spec = tie.close (tie.spec put-attribute-header-requires same-length returns)
+put-flag-spec = tie.close (tie.spec close-attribute-requires same-length returns)

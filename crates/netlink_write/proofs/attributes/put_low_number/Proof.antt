@@ -22,7 +22,9 @@ same-length : tie.Need-same-length
 same-length c = search needs
 
 returns : tie.Need-returns
-returns c = search (needs, number-wrote)
+returns c =
+    let closed = c .before .before .close-attribute .ensures in
+    (number-wrote _ _ _ _ _ _ (c .before .before .before .before .before .before .before .before .before .pre) (c .before .before .before .before .before .before .put-low .ensures) (closed .0) (closed .1), closed .0)
 
 pub put-low-number-spec : {M : Type 1} → statement M
 put-low-number-spec =

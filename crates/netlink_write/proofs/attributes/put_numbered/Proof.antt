@@ -1,3 +1,4 @@
+use native.Mathlib.Omega.{arith}
 use Rattle.netlink_write.proofs.attributes.Laws.{numbered-wrote}
 use borrow.Author.Needs.{needs}
 use Rattle.netlink_write.proofs.attributes.put_numbered.Statement.{statement}
@@ -22,7 +23,11 @@ same-length : tie.Need-same-length
 same-length c = search needs
 
 returns : tie.Need-returns
-returns c = search (needs, numbered-wrote)
+returns c =
+    let contents = c .before .before .before .before .before .before .put-identity .ensures in
+    let nest = c .before .before .close-nest .ensures in
+    let start = c .before .before .before .before .before .before .before .before .before .before in
+    (numbered-wrote _ _ _ _ _ _ _ _ (start .pre .2) (contents .0) (nest .0) (nest .1), omega (arith, contents .1, nest .0))
 
 pub put-numbered-spec : {M : Type 1} → statement M
 put-numbered-spec =

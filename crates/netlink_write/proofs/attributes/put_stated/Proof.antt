@@ -1,3 +1,4 @@
+use native.Mathlib.Omega.{arith}
 use Rattle.netlink_write.proofs.attributes.Laws.{filled-wrote}
 use borrow.Author.Needs.{needs}
 use Rattle.netlink_write.proofs.attributes.put_stated.Statement.{statement}
@@ -34,7 +35,10 @@ same-length : tie.Need-same-length
 same-length c = search needs
 
 returns : tie.Need-returns
-returns c = search (needs, filled-wrote)
+returns c =
+    let start = c .before .before .before .before .before .before .before .before .before .before .before in
+    let step = c .before .before .before .before .before .before .before .before .step .ensures in
+    (filled-wrote _ _ _ _ _ _ _ (start .pre .2) (start .pre .0) step (c .before .before .before .before .before .before .put-filled .ensures) (c .before .before .put-attribute-header .ensures), omega (arith, step))
 
 pub put-stated-spec : {M : Type 1} → statement M
 put-stated-spec =

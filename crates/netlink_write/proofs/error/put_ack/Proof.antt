@@ -3,6 +3,9 @@ use borrow.Author.Needs.{needs}
 use Rattle.netlink_write.proofs.error.put_ack.Statement.{statement}
 use Rattle.netlink_write.proofs.error.put_ack.Tie as tie
 
+cast-put-start : tie.Need-cast-put-start
+cast-put-start c = search needs
+
 put-start-requires : tie.Need-put-start-requires
 put-start-requires c κs = search needs
 
@@ -13,4 +16,4 @@ returns : tie.Need-returns
 returns c = search (needs, ack-wrote)
 
 pub put-ack-spec : {M : Type 1} → statement M
-put-ack-spec = tie.close (tie.spec put-start-requires same-length returns)
+put-ack-spec = tie.close (tie.spec cast-put-start put-start-requires same-length returns)

@@ -1,4 +1,5 @@
-use Rattle.netlink_write.proofs.error.Laws.{detail-laws}
+use native.Mathlib.Omega.{arith}
+use Rattle.netlink_write.proofs.error.Laws.{detail-none, detail-offset, detail-top, detail-in}
 use borrow.Author.Needs.{needs}
 use Rattle.netlink_write.proofs.error.put_detail.Statement.{statement}
 use Rattle.netlink_write.proofs.error.put_detail.Tie as tie
@@ -40,25 +41,32 @@ add-result : tie.Need-add-result
 add-result c = search needs
 
 returns : tie.Need-returns
-returns c = search (needs, detail-laws)
+returns c = search (needs, detail-none)
 
 same-length : tie.Need-same-length
 same-length c = search needs
 
 returns-2 : tie.Need-returns-2
-returns-2 c = search (needs, detail-laws)
+returns-2 c =
+    let w = c .before .before .put-low-number .ensures in
+    (detail-offset _ _ _ _ _ (c .before .before .before .before .before .detail .given .1) (w .0), omega (arith, w .1))
 
 same-length-2 : tie.Need-same-length-2
 same-length-2 c = search needs
 
 returns-3 : tie.Need-returns-3
-returns-3 c = search (needs, detail-laws)
+returns-3 c =
+    let w = c .before .before .put-low-number2 .ensures in
+    (detail-top _ _ _ _ _ (c .before .before .before .before .before .detail2 .given .1) (w .0), omega (arith, w .1))
 
 same-length-3 : tie.Need-same-length-3
 same-length-3 c = search needs
 
 returns-4 : tie.Need-returns-4
-returns-4 c = search (needs, detail-laws)
+returns-4 c =
+    let one = c .before .before .before .before .before .before .put-low-number3 .ensures in
+    let two = c .before .before .put-low-number4 .ensures in
+    (detail-in _ _ _ _ _ _ _ _ (c .before .before .before .before .before .before .before .before .before .detail3 .given .1) (c .before .before .before .before .before .before .before .before .before .before .before .before .pre) (one .1) (one .0) (two .0), omega (arith, two .1))
 
 pub put-detail-spec : {M : Type 1} → statement M
 put-detail-spec =

@@ -1,3 +1,4 @@
+use native.Mathlib.Omega.{arith}
 use Rattle.netlink_write.proofs.error.Laws.{error-wrote}
 use borrow.Author.Needs.{needs}
 use Rattle.netlink_write.proofs.error.put_error.Statement.{statement}
@@ -31,7 +32,10 @@ same-length : tie.Need-same-length
 same-length c = search needs
 
 returns : tie.Need-returns
-returns c = search (needs, error-wrote)
+returns c =
+    let start = c .before .before .before .before .before .before .before .before .before .before .before in
+    let detail = c .before .before .before .before .before .before .before .put-detail .ensures in
+    (error-wrote _ _ _ _ _ _ _ _ (start .pre .0) (start .pre .1) (c .before .before .before .flags-of .ensures) (detail .0) (c .before .before .put-start .ensures), omega (arith, detail .1))
 
 pub put-error-spec : {M : Type 1} → statement M
 put-error-spec =

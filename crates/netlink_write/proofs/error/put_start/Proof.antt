@@ -48,7 +48,9 @@ same-length : tie.Need-same-length
 same-length c = search needs
 
 returns : tie.Need-returns
-returns c = search (needs, start-put)
+returns c =
+    let start = c .before .before .before .before .before .before .before .before .before .before .before .before .before .before .before .before .before .before in
+    start-put _ _ _ _ _ _ _ _ _ _ _ (start .pre .0) (start .pre .1) (c .before .before .before .before .before .before .before .before .before .before .before .before .before .before .before .u32-at .ensures) (c .before .before .before .before .before .before .before .before .before .before .before .before .before .before .u32-at2 .ensures) (c .before .before .before .before .before .before .before .before .negative .ensures) (c .before .before .before .before .before .before .before .before .before .before .before .before .put-message-header .ensures) (c .before .before .before .before .before .before .before .put-u32 .ensures) (c .before .before .put-bytes .ensures)
 
 pub put-start-spec : {M : Type 1} → statement M
 put-start-spec =

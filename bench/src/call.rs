@@ -1,0 +1,98 @@
+//! One call that is measured, made by the library or by the reader on the same buffers.
+
+use crate::lent::Lent;
+use crate::library;
+use crate::requests::{self, PRIVFLAGS_GET, PRIVFLAGS_SET};
+use std::hint::black_box;
+
+#[derive(Clone, Copy, PartialEq, Eq)]
+pub enum Made {
+    Library,
+    Reader,
+}
+
+enum Input {
+    Message(Vec<u8>),
+    /// A position at the datagram's end: the answer comes right after the box check.
+    End,
+    Contents(Vec<u8>),
+}
+
+pub struct Call {
+    pub name: String,
+    pub lent: Lent,
+    input: Input,
+    pub page: Vec<u8>,
+}
+
+impl Call {
+    fn new(name: &str, ports: usize, bits: usize, input: Input) -> Self {
+        Call { name: name.to_string(), lent: Lent::new(ports, bits), input, page: vec![0; 32_768] }
+    }
+
+    pub fn box_check(ports: usize, bits: usize) -> Self {
+        Self::new("box check alone", ports, bits, Input::End)
+    }
+
+    pub fn compact_set(ports: usize, bits: usize) -> Self {
+        let message = requests::request(PRIVFLAGS_SET, ports - 1, false, Some(&requests::compact(bits)));
+        Self::new("compact SET", ports, bits, Input::Message(message))
+    }
+
+    pub fn list_set(entries: usize, ports: usize, bits: usize) -> Self {
+        let message = requests::request(PRIVFLAGS_SET, ports - 1, false, Some(&requests::list(entries, bits)));
+        Self::new(&format!("SET by {entries} names"), ports, bits, Input::Message(message))
+    }
+
+    pub fn compact_get(ports: usize, bits: usize) -> Self {
+        let message = requests::request(PRIVFLAGS_GET, ports - 1, true, None);
+        Self::new("compact GET", ports, bits, Input::Message(message))
+    }
+
+    pub fn verbose_get(ports: usize, bits: usize) -> Self {
+        let message = requests::request(PRIVFLAGS_GET, ports - 1, false, None);
+        Self::new(&format!("verbose GET of {bits} bits"), ports, bits, Input::Message(message))
+    }
+
+    pub fn normalise(entries: usize, bits: usize) -> Self {
+        let name = format!("normalise {entries} names");
+        Self::new(&name, 1, bits, Input::Contents(requests::list(entries, bits)))
+    }
+
+    /// Bytes of the datagram or contents.
+    pub fn input_bytes(&self) -> usize {
+        match &self.input {
+            Input::Message(bytes) | Input::Contents(bytes) => bytes.len(),
+            Input::End => 0,
+        }
+    }
+
+    /// The kind that an answered message has, or the number of accepted contents.
+    pub fn expected(&self) -> u32 {
+        match &self.input {
+            Input::Message(_) => reader::DONE,
+            Input::End => reader::END,
+            Input::Contents(_) => 0,
+        }
+    }
+
+    /// Makes the call; the kind (or number) and the bytes written.
+    #[inline(never)]
+    pub fn make(&mut self, made: Made) -> (u32, u64) {
+        let Call { lent, input, page, .. } = self;
+        match (black_box(&*input), made) {
+            (Input::Contents(contents), Made::Library) => library::normalise(contents, &lent.flag_names, page),
+            (Input::Contents(contents), Made::Reader) => reader::normalise(contents, &lent.flag_names, page),
+            (Input::Message(datagram), Made::Library) => library::handle(lent, datagram, 0, page),
+            (Input::Message(datagram), Made::Reader) => read(lent, datagram, page),
+            (Input::End, Made::Library) => library::handle(lent, &[], 0, page),
+            (Input::End, Made::Reader) => read(lent, &[], page),
+        }
+    }
+}
+
+fn read(lent: &mut Lent, datagram: &[u8], page: &mut [u8]) -> (u32, u64) {
+    let Lent { roll, debug_names, flag_names, settings } = lent;
+    let answer = reader::handle(25, 1, roll, debug_names, flag_names, settings, datagram, 0, page);
+    (answer.kind, answer.written)
+}

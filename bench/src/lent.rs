@@ -1,0 +1,60 @@
+//! What is lent to a call: a box of so many ports and names.
+
+/// A right box, all of its bits named and on.
+pub struct Lent {
+    pub roll: Vec<u8>,
+    pub debug_names: Vec<u8>,
+    pub flag_names: Vec<u8>,
+    pub settings: Vec<u8>,
+}
+
+/// The name of a flag: names differ only near their ends, so that comparing them is not over at the first byte.
+pub fn flag_name(bit: usize) -> String {
+    format!("storm-guard-queue-{bit:03}")
+}
+
+/// The name of a port.
+pub fn port_name(port: usize) -> String {
+    format!("quay-port{}", port + 1)
+}
+
+fn list(bits: usize, name: impl Fn(usize) -> String) -> Vec<u8> {
+    let mut list = vec![0; 32 * bits];
+    for (bit, entry) in list.chunks_mut(32).enumerate() {
+        let name = name(bit);
+        entry[..name.len()].copy_from_slice(name.as_bytes());
+    }
+    list
+}
+
+fn record(port: usize) -> [u8; 21] {
+    let mut record = [0; 21];
+    let name = port_name(port);
+    record[0] = 1;
+    record[1..5].copy_from_slice(&(port as u32 + 1).to_le_bytes());
+    record[5..5 + name.len()].copy_from_slice(name.as_bytes());
+    record
+}
+
+/// The set of all bits below N, as the bytes of its words.
+fn full(bits: usize) -> Vec<u8> {
+    let words = (0..bits.div_ceil(32)).map(|at| u32::MAX >> (32 * (at + 1)).saturating_sub(bits));
+    words.flat_map(u32::to_le_bytes).collect()
+}
+
+impl Lent {
+    pub fn new(ports: usize, bits: usize) -> Self {
+        let of_port = full(bits).repeat(2);
+        Lent {
+            roll: (0..ports).flat_map(record).collect(),
+            debug_names: list(bits, |bit| format!("debug-level-{bit:03}")),
+            flag_names: list(bits, flag_name),
+            settings: of_port.repeat(ports),
+        }
+    }
+
+    /// Bytes that the box check has to look at.
+    pub fn bytes(&self) -> usize {
+        self.roll.len() + self.debug_names.len() + self.flag_names.len() + self.settings.len()
+    }
+}

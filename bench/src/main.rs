@@ -1,0 +1,69 @@
+//! `bench [RUNS]`: tables of the time per call, library and reader over the same inputs in the same run.
+
+mod call;
+mod lent;
+mod library;
+mod measure;
+mod requests;
+mod tables;
+
+use call::{Call, Made};
+use std::process::ExitCode;
+
+/// Fewer runs than this give no median worth the name.
+const LEAST_RUNS: usize = 7;
+
+fn main() -> ExitCode {
+    let runs = std::env::args().nth(1).and_then(|word| word.parse().ok()).unwrap_or(11);
+    if runs < LEAST_RUNS {
+        eprintln!("bench: at least {LEAST_RUNS} runs");
+        return ExitCode::from(2);
+    }
+    let (mut compared, mut growing) = (compared(), growing());
+    if let Some(name) = compared.iter_mut().chain(&mut growing).find_map(differs) {
+        eprintln!("bench: library and reader differ: {name}");
+        return ExitCode::FAILURE;
+    }
+    println!("Medians of {runs} runs, nanoseconds per call.\n");
+    tables::compared(&mut compared, runs);
+    tables::growth(&mut growing, runs);
+    ExitCode::SUCCESS
+}
+
+/// The calls that are compared, over a small box and over the largest.
+fn compared() -> Vec<Call> {
+    let over = |ports, bits| {
+        [
+            Call::compact_set(ports, bits),
+            Call::list_set(40, ports, bits),
+            Call::compact_get(ports, bits),
+            Call::verbose_get(ports, bits),
+            Call::normalise(512, bits),
+        ]
+    };
+    let checks = [(1, 40), (1, 512), (8, 512), (64, 512)].map(|(ports, bits)| Call::box_check(ports, bits));
+    over(1, 40).into_iter().chain(over(64, 512)).chain(checks).collect()
+}
+
+/// Calls over boxes with more and more names and ports, then with longer and longer datagrams.
+fn growing() -> Vec<Call> {
+    const BITS: [usize; 4] = [64, 128, 256, 512];
+    const PORTS: [usize; 5] = [1, 8, 16, 32, 64];
+    const ENTRIES: [usize; 5] = [1, 16, 64, 256, 512];
+    let by_names = BITS.map(|bits| Call::box_check(1, bits)).into_iter();
+    let by_names = by_names.chain(BITS.map(|bits| Call::list_set(40, 1, bits)));
+    let by_names = by_names.chain(BITS.map(|bits| Call::verbose_get(1, bits)));
+    let by_names = by_names.chain(BITS.map(|bits| Call::normalise(bits, bits)));
+    let by_ports = PORTS.map(|ports| Call::box_check(ports, 64)).into_iter();
+    let by_ports = by_ports.chain(PORTS.map(|ports| Call::compact_get(ports, 64)));
+    let by_length = ENTRIES.map(|entries| Call::list_set(entries, 1, 512));
+    by_names.chain(by_ports).chain(by_length).collect()
+}
+
+/// The call's name, unless both implementations answer it, and alike.
+fn differs(call: &mut Call) -> Option<String> {
+    let (library, page) = (call.make(Made::Library), call.page.clone());
+    let reader = call.make(Made::Reader);
+    let alike = library == reader && page == call.page && reader.0 == call.expected();
+    (!alike).then(|| call.name.clone())
+}

@@ -1,0 +1,56 @@
+//! Requests that leave a box with all its bits on as it is, so that they can be sent over and over.
+
+use crate::lent::{flag_name, port_name};
+
+pub const PRIVFLAGS_GET: u8 = 13;
+pub const PRIVFLAGS_SET: u8 = 14;
+
+const NESTED: u16 = 0x8000;
+
+fn attribute(kind: u16, payload: &[u8]) -> Vec<u8> {
+    let mut bytes = (payload.len() as u16 + 4).to_le_bytes().to_vec();
+    bytes.extend(kind.to_le_bytes());
+    bytes.extend(payload);
+    bytes.resize(bytes.len().next_multiple_of(4), 0);
+    bytes
+}
+
+fn number(kind: u16, value: u32) -> Vec<u8> {
+    attribute(kind, &value.to_le_bytes())
+}
+
+fn name(kind: u16, text: &str) -> Vec<u8> {
+    attribute(kind, &[text.as_bytes(), &[0]].concat())
+}
+
+/// A request about the flags of a port, by name and with an ACK, as the stock tool sends it.
+pub fn request(command: u8, port: usize, compact: bool, bitset: Option<&[u8]>) -> Vec<u8> {
+    let mut header = name(2, &port_name(port));
+    if compact {
+        header.extend(number(3, 1));
+    }
+    let mut body = vec![command, 1, 0, 0];
+    body.extend(attribute(1 | NESTED, &header));
+    if let Some(contents) = bitset {
+        body.extend(attribute(2 | NESTED, contents));
+    }
+    let mut message = (16 + body.len() as u32).to_le_bytes().to_vec();
+    message.extend(*b"\x19\0\x05\0\x07\0\0\0\x09\0\0\0");
+    message.extend(body);
+    message
+}
+
+/// Contents of a compact bitset that switches all bits on.
+pub fn compact(bits: usize) -> Vec<u8> {
+    let words: Vec<u8> = (0..bits.div_ceil(32)).flat_map(|_| u32::MAX.to_le_bytes()).collect();
+    [number(2, bits as u32), attribute(4, &words), attribute(5, &words)].concat()
+}
+
+/// Contents of a bit list that switches so many bits on by name, spread over all bits.
+pub fn list(entries: usize, bits: usize) -> Vec<u8> {
+    let entry = |at: usize| {
+        let bit = if entries <= bits { at * bits / entries } else { at % bits };
+        attribute(1 | NESTED, &[name(2, &flag_name(bit)), attribute(3, &[])].concat())
+    };
+    attribute(3 | NESTED, &(0..entries).flat_map(entry).collect::<Vec<u8>>())
+}

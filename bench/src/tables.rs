@@ -1,0 +1,48 @@
+//! The figures as tables in markdown.
+
+use crate::call::Call;
+use crate::measure::{measure, Times};
+
+fn row(call: &Call, times: &Times) -> String {
+    let ports = call.lent.roll.len() / 21;
+    let names = call.lent.flag_names.len() / 32;
+    let Times { library, reader, ratio } = times;
+    format!("| {} | {ports} | {names} | {} | {library:.0} | {reader:.0} | {ratio:.2} |", call.name, call.input_bytes())
+}
+
+/// Measures the calls and prints a row for each.
+fn table(calls: &mut [Call], runs: usize) -> Vec<Times> {
+    let times = measure(calls, runs);
+    println!("| call | ports | names a list | bytes of input | library | reader | ratio |");
+    println!("|---|---:|---:|---:|---:|---:|---:|");
+    for (call, times) in calls.iter().zip(&times) {
+        println!("{}", row(call, times));
+    }
+    println!();
+    times
+}
+
+/// Each call over a small and a large box; then the largest ratio, and what box checks cost per byte.
+pub fn compared(calls: &mut [Call], runs: usize) {
+    let times = table(calls, runs);
+    let largest = times.iter().map(|times| times.ratio).fold(0.0, f64::max);
+    println!("Largest ratio: {largest:.2}.");
+    per_byte(calls, &times);
+}
+
+/// What the largest box costs for each of its bytes, against the smallest.
+fn per_byte(calls: &[Call], times: &[Times]) {
+    let checks = calls.iter().zip(times).filter(|(call, _)| call.input_bytes() == 0);
+    let per_byte: Vec<f64> = checks.map(|(call, times)| times.library / call.lent.bytes() as f64).collect();
+    if let [smallest, .., largest] = per_byte[..] {
+        let ratio = largest / smallest;
+        print!("Box check of the library, nanoseconds per byte of box: ");
+        println!("smallest box {smallest:.3}, largest {largest:.3}, {ratio:.2} times.\n");
+    }
+}
+
+/// How the cost grows with names, ports and the datagram's length.
+pub fn growth(calls: &mut [Call], runs: usize) {
+    println!("How it grows with names, with ports, with the length of the datagram:\n");
+    table(calls, runs);
+}

@@ -1,0 +1,96 @@
+/*
+ * daemon BOXFILE: serves ethtool requests for the ports of a box.
+ *
+ * Standard input is a run of datagrams, each after its length as a 32-bit little-endian number. Standard output
+ * gets the answers likewise, one for each message that is answered with any byte. Settings live as long as the
+ * program does. Standard error tells of every refusal, by its number in ethnl.h.
+ *
+ *     cc -std=c11 -o daemon daemon.c box.c $(pkg-config --cflags --libs ethnl)
+ */
+#include "box.h"
+
+#include <stdio.h>
+#include <stdlib.h>
+
+static struct box box;
+static uint8_t datagram[ETHNL_DATAGRAM_MAX];
+static uint8_t page[ETHNL_PAGE_MIN];
+
+/* Reads the next datagram's length; 0 at the end of the input. */
+static int read_length(uint32_t *length)
+{
+    uint8_t bytes[4];
+    size_t got = fread(bytes, 1, sizeof bytes, stdin);
+
+    if (got == 0 && feof(stdin))
+        return 0;
+    if (got < sizeof bytes) {
+        fputs("daemon: input ends inside a length\n", stderr);
+        exit(1);
+    }
+    *length = (uint32_t)bytes[3] << 24 | (uint32_t)bytes[2] << 16 | (uint32_t)bytes[1] << 8 | bytes[0];
+    return 1;
+}
+
+static void read_datagram(uint32_t length)
+{
+    if (length > sizeof datagram) {
+        fprintf(stderr, "daemon: datagram of %lu bytes, at most %u\n", (unsigned long)length, ETHNL_DATAGRAM_MAX);
+        exit(1);
+    }
+    if (fread(datagram, 1, length, stdin) < length) {
+        fputs("daemon: input ends inside a datagram\n", stderr);
+        exit(1);
+    }
+}
+
+static void write_answer(uint64_t written)
+{
+    uint8_t length[4] = {(uint8_t)written, (uint8_t)(written >> 8), (uint8_t)(written >> 16),
+                         (uint8_t)(written >> 24)};
+
+    if (fwrite(length, 1, 4, stdout) < 4 || fwrite(page, 1, written, stdout) < written) {
+        perror("daemon: standard output");
+        exit(1);
+    }
+}
+
+/* Answers each message in turn, up to the end or a refusal that says nothing can follow. */
+static void serve(uint32_t length)
+{
+    struct answer answer;
+
+    for (uint64_t position = 0;; position = answer.next) {
+        answer = box_handle(&box, datagram, length, position, page);
+        if (answer.kind == ETHNL_REFUSED)
+            fprintf(stderr, "daemon: refusal %u at byte %llu of the datagram\n", answer.refusal,
+                    (unsigned long long)position);
+        if (answer.kind == ETHNL_END || (answer.kind == ETHNL_REFUSED && answer.refusal <= ETHNL_LAST_SILENT))
+            return;
+        if (answer.written > 0)
+            write_answer(answer.written);
+    }
+}
+
+int main(int argc, char **argv)
+{
+    uint32_t length;
+
+    if (argc != 2) {
+        fputs("usage: daemon BOXFILE <datagrams >answers\n", stderr);
+        return 2;
+    }
+    if (box_read(&box, argv[1]) != 0)
+        return 1;
+    /* An empty datagram is answered by its end, unless the box breaks a rule. */
+    if (box_handle(&box, datagram, 0, 0, page).kind != ETHNL_END) {
+        fprintf(stderr, "daemon: %s breaks a rule of ethnl.h\n", argv[1]);
+        return 1;
+    }
+    while (read_length(&length)) {
+        read_datagram(length);
+        serve(length);
+        fflush(stdout);
+    }
+    return 0;
+}

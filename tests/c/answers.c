@@ -1,0 +1,102 @@
+/* Document 01's whole reply, an ACK, and refusals of every sort, byte by byte. */
+#include "check.h"
+#include "program_box.h"
+
+static void whole_reply(void)
+{
+    static const uint8_t reply[] = {
+        0x44, 0, 0, 0, 0x19, 0, 0, 0, 7, 0, 0, 0, 9, 0, 0, 0, 0x0E, 1, 0, 0,
+        0x14, 0, 1, 0x80, 8, 0, 1, 0, 3, 0, 0, 0, 8, 0, 2, 0, 's', 'w', '0', 0,
+        0x1C, 0, 2, 0x80, 4, 0, 1, 0, 8, 0, 2, 0, 0x28, 0, 0, 0, 0x0C, 0, 4, 0, 1, 0, 0, 0, 2, 0, 0, 0};
+    struct message request;
+
+    fresh_box();
+    begin_request(&request, PRIVFLAGS_GET, REQUEST, 3, 1);
+    end_request(&request);
+    handle(&request);
+    check(kind == ETHNL_DONE && refusal == 0 && written == sizeof reply, "whole reply: done, 68 bytes");
+    check(memcmp(page, reply, sizeof reply) == 0, "whole reply: the stated bytes");
+    check(page[sizeof reply] == 0xAA && page[sizeof page - 1] == 0xAA, "whole reply: the page past it stays");
+    handle_at(request.bytes, request.length, next, 1, sizeof page);
+    check(kind == ETHNL_END && written == 0 && next == request.length, "then the end");
+}
+
+/* An ACK or error message: errno, the quoted header, an OFFS detail or none. */
+static int is_error(const struct message *request, int32_t errno_value, uint32_t offset)
+{
+    struct message error = {.length = 0};
+
+    put_u32(&error, offset != 0 ? 44 : 36);
+    put_u16(&error, 2);
+    put_u16(&error, offset != 0 ? 0x300 : 0x100);
+    put(&error, request->bytes + 8, 8);
+    put_u32(&error, (uint32_t)-errno_value);
+    put(&error, request->bytes, 16);
+    if (offset != 0)
+        number(&error, 2, offset);
+    return written == error.length && memcmp(page, error.bytes, error.length) == 0;
+}
+
+static void refusals_that_write_nothing(void)
+{
+    struct message request;
+
+    fresh_box();
+    begin_request(&request, PRIVFLAGS_GET, REQUEST | ACK, 3, 0);
+    end_request(&request);
+    handle_at(request.bytes, request.length, 0, 2, sizeof page);
+    check(kind == ETHNL_REFUSED && refusal == 1 && written == 0 && next == 0, "refusal 1: admin 2");
+    handle_at(request.bytes, request.length, 0, 1, sizeof page - 1);
+    check(kind == ETHNL_REFUSED && refusal == 2 && written == 0, "refusal 2: page of 32,767 bytes");
+    handle_at(request.bytes, request.length, request.length - 4, 1, sizeof page);
+    check(kind == ETHNL_REFUSED && refusal == 3 && next == request.length - 4, "refusal 3: 4 bytes left");
+    handle_at(request.bytes, request.length - 1, 0, 1, sizeof page);
+    check(kind == ETHNL_REFUSED && refusal == 4 && written == 0, "refusal 4: message longer than the datagram");
+    request.bytes[6] = 0;
+    handle(&request);
+    check(kind == ETHNL_SKIPPED && refusal == 0 && written == 0 && next == request.length, "skipped: not a request");
+}
+
+static void refusals_with_a_message(void)
+{
+    struct message request;
+
+    fresh_box();
+    begin_request(&request, 1, REQUEST, 3, 0);
+    end_request(&request);
+    handle(&request);
+    check(refusal == 7 && is_error(&request, 95, 0), "refusal 7: EOPNOTSUPP, no detail");
+    begin_request(&request, PRIVFLAGS_SET, REQUEST, 3, 0);
+    end_request(&request);
+    handle_at(request.bytes, request.length, 0, 0, sizeof page);
+    check(refusal == 9 && is_error(&request, 1, 0), "refusal 9: EPERM");
+    begin_request(&request, DEBUG_GET, REQUEST, 4, 0);
+    end_request(&request);
+    handle(&request);
+    check(refusal == 16 && is_error(&request, 19, 24), "refusal 16: ENODEV, OFFS of the index");
+    begin_request(&request, DEBUG_GET, REQUEST, 3, 4);
+    end_request(&request);
+    handle(&request);
+    check(refusal == 15 && is_error(&request, 95, 32), "refusal 15: EOPNOTSUPP, OFFS of the flags");
+}
+
+static void acknowledged_set(void)
+{
+    struct message request, contents = compact(0, 40, 2, (uint32_t[]){8, 0}, (uint32_t[]){8, 2});
+
+    fresh_box();
+    begin_request(&request, PRIVFLAGS_SET, REQUEST | ACK, 3, 0);
+    attribute(&request, BITSET | NESTED, contents.bytes, contents.length);
+    end_request(&request);
+    handle(&request);
+    check(kind == ETHNL_DONE && is_error(&request, 0, 0), "a SET that asks for it gets an ACK");
+}
+
+int main(void)
+{
+    whole_reply();
+    refusals_that_write_nothing();
+    refusals_with_a_message();
+    acknowledged_set();
+    return checked();
+}

@@ -1,0 +1,106 @@
+/* Requests put together attribute by attribute, for the tests. Little-endian hosts only, as the library. */
+#ifndef MESSAGE_H
+#define MESSAGE_H
+
+#include <stddef.h>
+#include <stdint.h>
+#include <string.h>
+
+#define NESTED 0x8000
+
+enum { HEADER = 1, BITSET = 2 };
+enum { PORT_INDEX = 1, PORT_NAME = 2, PORT_FLAGS = 3 };
+enum { NOMASK = 1, SIZE = 2, BITS = 3, VALUE = 4, MASK = 5 };
+enum { BIT = 1, BIT_INDEX = 1, BIT_NAME = 2, BIT_VALUE = 3 };
+enum { DEBUG_GET = 7, DEBUG_SET = 8, PRIVFLAGS_GET = 13, PRIVFLAGS_SET = 14 };
+enum { REQUEST = 1, ACK = 4, DUMP = 0x300 };
+
+struct message {
+    uint8_t bytes[4096];
+    size_t length;
+};
+
+static inline void put(struct message *message, const void *bytes, size_t length)
+{
+    memcpy(message->bytes + message->length, bytes, length);
+    message->length += length;
+}
+
+static inline void put_u16(struct message *message, uint16_t number)
+{
+    put(message, &number, 2);
+}
+
+static inline void put_u32(struct message *message, uint32_t number)
+{
+    put(message, &number, 4);
+}
+
+/* One attribute with its padding. */
+static inline void attribute(struct message *message, uint16_t type, const void *payload, size_t length)
+{
+    put_u16(message, (uint16_t)(4 + length));
+    put_u16(message, type);
+    put(message, payload, length);
+    put(message, "\0\0\0", -length & 3);
+}
+
+static inline void number(struct message *message, uint16_t type, uint32_t value)
+{
+    attribute(message, type, &value, 4);
+}
+
+static inline void flag(struct message *message, uint16_t type)
+{
+    attribute(message, type, "", 0);
+}
+
+static inline void name(struct message *message, uint16_t type, const char *text)
+{
+    attribute(message, type, text, strlen(text) + 1);
+}
+
+/* Begins a nest; `end_nest` fills in its length. */
+static inline size_t begin_nest(struct message *message, uint16_t type)
+{
+    size_t start = message->length;
+
+    attribute(message, type | NESTED, "", 0);
+    return start;
+}
+
+static inline void end_nest(struct message *message, size_t start)
+{
+    uint16_t length = (uint16_t)(message->length - start);
+
+    memcpy(message->bytes + start, &length, 2);
+}
+
+/* Both headers, and the header nest that names a port by its index. */
+static inline void begin_request(struct message *message, uint8_t command, uint16_t flags, uint32_t port,
+                                 uint32_t header_flags)
+{
+    size_t nest;
+
+    message->length = 0;
+    put_u32(message, 0);
+    put_u16(message, 25);
+    put_u16(message, flags);
+    put_u32(message, 7);
+    put_u32(message, 9);
+    put(message, (uint8_t[4]){command, 1, 0, 0}, 4);
+    nest = begin_nest(message, HEADER);
+    number(message, PORT_INDEX, port);
+    if (header_flags != 0)
+        number(message, PORT_FLAGS, header_flags);
+    end_nest(message, nest);
+}
+
+static inline void end_request(struct message *message)
+{
+    uint32_t length = (uint32_t)message->length;
+
+    memcpy(message->bytes, &length, 4);
+}
+
+#endif

@@ -1,0 +1,53 @@
+/* The box of document 01's whole reply, and calls over it. */
+#ifndef PROGRAM_BOX_H
+#define PROGRAM_BOX_H
+
+#include "ethnl.h"
+#include "message.h"
+
+enum { N = 40 };
+
+/* Port 3 "sw0", N 40, bits 0 and 33 on, only bit 3 named. */
+static uint8_t roll[ETHNL_ROLL_RECORD] = {1, 3, 0, 0, 0, 's', 'w', '0'};
+static uint8_t debug_names[N * ETHNL_NAME_LEN];
+static uint8_t flag_names[N * ETHNL_NAME_LEN];
+static uint32_t settings[4];
+static uint8_t page[ETHNL_PAGE_MIN];
+
+static uint32_t kind, refusal;
+static uint64_t next, written;
+
+static inline void fresh_box(void)
+{
+    memcpy(flag_names + 3 * ETHNL_NAME_LEN, "lldp", 4);
+    memcpy(settings, (uint32_t[4]){0, 0, 1, 2}, sizeof settings);
+}
+
+static inline void handle_at(const void *datagram, size_t length, uint64_t position, uint32_t admin, size_t page_len)
+{
+    memset(page, 0xAA, sizeof page);
+    ethnl_handle(25, admin, roll, sizeof roll, debug_names, sizeof debug_names, flag_names, sizeof flag_names,
+                 (uint8_t *)settings, sizeof settings, datagram, length, position, page, page_len, &kind,
+                 &refusal, &next, &written);
+}
+
+static inline void handle(const struct message *message)
+{
+    handle_at(message->bytes, message->length, 0, 1, sizeof page);
+}
+
+/* Contents of a compact bitset. */
+static inline struct message compact(int nomask, uint32_t size, size_t words, const uint32_t *value, const uint32_t *mask)
+{
+    struct message contents = {.length = 0};
+
+    if (nomask)
+        flag(&contents, NOMASK);
+    number(&contents, SIZE, size);
+    attribute(&contents, VALUE, value, 4 * words);
+    if (!nomask)
+        attribute(&contents, MASK, mask, 4 * words);
+    return contents;
+}
+
+#endif

@@ -1,0 +1,23 @@
+/* A library that touches one byte too far, to show that `exact` tells: TOO_FAR is an offset from the datagram. */
+#include "ethnl.h"
+
+void ethnl_handle(uint32_t family, uint32_t admin, const uint8_t *roll, size_t roll_len, const uint8_t *debug_names,
+                  size_t debug_names_len, const uint8_t *flag_names, size_t flag_names_len, uint8_t *settings,
+                  size_t settings_len, const uint8_t *datagram, size_t datagram_len, uint64_t position, uint8_t *page,
+                  size_t page_len, uint32_t *kind, uint32_t *refusal, uint64_t *next, uint64_t *written)
+{
+    (void)family, (void)admin, (void)roll, (void)roll_len, (void)debug_names, (void)debug_names_len;
+    (void)flag_names, (void)flag_names_len, (void)settings, (void)settings_len, (void)page, (void)page_len;
+    (void)datagram_len, (void)position;
+    *kind = *(const volatile uint8_t *)(datagram + (TOO_FAR));
+    *refusal = 0;
+    *next = *written = 0;
+}
+
+uint32_t ethnl_normalise(const uint8_t *contents, size_t contents_len, const uint8_t *names, size_t names_len,
+                         uint8_t *page, size_t page_len, uint64_t *written)
+{
+    (void)contents, (void)contents_len, (void)names, (void)names_len, (void)page, (void)page_len;
+    *written = 0;
+    return 0;
+}

@@ -1,0 +1,100 @@
+/*
+ * Preloaded into the stock ethtool: its generic netlink socket ends in wire_end.c instead of the kernel. Only the
+ * functions of libc that libmnl calls for a socket are here; everything else of the tool is left alone.
+ *
+ *   ETHNL_BOX       the box, in the format of examples/quay.box
+ *   ETHNL_STATE     its settings: read if the file is there, written after each datagram
+ *   ETHNL_SENT      gets each ethtool datagram that is sent, its 32-bit length before it
+ *   ETHNL_REFUSALS  gets the number of each refusal, one a line
+ *   ETHNL_LOSE      if set, the answers are lost; the tool, which would wait for ever, gets the error of a time limit
+ */
+#define _GNU_SOURCE
+#include "wire_end.h"
+
+#include <dlfcn.h>
+#include <errno.h>
+#include <fcntl.h>
+#include <linux/netlink.h>
+#include <string.h>
+#include <sys/socket.h>
+#include <unistd.h>
+
+/* The function of this name that would have been called without the shim. */
+#define NEXT(function) ((__typeof__(&function))dlsym(RTLD_NEXT, #function))
+
+enum { SOCKETS = 64 };
+
+static char ours[SOCKETS];
+
+static int is_ours(int fd)
+{
+    return fd >= 0 && fd < SOCKETS && ours[fd];
+}
+
+int socket(int domain, int type, int protocol)
+{
+    int fd;
+
+    if (domain != AF_NETLINK || protocol != NETLINK_GENERIC)
+        return NEXT(socket)(domain, type, protocol);
+    fd = open("/dev/null", O_RDWR);
+    if (fd >= 0 && fd < SOCKETS) {
+        ours[fd] = 1;
+        open_box();
+    }
+    return fd;
+}
+
+int close(int fd)
+{
+    if (is_ours(fd))
+        ours[fd] = 0;
+    return NEXT(close)(fd);
+}
+
+int bind(int fd, const struct sockaddr *address, socklen_t length)
+{
+    return is_ours(fd) ? 0 : NEXT(bind)(fd, address, length);
+}
+
+int setsockopt(int fd, int level, int option, const void *value, socklen_t length)
+{
+    return is_ours(fd) ? 0 : NEXT(setsockopt)(fd, level, option, value, length);
+}
+
+int getsockname(int fd, struct sockaddr *address, socklen_t *length)
+{
+    struct sockaddr_nl own = {.nl_family = AF_NETLINK, .nl_pid = (uint32_t)getpid()};
+
+    if (!is_ours(fd))
+        return NEXT(getsockname)(fd, address, length);
+    memcpy(address, &own, sizeof own);
+    *length = sizeof own;
+    return 0;
+}
+
+ssize_t sendto(int fd, const void *bytes, size_t length, int flags, const struct sockaddr *to, socklen_t to_len)
+{
+    if (!is_ours(fd))
+        return NEXT(sendto)(fd, bytes, length, flags, to, to_len);
+    take_datagram(bytes, length);
+    return (ssize_t)length;
+}
+
+ssize_t recvmsg(int fd, struct msghdr *message, int flags)
+{
+    struct sockaddr_nl kernel = {.nl_family = AF_NETLINK};
+    long length;
+
+    if (!is_ours(fd))
+        return NEXT(recvmsg)(fd, message, flags);
+    length = next_message(message->msg_iov[0].iov_base, message->msg_iov[0].iov_len);
+    if (length < 0) {
+        errno = EAGAIN;
+        return -1;
+    }
+    memcpy(message->msg_name, &kernel, sizeof kernel);
+    message->msg_namelen = sizeof kernel;
+    message->msg_flags = (size_t)length > message->msg_iov[0].iov_len ? MSG_TRUNC : 0;
+    return length;
+}

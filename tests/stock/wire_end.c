@@ -1,0 +1,125 @@
+#include "wire_end.h"
+
+#include "box.h"
+#include "family.h"
+
+#include <linux/genetlink.h>
+#include <linux/netlink.h>
+#include <stdio.h>
+#include <stdlib.h>
+#include <string.h>
+
+static struct box box;
+static uint8_t queue[4 * ETHNL_PAGE_MIN];
+static size_t queue_start, queue_end;
+
+/* Opens the file that an environment variable names; null where there is none. */
+static FILE *open_named(const char *variable, const char *mode)
+{
+    const char *path = getenv(variable);
+
+    return path != NULL ? fopen(path, mode) : NULL;
+}
+
+void open_box(void)
+{
+    const char *path = getenv("ETHNL_BOX");
+    FILE *state = open_named("ETHNL_STATE", "rb");
+
+    if (path == NULL || box_read(&box, path) != 0) {
+        fputs("shim: no box\n", stderr);
+        exit(99);
+    }
+    if (state == NULL)
+        return;
+    if (fread(box.settings, 1, box.settings_len, state) != box.settings_len)
+        fputs("shim: the state file is too short\n", stderr);
+    fclose(state);
+}
+
+static void keep_settings(void)
+{
+    FILE *state = open_named("ETHNL_STATE", "wb");
+
+    if (state == NULL)
+        return;
+    fwrite(box.settings, 1, box.settings_len, state);
+    fclose(state);
+}
+
+static void record(const void *datagram, uint32_t length)
+{
+    FILE *sent = open_named("ETHNL_SENT", "ab");
+
+    if (sent == NULL)
+        return;
+    fwrite(&length, sizeof length, 1, sent);
+    fwrite(datagram, 1, length, sent);
+    fclose(sent);
+}
+
+static void record_refusal(uint32_t refusal)
+{
+    FILE *refusals = open_named("ETHNL_REFUSALS", "a");
+
+    if (refusals == NULL)
+        return;
+    fprintf(refusals, "%u\n", refusal);
+    fclose(refusals);
+}
+
+static void queue_answer(const void *bytes, size_t length)
+{
+    if (length > sizeof queue - queue_end) {
+        fputs("shim: too many answers\n", stderr);
+        exit(99);
+    }
+    memcpy(queue + queue_end, bytes, length);
+    queue_end += length;
+}
+
+/* Gives the datagram to the library, message by message. */
+static void serve(const uint8_t *datagram, size_t length)
+{
+    static uint8_t page[ETHNL_PAGE_MIN];
+    struct answer answer;
+
+    for (uint64_t position = 0;; position = answer.next) {
+        answer = box_handle(&box, datagram, length, position, page);
+        if (answer.kind == ETHNL_REFUSED)
+            record_refusal(answer.refusal);
+        if (answer.kind == ETHNL_END || (answer.kind == ETHNL_REFUSED && answer.refusal <= ETHNL_LAST_SILENT))
+            return;
+        if (getenv("ETHNL_LOSE") == NULL)
+            queue_answer(page, answer.written);
+    }
+}
+
+void take_datagram(const void *datagram, size_t length)
+{
+    const struct nlmsghdr *header = datagram;
+    struct message answer;
+
+    if (length >= sizeof *header && header->nlmsg_type == GENL_ID_CTRL) {
+        answer = family_answer(header, (uint16_t)box.family);
+        queue_answer(answer.bytes, answer.length);
+        return;
+    }
+    record(datagram, (uint32_t)length);
+    serve(datagram, length);
+    keep_settings();
+}
+
+long next_message(void *buffer, size_t room)
+{
+    uint32_t length;
+
+    if (queue_start == queue_end)
+        return -1;
+    memcpy(&length, queue + queue_start, sizeof length);
+    memcpy(buffer, queue + queue_start, length < room ? length : room);
+    queue_start += length;
+    if (queue_start == queue_end)
+        queue_start = queue_end = 0;
+    return (long)length;
+}

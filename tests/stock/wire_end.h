@@ -1,0 +1,17 @@
+/* The far end of the tool's socket: a box behind the library, and the answers on their way back. */
+#ifndef WIRE_END_H
+#define WIRE_END_H
+
+#include <stddef.h>
+#include <stdint.h>
+
+/* Reads the box and its settings; ends the program if there is no box. */
+void open_box(void);
+
+/* Takes a datagram that the tool sends, and queues the answers to it. */
+void take_datagram(const void *datagram, size_t length);
+
+/* Hands out the next message of the queue into a buffer; -1 if there is none. */
+long next_message(void *buffer, size_t room);
+
+#endif
