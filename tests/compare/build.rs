@@ -1,11 +1,11 @@
-//! Names the static library to the linker, where the feature `library` asks for it.
+//! Names the static library to the linker, where the feature `normaliser` or `library` asks for it.
 
 use std::env;
 use std::path::PathBuf;
 
 fn main() {
     println!("cargo:rerun-if-changed=build.rs");
-    if env::var_os("CARGO_FEATURE_LIBRARY").is_none() {
+    if env::var_os("CARGO_FEATURE_NORMALISER").is_none() {
         return;
     }
     let here = PathBuf::from(env::var_os("CARGO_MANIFEST_DIR").unwrap_or_default());

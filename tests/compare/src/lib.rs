@@ -5,11 +5,11 @@ mod implementation;
 mod outcome;
 mod tally;
 
-#[cfg(feature = "library")]
+#[cfg(feature = "normaliser")]
 mod library;
 
 pub use implementation::{Implementation, Reader};
-#[cfg(feature = "library")]
+#[cfg(feature = "normaliser")]
 pub use library::Library;
 pub use outcome::{outcome, Outcome};
 pub use tally::Tally;

@@ -4,6 +4,7 @@ use super::Implementation;
 use cases::{HandleCase, NormaliseCase};
 use reader::Answer;
 
+#[cfg(feature = "library")]
 extern "C" {
     fn ethnl_handle(
         family: u32,
@@ -26,7 +27,9 @@ extern "C" {
         next: *mut u64,
         written: *mut u64,
     );
+}
 
+extern "C" {
     fn ethnl_normalise(
         contents: *const u8,
         contents_len: usize,
@@ -42,6 +45,12 @@ extern "C" {
 pub struct Library;
 
 impl Implementation for Library {
+    #[cfg(not(feature = "library"))]
+    fn handle(&self, case: &HandleCase, settings: &mut [u8], page: &mut [u8]) -> Answer {
+        super::Reader.handle(case, settings, page)
+    }
+
+    #[cfg(feature = "library")]
     fn handle(&self, case: &HandleCase, settings: &mut [u8], page: &mut [u8]) -> Answer {
         // Results begin as values that no answer has, so that one left unwritten shows.
         let mut answer = Answer { kind: u32::MAX, refusal: u32::MAX, next: u64::MAX - 1, written: u64::MAX };

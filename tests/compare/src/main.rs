@@ -32,12 +32,12 @@ fn main() -> ExitCode {
     ExitCode::SUCCESS
 }
 
-#[cfg(feature = "library")]
+#[cfg(feature = "normaliser")]
 fn compared() -> (&'static str, &'static dyn Implementation) {
     ("library", &compare::Library)
 }
 
-#[cfg(not(feature = "library"))]
+#[cfg(not(feature = "normaliser"))]
 fn compared() -> (&'static str, &'static dyn Implementation) {
     ("reader (built without feature `library`)", &Reader)
 }
