@@ -1,4 +1,4 @@
-pub mod Number
+pub mod Numbers
 pub mod Order
 pub mod Put
 pub mod Scan

@@ -1,3 +1,3 @@
-pub mod Number
+pub mod Numbers
 pub mod Put
 pub mod Scan

@@ -9,9 +9,9 @@ use native.Mathlib.Numerals.{add-one}
 use native.Mathlib.Omega.{arith}
 use lib.ListN.{length, take, drop, getD, set, length-append, List·getD-append, List·getD-eq-default}
 use lib.Seq.{take-suc, take-add, take-all, drop-cons, getD-at, getD-append-add, ext-getD}
-use Rattle.basics.specs.Number.{le32, le32At}
+use Rattle.basics.specs.Numbers.{le32, u32At}
 use Rattle.basics.specs.Put.{put}
-use Rattle.basics.proofs.Number.{digits32}
+use Rattle.basics.proofs.Numbers.{digits32}
 use Rattle.basics.proofs.Order.{lt-or-ge}
 use Rattle.basics.proofs.Put.{put-take}
 use Rattle.bits.specs.Set.{wordsOf}
@@ -37,11 +37,11 @@ getD-table (suc n) f j h =
 module _ (s : List ℕ) where
   pub length-wordsIn : length (wordsIn s) ≡ length s / 4
   unfolding wordsIn
-  length-wordsIn = length-table (length s / 4) (λ j. le32At s (j * 4))
+  length-wordsIn = length-table (length s / 4) (λ j. u32At s (j * 4))
 
-  pub word-in : (j : ℕ) → j < length s / 4 → le32At s (j * 4) ≡ getD (wordsIn s) j 0
+  pub word-in : (j : ℕ) → j < length s / 4 → u32At s (j * 4) ≡ getD (wordsIn s) j 0
   unfolding wordsIn
-  word-in j h = sym (getD-table (length s / 4) (λ j. le32At s (j * 4)) j h)
+  word-in j h = sym (getD-table (length s / 4) (λ j. u32At s (j * 4)) j h)
 
   pub word-past : (j : ℕ) → length s / 4 ≤ j → 0 ≡ getD (wordsIn s) j 0
   word-past j h = sym (List·getD-eq-default (wordsIn s) 0 (omega (arith, length-wordsIn)))
@@ -74,8 +74,8 @@ small-wordsOf w f j h =
     let k : j < w = omega (arith, length-wordsOf w f) in
     omega (arith, getD-wordsOf w f j k, number-lt 32 (λ b. f (j * 32 + b)))
 
-bytes-at : (ws : List ℕ) → Small ws → (j : ℕ) → j < length ws → le32At (bytesOf ws) (j * 4) ≡ getD ws j 0
-unfolding bytesOf
+bytes-at : (ws : List ℕ) → Small ws → (j : ℕ) → j < length ws → u32At (bytesOf ws) (j * 4) ≡ getD ws j 0
+unfolding bytesOf u32At
 bytes-at [] s j h = absurd (omega arith)
 bytes-at (w ∷ ws) s zero h = digits32 w (s 0 (zero-lt-suc (length ws)))
 bytes-at (w ∷ ws) s (suc j) h =
@@ -94,7 +94,8 @@ words-of-bytes ws s =
 
 -- the bytes of the words in whole words' bytes are these
 module _ (s : List ℕ) (small : (i : ℕ) → getD s i 0 < 256) where
-  four : (p : ℕ) → p + 4 ≤ length s → take 4 (drop p s) ≡ le32 (le32At s p)
+  four : (p : ℕ) → p + 4 ≤ length s → take 4 (drop p s) ≡ le32 (u32At s p)
+  unfolding u32At
   four p h =
       ap (take 4) (next p (p + 1) refl (omega arith) (next (p + 1) (p + 2) (omega arith) (omega arith) (next (p + 2) (p + 3) (omega arith) (omega arith) (next (p + 3) (p + 4) (omega arith) (omega arith) refl))))
       ∙ digits (getD s p 0) (getD s (p + 1) 0) (getD s (p + 2) 0) (getD s (p + 3) 0) (small p) (small (p + 1)) (small (p + 2)) (small (p + 3))

@@ -120,3 +120,10 @@ pub put-past : (ws : List ℕ) (i : ℕ) (v : Bool) → length ws ≤ i / 32 →
 put-past ws i v h small =
     words-ext ws (putBit i v (has ws)) (λ j l. small j)
     (λ j b l k. sym (ap (λ (t : Bool). cond t v (has ws (j * 32 + b))) (ne-eqb (j * 32 + b) i (λ q. omega arith)) ∙ has-word ws j b k))
+
+-- sets that agree below w * 32 have the same w words
+pub wordsOf-cong : (w : ℕ) (f g : ℕ → Bool) → ((i : ℕ) → i < w * 32 → f i ≡ g i) → wordsOf w f ≡ wordsOf w g
+wordsOf-cong w f g h =
+    ext-getD 0 (wordsOf w f) (wordsOf w g) (length-wordsOf w f ∙ sym (length-wordsOf w g))
+    (λ j l. let k : j < w = omega (arith, length-wordsOf w f) in
+    getD-wordsOf w f j k ∙ number-cong 32 _ _ (λ b u. h (j * 32 + b) (omega arith)) ∙ sym (getD-wordsOf w g j k))

@@ -2,7 +2,7 @@
 use Prim.Native.Nat.{ℕ, zero, suc, _*_, _/_}
 use mathlib.Core.List.{List, [], _∷_, _++_}
 use lib.ListN.{length}
-use Rattle.basics.specs.Number.{le32, le32At}
+use Rattle.basics.specs.Numbers.{le32, u32At}
 
 -- f 0, f 1, .. f (n - 1)
 unfoldable pub table : ℕ → (ℕ → ℕ) → List ℕ
@@ -11,7 +11,7 @@ table (suc n) f = table n f ++ (f n ∷ [])
 
 -- the words whose bytes these are: up to three bytes past the last whole word are none
 unfoldable pub wordsIn : List ℕ → List ℕ
-wordsIn s = table (length s / 4) (λ j. le32At s (j * 4))
+wordsIn s = table (length s / 4) (λ j. u32At s (j * 4))
 
 -- the bytes of the words
 unfoldable pub bytesOf : List ℕ → List ℕ

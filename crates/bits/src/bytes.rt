@@ -3,7 +3,7 @@ use crate::word::bit_between;
 ghost use mathlib.Core.Path.{_≡_};
 ghost use Prim.Native.Nat.{_+_, _*_, _/_, _≤_, _<_};
 ghost use lib.ListN.{length, getD};
-ghost use Rattle.basics.specs.Number.{le32, le32At};
+ghost use Rattle.basics.specs.Numbers.{le32, u32At};
 ghost use Rattle.basics.specs.Put.{put};
 ghost use Rattle.bits.specs.Set.{has, somePast};
 ghost use Rattle.bits.specs.Bytes.{wordsIn, bytesOf};
@@ -18,7 +18,7 @@ fn wide(b: u8) -> u32
 // The number in the four bytes from `at` on.
 fn four(bytes: &[u8], at: usize) -> u32
     requires { ⌜ at + 4 ≤ length (now bytes) ⌝ }
-    ensures { λ r. ⌜ r ≡ le32At (now (bytes .entry)) at ⌝ }
+    ensures { λ r. ⌜ r ≡ u32At (now (bytes .entry)) at ⌝ }
 {
     wide(bytes[at])
         + wide(bytes[at + 1]) * 256

@@ -10,7 +10,7 @@ use lib.Dec.{eqb}
 use lib.ListN.{length, getD, set, length-set, replicate, getD-replicate}
 use lib.Seq.{getD-set-same, getD-set-other}
 use borrow.Author.Tests.{eq-eqb, ne-eqb, eqb-true, eqb-false, not-true, not-false}
-use Rattle.basics.specs.Number.{le64At}
+use Rattle.basics.specs.Numbers.{u64At}
 use Rattle.basics.specs.Scan.{all}
 use Rattle.basics.proofs.Order.{lt-or-ge}
 use Rattle.basics.proofs.Scan.{all-none, all-more, all-fails, all-done, all-of}
@@ -25,16 +25,16 @@ module _ (list : List ℕ) (i : ℕ) (h : i < count list) where
   unfolding hashOf
   hash-empty z = sym (rw (eq-eqb _ 0 (entry-first list i h ∙ z)))
 
-  pub hash-some : (a b c d x r : ℕ) → (getD list (i * 32) 0 ≡ 0 → ⊥) → a ≡ le64At list (i * 32) → b ≡ le64At list (i * 32 + 8)
-      → c ≡ le64At list (i * 32 + 16) → d ≡ le64At list (i * 32 + 24) → x ≡ folded a b c d → r ≡ spread x → r ≡ hashOf (entryAt list i)
+  pub hash-some : (a b c d x r : ℕ) → (getD list (i * 32) 0 ≡ 0 → ⊥) → a ≡ u64At list (i * 32) → b ≡ u64At list (i * 32 + 8)
+      → c ≡ u64At list (i * 32 + 16) → d ≡ u64At list (i * 32 + 24) → x ≡ folded a b c d → r ≡ spread x → r ≡ hashOf (entryAt list i)
   unfolding hashOf
   hash-some a b c d x r n ea eb ec ed ex er =
-      let at : (p k : ℕ) → p + 8 ≤ 32 → i * 32 + p ≡ k → le64At list k ≡ le64At (entryAt list i) p = λ p k l e. sym (entry-eight list i h p k l e) in
-      let fa : a ≡ le64At (entryAt list i) 0 = ea ∙ at 0 (i * 32) (omega arith) (omega arith) in
-      let fb : b ≡ le64At (entryAt list i) 8 = eb ∙ at 8 (i * 32 + 8) (omega arith) refl in
-      let fc : c ≡ le64At (entryAt list i) 16 = ec ∙ at 16 (i * 32 + 16) (omega arith) refl in
-      let fd : d ≡ le64At (entryAt list i) 24 = ed ∙ at 24 (i * 32 + 24) (omega arith) refl in
-      er ∙ ap spread (ex ∙ ap₂ (λ (f : ℕ → ℕ → ℕ) (y : ℕ). f c y) (ap₂ folded fa fb) fd ∙ ap (λ (z : ℕ). folded (le64At (entryAt list i) 0) (le64At (entryAt list i) 8) z (le64At (entryAt list i) 24)) fc)
+      let at : (p k : ℕ) → p + 8 ≤ 32 → i * 32 + p ≡ k → u64At list k ≡ u64At (entryAt list i) p = λ p k l e. sym (entry-eight list i h p k l e) in
+      let fa : a ≡ u64At (entryAt list i) 0 = ea ∙ at 0 (i * 32) (omega arith) (omega arith) in
+      let fb : b ≡ u64At (entryAt list i) 8 = eb ∙ at 8 (i * 32 + 8) (omega arith) refl in
+      let fc : c ≡ u64At (entryAt list i) 16 = ec ∙ at 16 (i * 32 + 16) (omega arith) refl in
+      let fd : d ≡ u64At (entryAt list i) 24 = ed ∙ at 24 (i * 32 + 24) (omega arith) refl in
+      er ∙ ap spread (ex ∙ ap₂ (λ (f : ℕ → ℕ → ℕ) (y : ℕ). f c y) (ap₂ folded fa fb) fd ∙ ap (λ (z : ℕ). folded (u64At (entryAt list i) 0) (u64At (entryAt list i) 8) z (u64At (entryAt list i) 24)) fc)
       ∙ sym (rw (ne-eqb _ 0 (λ (q : getD (entryAt list i) 0 0 ≡ 0). n (sym (entry-first list i h) ∙ q))))
 
 -- entries of other hashes differ

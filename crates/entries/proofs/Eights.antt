@@ -8,8 +8,8 @@ use native.Mathlib.Omega.{arith}
 use lib.Dec.{eqb}
 use lib.ListN.{getD}
 use borrow.Author.Tests.{eq-eqb, eqb-true}
-use Rattle.basics.specs.Number.{le32At, le64At}
-use Rattle.basics.proofs.Number.{same-four}
+use Rattle.basics.specs.Numbers.{u32At, u64At}
+use Rattle.basics.proofs.Numbers.{same-four}
 use Rattle.basics.proofs.Order.{lt-or-ge}
 use Rattle.basics.proofs.Truth.{false-of, both-true, clash}
 use Rattle.entries.specs.Entry.{count, entryAt, same}
@@ -17,16 +17,18 @@ use Rattle.entries.proofs.Entries.{entry-byte, entry-length, entry-eigh
 
 -- two lists of 32 bytes whose four numbers of eight bytes are equal
 module _ (a b : List ℕ) (sa : (j : ℕ) → j < 32 → getD a j 0 < 256) (sb : (j : ℕ) → j < 32 → getD b j 0 < 256) where
-  four-lt : (s : List ℕ) → ((j : ℕ) → j < 32 → getD s j 0 < 256) → (p : ℕ) → p + 4 ≤ 32 → le32At s p < 4294967296
+  four-lt : (s : List ℕ) → ((j : ℕ) → j < 32 → getD s j 0 < 256) → (p : ℕ) → p + 4 ≤ 32 → u32At s p < 4294967296
+  unfolding u32At
   four-lt s h p l = omega (arith, h p (omega arith), h (p + 1) (omega arith), h (p + 2) (omega arith), h (p + 3) (omega arith))
 
-  halves : (p : ℕ) → p + 8 ≤ 32 → le64At a p ≡ le64At b p → (le32At a p ≡ le32At b p) × (le32At a (p + 4) ≡ le32At b (p + 4))
-  halves p l e = apart (le32At a p) (le32At b p) (le32At a (p + 4)) (le32At b (p + 4)) (four-lt a sa p (omega arith)) (four-lt b sb p (omega arith)) e
+  halves : (p : ℕ) → p + 8 ≤ 32 → u64At a p ≡ u64At b p → (u32At a p ≡ u32At b p) × (u32At a (p + 4) ≡ u32At b (p + 4))
+  halves p l e = apart (u32At a p) (u32At b p) (u32At a (p + 4)) (u32At b (p + 4)) (four-lt a sa p (omega arith)) (four-lt b sb p (omega arith)) e
     where
       apart : (x y u v : ℕ) → x < 4294967296 → y < 4294967296 → x + u * 4294967296 ≡ y + v * 4294967296 → (x ≡ y) × (u ≡ v)
       apart x y u v hx hy e = (omega arith, omega arith)
 
-  bytes : (p r : ℕ) → p + 4 ≤ 32 → r < 4 → le32At a p ≡ le32At b p → getD a (p + r) 0 ≡ getD b (p + r) 0
+  bytes : (p r : ℕ) → p + 4 ≤ 32 → r < 4 → u32At a p ≡ u32At b p → getD a (p + r) 0 ≡ getD b (p + r) 0
+  unfolding u32At
   bytes p r l h e = at r h
     where
       each : (getD a p 0 ≡ getD b p 0) × (getD a (p + 1) 0 ≡ getD b (p + 1) 0) × (getD a (p + 2) 0 ≡ getD b (p + 2) 0) × (getD a (p + 3) 0 ≡ getD b (p + 3) 0)
@@ -41,17 +43,17 @@ module _ (a b : List ℕ) (sa : (j : ℕ) → j < 32 → getD a j 0 < 256) (sb :
       at (suc (suc (suc zero))) h = each .3
       at (suc (suc (suc (suc r)))) h = absurd (omega arith)
 
-  eight-bytes : (p r : ℕ) → p + 8 ≤ 32 → r < 8 → le64At a p ≡ le64At b p → getD a (p + r) 0 ≡ getD b (p + r) 0
+  eight-bytes : (p r : ℕ) → p + 8 ≤ 32 → r < 8 → u64At a p ≡ u64At b p → getD a (p + r) 0 ≡ getD b (p + r) 0
   eight-bytes p r l h e =
       ⊎-elim
       (λ (u : r < 4). bytes p r (omega arith) u (halves p l e .0))
       (λ (u : 4 ≤ r). let k : p + r ≡ p + 4 + (r - 4) = omega arith in rw k (bytes (p + 4) (r - 4) (omega arith) (omega arith) (halves p l e .1)))
       (lt-or-ge r 4)
 
-  pub eights-same : le64At a 0 ≡ le64At b 0 → le64At a 8 ≡ le64At b 8 → le64At a 16 ≡ le64At b 16 → le64At a 24 ≡ le64At b 24 → same a b ≡ true
+  pub eights-same : u64At a 0 ≡ u64At b 0 → u64At a 8 ≡ u64At b 8 → u64At a 16 ≡ u64At b 16 → u64At a 24 ≡ u64At b 24 → same a b ≡ true
   eights-same e0 e1 e2 e3 = same-of a b (λ j l. ⊎-elim (λ (u : j < 16). low j u) (λ (u : 16 ≤ j). high j u l) (lt-or-ge j 16))
     where
-      at : (p j : ℕ) → p + 8 ≤ 32 → p ≤ j → j < p + 8 → le64At a p ≡ le64At b p → getD a j 0 ≡ getD b j 0
+      at : (p j : ℕ) → p + 8 ≤ 32 → p ≤ j → j < p + 8 → u64At a p ≡ u64At b p → getD a j 0 ≡ getD b j 0
       at p j l u v e = let k : j ≡ p + (j - p) = omega arith in rw k (eight-bytes p (j - p) l (omega arith) e)
 
       low : (j : ℕ) → j < 16 → getD a j 0 ≡ getD b j 0
@@ -65,8 +67,8 @@ module _ (list : List ℕ) (i k : ℕ) (hi : i < count list) (hk : k < count lis
   small-entry : (i : ℕ) → i < count list → (j : ℕ) → j < 32 → getD (entryAt list i) j 0 < 256
   small-entry i h j l = omega (arith, entry-byte list i h j l, small (i * 32 + j))
 
-  pub same-numbers : (t0 t1 t2 t3 : Bool) → t0 ≡ eqb (le64At list (i * 32)) (le64At list (k * 32)) → t1 ≡ eqb (le64At list (i * 32 + 8)) (le64At list (k * 32 + 8))
-      → t2 ≡ eqb (le64At list (i * 32 + 16)) (le64At list (k * 32 + 16)) → t3 ≡ eqb (le64At list (i * 32 + 24)) (le64At list (k * 32 + 24))
+  pub same-numbers : (t0 t1 t2 t3 : Bool) → t0 ≡ eqb (u64At list (i * 32)) (u64At list (k * 32)) → t1 ≡ eqb (u64At list (i * 32 + 8)) (u64At list (k * 32 + 8))
+      → t2 ≡ eqb (u64At list (i * 32 + 16)) (u64At list (k * 32 + 16)) → t3 ≡ eqb (u64At list (i * 32 + 24)) (u64At list (k * 32 + 24))
       → t0 && t1 && t2 && t3 ≡ same (entryAt list i) (entryAt list k)
   same-numbers t0 t1 t2 t3 e0 e1 e2 e3 =
       rw
@@ -79,18 +81,18 @@ module _ (list : List ℕ) (i k : ℕ) (hi : i < count list) (hk : k < count lis
       b : List ℕ
       b = entryAt list k
 
-      at : (p q r : ℕ) → p + 8 ≤ 32 → i * 32 + p ≡ q → k * 32 + p ≡ r → eqb (le64At list q) (le64At list r) ≡ eqb (le64At a p) (le64At b p)
+      at : (p q r : ℕ) → p + 8 ≤ 32 → i * 32 + p ≡ q → k * 32 + p ≡ r → eqb (u64At list q) (u64At list r) ≡ eqb (u64At a p) (u64At b p)
       at p q r l eq er = sym (ap₂ eqb (entry-eight list i hi p q l eq) (entry-eight list k hk p r l er))
 
-      go : (t : Bool) → same a b ≡ t → eqb (le64At a 0) (le64At b 0) && eqb (le64At a 8) (le64At b 8) && eqb (le64At a 16) (le64At b 16) && eqb (le64At a 24) (le64At b 24) ≡ same a b
+      go : (t : Bool) → same a b ≡ t → eqb (u64At a 0) (u64At b 0) && eqb (u64At a 8) (u64At b 8) && eqb (u64At a 16) (u64At b 16) && eqb (u64At a 24) (u64At b 24) ≡ same a b
       go true e =
           let q = same-equal a b (entry-length list i hi) (entry-length list k hk) e in
-          let x : (p : ℕ) → eqb (le64At a p) (le64At b p) ≡ true = λ p. eq-eqb (le64At a p) (le64At b p) (ap (λ (s : List ℕ). le64At s p) q) in
+          let x : (p : ℕ) → eqb (u64At a p) (u64At b p) ≡ true = λ p. eq-eqb (u64At a p) (u64At b p) (ap (λ (s : List ℕ). u64At s p) q) in
           rw (x 0, x 8, x 16, x 24) (sym e)
       go false e =
           false-of _ (λ z. clash (all-true z) e) ∙ sym e
         where
-          all-true : eqb (le64At a 0) (le64At b 0) && eqb (le64At a 8) (le64At b 8) && eqb (le64At a 16) (le64At b 16) && eqb (le64At a 24) (le64At b 24) ≡ true → same a b ≡ true
+          all-true : eqb (u64At a 0) (u64At b 0) && eqb (u64At a 8) (u64At b 8) && eqb (u64At a 16) (u64At b 16) && eqb (u64At a 24) (u64At b 24) ≡ true → same a b ≡ true
           all-true z =
               let y3 = both-true _ _ z in
               let y2 = both-true _ _ (y3 .0) in

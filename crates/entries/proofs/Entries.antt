@@ -9,7 +9,7 @@ use lib.Dec.{eqb}
 use lib.ListN.{length, getD, take, drop, length-drop}
 use lib.Seq.{length-take-le, getD-take, getD-drop, ext-getD}
 use borrow.Author.Tests.{lt-ltb, le-ltb, eq-eqb, eqb-true, not-true}
-use Rattle.basics.specs.Number.{le64At}
+use Rattle.basics.specs.Numbers.{u32At, u64At}
 use Rattle.basics.proofs.Order.{lt-or-ge}
 use Rattle.basics.proofs.Scan.{all-of, all-each}
 use Rattle.basics.proofs.Truth.{clash}
@@ -38,7 +38,8 @@ module _ (list : List ℕ) (i : ℕ) where
     pub entry-first : getD (entryAt list i) 0 0 ≡ getD list (i * 32) 0
     entry-first = let k : i * 32 + 0 ≡ i * 32 = omega arith in entry-byte 0 (omega arith) ∙ ap (λ (n : ℕ). getD list n 0) k
 
-    pub entry-eight : (p k : ℕ) → p + 8 ≤ 32 → i * 32 + p ≡ k → le64At (entryAt list i) p ≡ le64At list k
+    pub entry-eight : (p k : ℕ) → p + 8 ≤ 32 → i * 32 + p ≡ k → u64At (entryAt list i) p ≡ u64At list k
+    unfolding u32At
     entry-eight p k l e =
         let byte : (j n : ℕ) → j < 32 → i * 32 + j ≡ n → getD (entryAt list i) j 0 ≡ getD list n 0 =
         λ j n u q. entry-byte j u ∙ ap (λ (m : ℕ). getD list m 0) q in

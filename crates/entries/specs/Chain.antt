@@ -6,7 +6,7 @@ use mathlib.Core.List.{List}
 use lib.ListN.{getD}
 use lib.Bits.{bitOr, bitXor}
 use lib.Dec.{eqb}
-use Rattle.basics.specs.Number.{le64At}
+use Rattle.basics.specs.Numbers.{u64At}
 use Rattle.entries.specs.Entry.{entryAt, isEmpty}
 
 -- a number of 64 bits turned by k bits
@@ -23,7 +23,7 @@ spread x = (x % 4294967296 * 1883130339 + x / 4294967296 * 1207823575) / 1677721
 
 -- the chain of an entry, of which there are 1024, and one more for the empty ones
 unfoldable pub hashOf : List ℕ → ℕ
-hashOf e = cond (isEmpty e) 1024 (spread (folded (le64At e 0) (le64At e 8) (le64At e 16) (le64At e 24)))
+hashOf e = cond (isEmpty e) 1024 (spread (folded (u64At e 0) (u64At e 8) (u64At e 16) (u64At e 24)))
 
 -- the last entry below i with the hash h, counted from 1; 0 for none
 unfoldable pub lastOf : List ℕ → ℕ → ℕ → ℕ

@@ -3,7 +3,7 @@ ghost use mathlib.Core.Path.{_≡_};
 ghost use Prim.Native.Nat.{_+_, _/_, _≤_, _<_};
 ghost use lib.Dec.{eqb};
 ghost use lib.ListN.{length};
-ghost use Rattle.basics.specs.Number.{le32At, le64At};
+ghost use Rattle.basics.specs.Numbers.{u32At, u64At};
 ghost use Rattle.entries.specs.Entry.{entryAt, same};
 
 // A byte as a number of 64 bits.
@@ -16,7 +16,7 @@ fn wide(b: u8) -> u64
 // The number in the four bytes from `at` on.
 fn four(list: &[u8], at: usize) -> u64
     requires { ⌜ at + 4 ≤ length (now list) ⌝ }
-    ensures { λ r. ⌜ (r ≡ le32At (now (list .entry)) at) × (r < 4294967296) ⌝ }
+    ensures { λ r. ⌜ (r ≡ u32At (now (list .entry)) at) × (r < 4294967296) ⌝ }
 {
     wide(list[at])
         + wide(list[at + 1]) * 256
@@ -27,7 +27,7 @@ fn four(list: &[u8], at: usize) -> u64
 // The number in the eight bytes from `at` on.
 pub fn eight(list: &[u8], at: usize) -> u64
     requires { ⌜ at + 8 ≤ length (now list) ⌝ }
-    ensures { λ r. ⌜ r ≡ le64At (now (list .entry)) at ⌝ }
+    ensures { λ r. ⌜ r ≡ u64At (now (list .entry)) at ⌝ }
 {
     four(list, at) + four(list, at + 4) * 4294967296
 }
@@ -35,7 +35,7 @@ pub fn eight(list: &[u8], at: usize) -> u64
 // Whether the eight bytes from `a` on are those from `b` on.
 fn same_eight(list: &[u8], a: usize, b: usize) -> bool
     requires { ⌜ (a + 8 ≤ length (now list)) × (b + 8 ≤ length (now list)) ⌝ }
-    ensures { λ r. ⌜ r ≡ eqb (le64At (now (list .entry)) a) (le64At (now (list .entry)) b) ⌝ }
+    ensures { λ r. ⌜ r ≡ eqb (u64At (now (list .entry)) a) (u64At (now (list .entry)) b) ⌝ }
 {
     eight(list, a) == eight(list, b)
 }

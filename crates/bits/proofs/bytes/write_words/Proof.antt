@@ -6,7 +6,7 @@ use lib.ListN.{length, take, getD}
 use lib.Seq.{take-all, length-take-le}
 use borrow.Rule.Slice.PartMut.{same-len-mid}
 use borrow.Author.Needs.{needs}
-use Rattle.basics.specs.Number.{le32}
+use Rattle.basics.specs.Numbers.{le32}
 use Rattle.basics.specs.Put.{put}
 use Rattle.basics.proofs.Put.{put-nil, then-rest, length-rest}
 use Rattle.bits.specs.Bytes.{bytesOf}

@@ -1,0 +1,61 @@
+use Rattle.bitset.proofs.list.Laws.{list-laws}
+use borrow.Author.Needs.{needs}
+use Rattle.bitset.proofs.list.judge_list.Statement.{statement}
+use Rattle.bitset.proofs.list.judge_list.Tie as tie
+
+payload-requires : tie.Need-payload-requires
+payload-requires c κs = search needs
+
+bits-policy-requires : tie.Need-bits-policy-requires
+bits-policy-requires c κs = search needs
+
+walk-requires : tie.Need-walk-requires
+walk-requires c κs = search needs
+
+enum-known-stop : tie.Need-enum-known-stop
+enum-known-stop c = search needs
+
+of-fault-requires : tie.Need-of-fault-requires
+of-fault-requires c κs = search needs
+
+refused-requires : tie.Need-refused-requires
+refused-requires c κs = search needs
+
+returns : tie.Need-returns
+returns c = search (needs, list-laws)
+
+enum-told : tie.Need-enum-told
+enum-told c = search needs
+
+judge-bits-requires : tie.Need-judge-bits-requires
+judge-bits-requires c κs = search needs
+
+count-requires : tie.Need-count-requires
+count-requires c κs = search needs
+
+under-nomask-requires : tie.Need-under-nomask-requires
+under-nomask-requires c κs = search needs
+
+returns-2 : tie.Need-returns-2
+returns-2 c = search (needs, list-laws)
+
+returns-3 : tie.Need-returns-3
+returns-3 c = search (needs, list-laws)
+
+pub judge-list-spec : {M : Type 1} → statement M
+judge-list-spec =
+    tie.close
+    (tie.spec
+    payload-requires
+    bits-policy-requires
+    walk-requires
+    enum-known-stop
+    of-fault-requires
+    refused-requires
+    returns
+    enum-told
+    judge-bits-requires
+    count-requires
+    under-nomask-requires
+    returns-2
+    returns-3)

@@ -1,0 +1,86 @@
+// A bitset's contents judged: a refusal with its place, or the form of its change.
+ghost use mathlib.Core.Path.{_≡_};
+ghost use Rattle.entries.specs.Entry.{count};
+ghost use Rattle.bitset.specs.Bitset.{judgedAs};
+ghost use Rattle.bitset.specs.Judge.{mixedAt, partsReading, bitsetReading};
+use crate::compact::judge_compact;
+use crate::form::Judged;
+use crate::form::refused;
+use crate::list::judge_list;
+use crate::policies::BITS;
+use crate::policies::MASK;
+use crate::policies::NOMASK;
+use crate::policies::SIZE;
+use crate::policies::VALUE;
+use crate::policies::bitset_policy;
+use netlink::attributes::place;
+use netlink::walk::Slot;
+use netlink::walk::Stop;
+use netlink::walk::walk;
+use refusal::Refusal;
+use refusal::of_fault;
+
+// Where the forms of a bitset are mixed, if they are.
+pub enum Mixing {
+    Pure,
+    At(usize),
+}
+
+fn mixed_at(nomask: Slot, bits: Slot, value: Slot, mask: Slot) -> Mixing
+    ensures { λ r. ⌜ r ≡ mixedAt nomask bits value mask ⌝ }
+{
+    if bits.present {
+        if value.present {
+            return Mixing::At(place(value.start));
+        }
+        if mask.present {
+            return Mixing::At(place(mask.start));
+        }
+        return Mixing::Pure;
+    }
+    if nomask.present {
+        if mask.present {
+            return Mixing::At(place(mask.start));
+        }
+    }
+    Mixing::Pure
+}
+
+// Judges the parts of a bitset that stands at `nest`.
+fn judge_parts(
+    s: &[u8],
+    nest: usize,
+    names: &[u8],
+    nomask: Slot,
+    size: Slot,
+    bits: Slot,
+    value: Slot,
+    mask: Slot,
+) -> Judged
+    ensures { λ r. ⌜ r ≡ judgedAs (count (now (names .entry))) (partsReading (now (s .entry)) nest (now (names .entry)) nomask size bits value mask) ⌝ }
+{
+    if let Mixing::At(at) = mixed_at(nomask, bits, value, mask) {
+        return refused(Refusal::Mixed(at));
+    }
+    if bits.present {
+        return judge_list(s, names, nomask, bits);
+    }
+    judge_compact(s, nest, names::count(names), nomask, size, value, mask)
+}
+
+// Judges the bitset whose contents are the bytes of s from `from` on. Places count from the start of s.
+pub fn judge(s: &[u8], from: usize, names: &[u8]) -> Judged
+    ensures { λ r. ⌜ r ≡ judgedAs (count (now (names .entry))) (bitsetReading (now (s .entry)) from (now (names .entry))) ⌝ }
+{
+    let walked = walk(bitset_policy(), s, from);
+    let stop = walked.stop;
+    if let Stop::At { fault, at } = stop {
+        return refused(of_fault(fault, at));
+    }
+    let nomask = walked.slots[NOMASK];
+    let size = walked.slots[SIZE];
+    let bits = walked.slots[BITS];
+    let value = walked.slots[VALUE];
+    let mask = walked.slots[MASK];
+    judge_parts(s, place(from), names, nomask, size, bits, value, mask)
+}

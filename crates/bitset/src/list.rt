@@ -1,0 +1,174 @@
+// A bit list: BITS, and in it any number of BITs.
+ghost use mathlib.Core.Path.{_≡_};
+ghost use Rattle.netlink.specs.Attributes.{attributes};
+ghost use Rattle.bitset.specs.Bitset.{judgedAs};
+ghost use Rattle.bitset.specs.BitList.{byIndex, byName, identified, partsReading, bitReading, bitsReading, listReading, listJudged};
+ghost use Rattle.entries.specs.Entry.{count};
+use crate::form::Form;
+use crate::form::Judged;
+use crate::form::Judgement;
+use crate::form::listed;
+use crate::form::refused;
+use crate::form::under_nomask;
+use crate::policies::INDEX;
+use crate::policies::NAME;
+use crate::policies::ON;
+use crate::policies::bit_policy;
+use crate::policies::bits_policy;
+use netlink::attributes::AttributeRead;
+use netlink::attributes::payload;
+use netlink::attributes::place;
+use netlink::attributes::read_attribute;
+use netlink::walk::Slot;
+use netlink::walk::Stop;
+use netlink::walk::slot_number;
+use netlink::walk::walk;
+use refusal::Refusal;
+use refusal::of_fault;
+
+// Which bit a BIT means: its number, or nothing where it has neither INDEX nor NAME.
+pub enum Identity {
+    Number(usize),
+    Neither,
+}
+
+// An INDEX or a NAME looked up.
+pub enum Looked {
+    Up(Identity),
+    Refused(Refusal),
+}
+
+// A BIT judged: the bit, and whether its VALUE flag stands.
+pub enum BitRead {
+    Bit { number: usize, on: bool },
+    Refused(Refusal),
+}
+
+fn by_index(s: &[u8], n: usize, index: Slot) -> Looked
+    ensures { λ r. ⌜ r ≡ byIndex (now (s .entry)) n index ⌝ }
+{
+    let number = slot_number(s, index) as usize;
+    if n <= number {
+        return Looked::Refused(Refusal::PastLength(place(index.start)));
+    }
+    Looked::Up(Identity::Number(number))
+}
+
+fn by_name(s: &[u8], names: &[u8], name: Slot) -> Looked
+    ensures { λ r. ⌜ r ≡ byName (now (s .entry)) (now (names .entry)) name ⌝ }
+{
+    let start = name.start;
+    let end = name.end;
+    let lookup = names::find_name(names, payload(s, start, end));
+    if lookup.found {
+        return Looked::Up(Identity::Number(lookup.bit));
+    }
+    Looked::Refused(Refusal::UnknownBit(place(start)))
+}
+
+// INDEX decides where both stand.
+fn identify(s: &[u8], names: &[u8], index: Slot, name: Slot) -> Looked
+    ensures { λ r. ⌜ r ≡ identified (now (s .entry)) (now (names .entry)) index name ⌝ }
+{
+    if index.present {
+        return by_index(s, names::count(names), index);
+    }
+    if name.present {
+        return by_name(s, names, name);
+    }
+    Looked::Up(Identity::Neither)
+}
+
+// Judges the parts of the BIT that stands at `at`.
+fn judge_parts(s: &[u8], names: &[u8], at: usize, index: Slot, name: Slot, on: Slot) -> BitRead
+    ensures { λ r. ⌜ r ≡ partsReading (now (s .entry)) (now (names .entry)) at index name on ⌝ }
+{
+    match identify(s, names, index, name) {
+        Looked::Refused(why) => BitRead::Refused(why),
+        Looked::Up(identity) => {
+            let Identity::Number(number) = identity else {
+                return BitRead::Refused(Refusal::NoBit(at));
+            };
+            BitRead::Bit {
+                number,
+                on: on.present,
+            }
+        }
+    }
+}
+
+// Judges the BIT whose contents are the bytes of s from `from` on.
+fn judge_bit(s: &[u8], names: &[u8], from: usize) -> BitRead
+    ensures { λ r. ⌜ r ≡ bitReading (now (s .entry)) (now (names .entry)) from ⌝ }
+{
+    let walked = walk(bit_policy(), s, from);
+    let stop = walked.stop;
+    if let Stop::At { fault, at } = stop {
+        return BitRead::Refused(of_fault(fault, at));
+    }
+    let index = walked.slots[INDEX];
+    let name = walked.slots[NAME];
+    let on = walked.slots[ON];
+    judge_parts(s, names, place(from), index, name, on)
+}
+
+// Judges each BIT in turn, and lists its bit. No setting moves before all are judged.
+fn judge_bits(s: &[u8], names: &[u8], from: usize) -> Judged
+    ensures { λ r. ⌜ r ≡ listJudged (bitsReading (now (s .entry)) (now (names .entry)) (attributes (now (s .entry)) from)) ⌝ }
+{
+    let mut form = Form {
+        mask: [0; 16],
+        value: [0; 16],
+    };
+    let mut at = from;
+    loop {
+        match read_attribute(s, at) {
+            AttributeRead::End => {
+                return Judged {
+                    judgement: Judgement::Accepted,
+                    form,
+                };
+            }
+            AttributeRead::Broken => {
+                return Judged {
+                    judgement: Judgement::Accepted,
+                    form,
+                };
+            }
+            AttributeRead::Attribute {
+                kind: _,
+                bits: _,
+                start,
+                end,
+                next,
+            } => match judge_bit(payload(s, 0, end), names, start) {
+                BitRead::Refused(why) => {
+                    return refused(why);
+                }
+                BitRead::Bit { number, on } => {
+                    form = listed(form, number, on);
+                    at = next;
+                }
+            },
+        }
+    }
+}
+
+// BITS is walked whole before the first BIT is opened.
+pub fn judge_list(s: &[u8], names: &[u8], nomask: Slot, bits: Slot) -> Judged
+    ensures { λ r. ⌜ r ≡ judgedAs (count (now (names .entry))) (listReading (now (s .entry)) (now (names .entry)) nomask bits) ⌝ }
+{
+    let start = bits.start;
+    let end = bits.end;
+    let contents = payload(s, 0, end);
+    let walked = walk(bits_policy(), contents, start);
+    let stop = walked.stop;
+    if let Stop::At { fault, at } = stop {
+        return refused(of_fault(fault, at));
+    }
+    let judged = judge_bits(contents, names, start);
+    if nomask.present {
+        return under_nomask(judged, names::count(names));
+    }
+    judged
+}

@@ -1,0 +1,137 @@
+-- The laws by which the family is proved: netlink's contracts are all that they use.
+use Prim.Native.Nat.{ℕ, _+_, _-_, _≤_, _<_}
+use mathlib.Core.Path.{_≡_, refl, sym, ap, _∙_}
+use mathlib.Core.List.{List, [], _∷_, _++_, append-assoc}
+use mathlib.Core.Bool.{Bool, true, false, cond, not}
+use lib.ListN.{length, getD, take, drop, length-append}
+use lib.Dec.{eqb, ltb}
+use native.Mathlib.Omega.{arith}
+use borrow.Author.Tests.{lt-ltb, le-ltb, eq-eqb, ne-eqb}
+use borrow.Rule.Slice.PartMut.{putMid}
+use Rattle.basics.specs.Put.{put}
+use Rattle.basics.proofs.Put.{put-nil, then-rest}
+use Rattle.netlink.specs.Headers.{messageHeaderAt, genericHeaderAt}
+use Rattle.netlink.specs.Attributes.{partOf}
+use Rattle.netlink.specs.Walk.{absent, walked, slotNumber}
+use Rattle.netlink.specs.declared.headers.MessageHeader.{MessageHeader}
+use Rattle.netlink.specs.declared.headers.MessageHeaderRead.{MessageHeaderRead}
+use Rattle.netlink.specs.declared.headers.MessageHeaderRead.the-variants as M
+use Rattle.netlink.specs.declared.headers.GenericHeader.{GenericHeader}
+use Rattle.netlink.specs.declared.headers.GenericHeaderRead.{GenericHeaderRead}
+use Rattle.netlink.specs.declared.headers.GenericHeaderRead.the-variants as G
+use Rattle.netlink.specs.declared.policy.Fault.{Fault}
+use Rattle.netlink.specs.declared.policy.Rule.{Rule}
+use Rattle.netlink.specs.declared.policy.Rule.the-variants as R
+use Rattle.netlink.specs.declared.walk.Slot.{Slot}
+use Rattle.netlink.specs.declared.walk.Stop.{Stop}
+use Rattle.netlink.specs.declared.walk.Stop.the-variants.{Whole, At}
+use Rattle.netlink.specs.declared.walk.Walked.{Walked}
+use Rattle.netlink.proofs.headers.Laws.{message-fits}
+use Rattle.netlink_write.specs.Page.{Wrote}
+use Rattle.netlink_write.specs.Headers.{messageHeaderBytes, genericHeaderBytes}
+use Rattle.netlink_write.specs.Attributes.{numbered}
+use Rattle.netlink_write.specs.Error.{errorMessage}
+use Rattle.netlink_write.specs.declared.error.Detail.{Detail}
+use Rattle.netlink_write.specs.declared.error.Detail.the-variants.{Nothing, Offset, MissTop, MissIn}
+use Rattle.echo.specs.Echo.{policy, onStop, numberReading, nestReading, topReading, onGeneric, requestReading, reply, onAsked, answerBytes, onHeader, answered}
+use Rattle.echo.specs.declared.Asked.{Asked}
+use Rattle.echo.specs.declared.Asked.the-variants.{Number, Refused}
+
+module _ (request : List ℕ) (nest : Slot) (c : List ℕ) (ec : c ≡ partOf request 0 (nest .end)) (p : List Rule) (ep : p ≡ policy R.Number)
+    (w : Walked) (ew : w ≡ walked p c (nest .start)) where
+  in-nest : nestReading request nest ≡ onStop (w .stop) (numberReading c (nest .start - 4) (getD (w .slots) 1 absent))
+  unfolding nestReading
+  in-nest = rw (← ec) (sym (ap (λ (x : Walked). onStop (x .stop) (numberReading c (nest .start - 4) (getD (x .slots) 1 absent))) (ew ∙ ap (λ (x : List Rule). walked x c (nest .start)) ep)))
+
+  pub nest-fault : (f : Fault) (at : ℕ) → w .stop ≡ At f at → Refused 22 (Offset at) ≡ nestReading request nest
+  nest-fault f at q = sym (in-nest ∙ ap (λ (x : Stop). onStop x (numberReading c (nest .start - 4) (getD (w .slots) 1 absent))) q)
+
+  module _ (q : w .stop ≡ Whole) where
+    whole-nest : nestReading request nest ≡ numberReading c (nest .start - 4) (getD (w .slots) 1 absent)
+    whole-nest = in-nest ∙ ap (λ (x : Stop). onStop x (numberReading c (nest .start - 4) (getD (w .slots) 1 absent))) q
+
+    pub nest-missing : (at : ℕ) → at ≡ nest .start - 4 → not (getD (w .slots) 1 absent .present) ≡ true → Refused 22 (MissIn 1 at) ≡ nestReading request nest
+    unfolding numberReading
+    nest-missing at ea h = rw ea (sym (whole-nest ∙ rw h))
+
+    pub nest-number : (x : ℕ) → not (getD (w .slots) 1 absent .present) ≡ false → x ≡ slotNumber c (getD (w .slots) 1 absent) → Number x ≡ nestReading request nest
+    unfolding numberReading
+    nest-number x h ex = rw ex (sym (whole-nest ∙ rw h))
+
+pub ruleset nest-laws = (nest-fault, nest-missing, nest-number)
+
+module _ (request : List ℕ) (g : GenericHeaderRead) (eg : g ≡ genericHeaderAt request 16) where
+  pub request-short : g ≡ G.Short → Refused 22 Nothing ≡ requestReading request
+  unfolding requestReading onGeneric
+  request-short q = sym (ap (onGeneric request) (sym eg ∙ q))
+
+  module _ (h : GenericHeader) (q : g ≡ G.Header h) where
+    pub request-command : (h .command ≡ 1 → ⊥) → Refused 95 Nothing ≡ requestReading request
+    unfolding requestReading onGeneric
+    request-command n = sym (ap (onGeneric request) (sym eg ∙ q) ∙ rw (ne-eqb (h .command) 1 n))
+
+    module _ (one : h .command ≡ 1) (p : List Rule) (ep : p ≡ policy R.Nest) (w : Walked) (ew : w ≡ walked p request 20) where
+      top : requestReading request ≡ onStop (w .stop) (topReading request (getD (w .slots) 1 absent))
+      unfolding requestReading onGeneric
+      top =
+          ap (onGeneric request) (sym eg ∙ q) ∙ rw (eq-eqb (h .command) 1 one)
+          (sym (ap (λ (x : Walked). onStop (x .stop) (topReading request (getD (x .slots) 1 absent))) (ew ∙ ap (λ (x : List Rule). walked x request 20) ep)))
+
+      pub request-fault : (f : Fault) (at : ℕ) → w .stop ≡ At f at → Refused 22 (Offset at) ≡ requestReading request
+      request-fault f at z = sym (top ∙ ap (λ (x : Stop). onStop x (topReading request (getD (w .slots) 1 absent))) z)
+
+      module _ (z : w .stop ≡ Whole) where
+        whole-top : requestReading request ≡ topReading request (getD (w .slots) 1 absent)
+        whole-top = top ∙ ap (λ (x : Stop). onStop x (topReading request (getD (w .slots) 1 absent))) z
+
+        pub request-missing : not (getD (w .slots) 1 absent .present) ≡ true → Refused 22 (MissTop 1) ≡ requestReading request
+        unfolding topReading
+        request-missing m = sym (whole-top ∙ rw m)
+
+        pub request-nest : (r : Asked) → not (getD (w .slots) 1 absent .present) ≡ false → r ≡ nestReading request (getD (w .slots) 1 absent)
+            → r ≡ requestReading request
+        unfolding topReading
+        request-nest r m e = e ∙ sym (whole-top ∙ rw m)
+
+pub ruleset request-laws = (request-short, request-command, request-fault, request-missing, request-nest)
+
+-- three writers in a row
+pub reply-wrote : (P : List ℕ) (h : MessageHeader) (x n : ℕ) (A B C : List ℕ) → 52 ≤ length P
+    → A ≡ put P (messageHeaderBytes (record { length = 32; kind = h .kind; flags = 0; sequence = h .sequence; port = h .port }))
+    → B ≡ put (take (length A - 16) (drop 16 A)) (genericHeaderBytes (record { command = 1; version = 1; reserved = 0 }))
+    → Wrote (numbered 1 x []) (take (length (putMid 16 (length A - 16) A B) - 20) (drop 20 (putMid 16 (length A - 16) A B))) C n
+    → Wrote (reply h x) P (putMid 20 (length (putMid 16 (length A - 16) A B) - 20) (putMid 16 (length A - 16) A B) C) (n + 20)
+unfolding reply messageHeaderBytes genericHeaderBytes
+reply-wrote P h x n A B C room a b w =
+    let head = messageHeaderBytes (record { length = 32; kind = h .kind; flags = 0; sequence = h .sequence; port = h .port }) in
+    let generic = genericHeaderBytes (record { command = 1; version = 1; reserved = 0 }) in
+    let two = then-rest P head generic 16 refl (omega arith) a b in
+    record {
+      count = omega (arith, w .count);
+      page = then-rest P (head ++ generic) (numbered 1 x []) 20 refl (omega arith) two (w .page);
+    }
+
+module _ (request before : List ℕ) where
+  pub answered-room : length before < 52 → Wrote (answered request (length before)) before before 0
+  unfolding answered
+  answered-room h = rw (lt-ltb _ _ h) (record { count = refl; page = sym (put-nil before) })
+
+  module _ (h : 52 ≤ length before) (m : MessageHeaderRead) (em : m ≡ messageHeaderAt request 0) where
+    pub answered-short : m ≡ M.Short → Wrote (answered request (length before)) before before 0
+    unfolding answered
+    answered-short q = rw (le-ltb _ _ h, ← em, q) (record { count = refl; page = sym (put-nil before) })
+
+    module _ (d : MessageHeader) (q : m ≡ M.Header d) (a : Asked) (ea : a ≡ requestReading request) (after : List ℕ) (r : ℕ) where
+      pub answered-number : (x : ℕ) → a ≡ Number x → Wrote (reply d x) before after r → Wrote (answered request (length before)) before after r
+      unfolding answered answerBytes
+      answered-number x z w = rw (le-ltb _ _ h, ← em, q, ← ea, z) w
+
+      pub answered-refused : (errno : ℕ) (e : Detail) → a ≡ Refused errno e → Wrote (errorMessage request errno e) before after r
+          → Wrote (answered request (length before)) before after r
+      unfolding answered answerBytes
+      answered-refused errno e z w = rw (le-ltb _ _ h, ← em, q, ← ea, z) w
+
+    pub answered-fits : (d : MessageHeader) → m ≡ M.Header d → 16 ≤ length request
+    answered-fits d q = let f = message-fits request 0 m em d q in omega arith
+
+pub ruleset answered-laws = (answered-room, answered-short, answered-number, answered-refused, answered-fits)

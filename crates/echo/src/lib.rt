@@ -1,0 +1,118 @@
+// A made-up family over netlink alone: its one command takes a header nest with a number, and is answered with that number.
+ghost use mathlib.Core.Path.{_≡_};
+ghost use Prim.Native.Nat.{_≤_};
+ghost use lib.ListN.{length};
+ghost use Rattle.netlink_write.specs.Page.{Wrote};
+ghost use Rattle.echo.specs.Echo.{policy, nestReading, requestReading, reply, answerBytes, answered};
+use netlink::attributes::payload;
+use netlink::attributes::place;
+use netlink::headers::GenericHeader;
+use netlink::headers::GenericHeaderRead;
+use netlink::headers::MessageHeader;
+use netlink::headers::MessageHeaderRead;
+use netlink::policy::Rule;
+use netlink::walk::Slot;
+use netlink::walk::Stop;
+use netlink::walk::slot_number;
+use netlink::walk::walk;
+use netlink_write::attributes::put_numbered;
+use netlink_write::error::Detail;
+use netlink_write::error::put_error;
+use netlink_write::headers::put_generic_header;
+use netlink_write::headers::put_message_header;
+
+// What a request asks: the number, or why it is refused.
+pub enum Asked {
+    Number(u32),
+    Refused(u32, Detail),
+}
+
+// Type 1 alone: at the top level the header nest, in it the number.
+fn policy(first: Rule) -> [Rule; 8]
+    ensures { λ r. ⌜ r ≡ policy first ⌝ }
+{
+    let no = Rule::Unlisted;
+    [no, first, no, no, no, no, no, no]
+}
+
+// Reads the header nest. A place in it counts from the request's start, since the nest is walked in the request cut at its end.
+fn read_nest(request: &[u8], nest: Slot) -> Asked
+    ensures { λ r. ⌜ r ≡ nestReading (now (request .entry)) nest ⌝ }
+{
+    let start = nest.start;
+    let end = nest.end;
+    let contents = payload(request, 0, end);
+    let walked = walk(policy(Rule::Number), contents, start);
+    let stop = walked.stop;
+    if let Stop::At { fault: _, at } = stop {
+        return Asked::Refused(22, Detail::Offset(at));
+    }
+    let number = walked.slots[1];
+    if !number.present {
+        return Asked::Refused(22, Detail::MissIn(1, place(start)));
+    }
+    Asked::Number(slot_number(contents, number))
+}
+
+fn read_request(request: &[u8]) -> Asked
+    ensures { λ r. ⌜ r ≡ requestReading (now (request .entry)) ⌝ }
+{
+    let GenericHeaderRead::Header(generic) = GenericHeader::read(request, 16) else {
+        return Asked::Refused(22, Detail::Nothing);
+    };
+    if generic.command != 1 {
+        return Asked::Refused(95, Detail::Nothing);
+    }
+    let walked = walk(policy(Rule::Nest), request, 20);
+    let stop = walked.stop;
+    if let Stop::At { fault: _, at } = stop {
+        return Asked::Refused(22, Detail::Offset(at));
+    }
+    let nest = walked.slots[1];
+    if !nest.present {
+        return Asked::Refused(22, Detail::MissTop(1));
+    }
+    read_nest(request, nest)
+}
+
+// The reply: 32 bytes.
+fn put_reply(page: &mut [u8], h: MessageHeader, number: u32) -> usize
+    requires { ⌜ 52 ≤ length (now page) ⌝ }
+    ensures { λ r. ⌜ Wrote (reply h number) (now (page .entry)) (now (page .exit)) r ⌝ }
+{
+    put_message_header(
+        page,
+        MessageHeader {
+            length: 32,
+            kind: h.kind,
+            flags: 0,
+            sequence: h.sequence,
+            port: h.port,
+        },
+    );
+    put_generic_header(
+        &mut page[16..],
+        GenericHeader {
+            command: 1,
+            version: 1,
+            reserved: 0,
+        },
+    );
+    put_numbered(&mut page[20..], 1, number, b"") + 20
+}
+
+// Answers a request, one message of a datagram. With fewer than 16 bytes of it, or a page below 52, nothing is written.
+pub fn answer(request: &[u8], page: &mut [u8]) -> usize
+    ensures { λ r. ⌜ Wrote (answered (now (request .entry)) (length (now (page .entry)))) (now (page .entry)) (now (page .exit)) r ⌝ }
+{
+    if page.len() < 52 {
+        return 0;
+    }
+    let MessageHeaderRead::Header(header) = MessageHeader::read(request, 0) else {
+        return 0;
+    };
+    match read_request(request) {
+        Asked::Number(number) => put_reply(page, header, number),
+        Asked::Refused(errno, detail) => put_error(page, request, errno, detail),
+    }
+}

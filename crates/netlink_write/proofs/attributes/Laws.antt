@@ -1,0 +1,150 @@
+-- Laws of attributes and nests: their lengths, and one for the return of each writer.
+use Prim.Native.Nat.{ℕ, zero, suc, _+_, _-_, _%_, _≤_}
+use mathlib.Core.Path.{_≡_, refl, sym, ap, _∙_}
+use mathlib.Core.List.{List, [], _∷_, _++_, append-assoc, append-nil}
+use native.Mathlib.Omega.{arith}
+use borrow.Rule.Slice.PartMut.{putMid}
+use borrow.Author.Tests.{eq-eqb, ne-eqb}
+use lib.ListN.{length, take, drop, replicate, length-append, length-replicate}
+use lib.Seq.{length-take-le}
+use Rattle.basics.specs.Numbers.{le32}
+use Rattle.netlink.specs.Lengths.{roundUp4}
+use Rattle.netlink.specs.Policy.{nulAt}
+use Rattle.basics.specs.Put.{put}
+use Rattle.netlink_write.specs.Page.{Wrote}
+use Rattle.netlink_write.specs.Headers.{attributeHeaderBytes}
+use Rattle.netlink_write.specs.Attributes.{padding, attr, filled, nest, nameBytes, named, identity, numbered}
+use Rattle.basics.proofs.Put.{then-rest}
+use Rattle.netlink_write.proofs.Page.{then-front, then-sized}
+use Rattle.netlink_write.proofs.headers.Laws.{length-attribute-header}
+
+-- an attribute is as long as the step to the next
+pub length-attr : (kind : ℕ) (payload : List ℕ) → length (attr kind payload) ≡ roundUp4 (length payload + 4)
+unfolding attr padding
+length-attr kind payload = simp (length-append, length-attribute-header, length-replicate) (omega arith)
+
+pub length-nest : (kind : ℕ) (contents : List ℕ) → length (nest kind contents) ≡ length contents + 4
+unfolding nest
+length-nest kind contents = simp (length-append, length-attribute-header) (omega arith)
+
+-- a payload of whole words has no padding
+pub attr-whole : (kind : ℕ) (payload : List ℕ) → length payload % 4 ≡ 0 → attr kind payload ≡ attributeHeaderBytes (length payload + 4) kind ++ payload
+unfolding attr padding
+attr-whole kind payload z =
+    let e : roundUp4 (length payload + 4) - (length payload + 4) ≡ 0 = omega arith in
+    ap (λ (k : ℕ). attributeHeaderBytes (length payload + 4) kind ++ (payload ++ replicate k 0)) e
+    ∙ ap (λ (l : List ℕ). attributeHeaderBytes (length payload + 4) kind ++ l) (append-nil payload)
+
+-- a payload of n bytes, a multiple of 4, past the header's four bytes, then close_attribute
+pub attribute-wrote : (P ys zs bs : List ℕ) (kind n r : ℕ) → 4 ≤ length P → n ≡ length bs → n % 4 ≡ 0
+    → ys ≡ put (take (length P - 4) (drop 4 P)) bs → r ≡ n + 4
+    → zs ≡ put (putMid 4 (length P - 4) P ys) (attributeHeaderBytes (n + 4) kind) → Wrote (attr kind bs) P zs r
+attribute-wrote P ys zs bs kind n r room e z p er q =
+    let h : ℕ → List ℕ = λ k. attributeHeaderBytes (k + 4) kind in
+    record {
+      count = omega (arith, length-attr kind bs);
+      page = then-sized P h bs 4 n (length-attribute-header _ _) room e p q ∙ ap (put P) (sym (attr-whole kind bs (omega arith)));
+    }
+
+pub number-wrote : (P ys zs : List ℕ) (kind x r : ℕ) → 8 ≤ length P → ys ≡ put (take (length P - 4) (drop 4 P)) (le32 x) → r ≡ 8
+    → zs ≡ put (putMid 4 (length P - 4) P ys) (attributeHeaderBytes 8 kind) → Wrote (attr kind (le32 x)) P zs r
+number-wrote P ys zs kind x r room p er q = attribute-wrote P ys zs (le32 x) kind 4 r (omega arith) refl refl p er q
+
+-- contents of n bytes past the nest's own four bytes, then close_nest
+pub nest-wrote : (P ys zs cs : List ℕ) (kind n r : ℕ) → 4 ≤ length P → Wrote cs (take (length P - 4) (drop 4 P)) ys n → r ≡ n + 4
+    → zs ≡ put (putMid 4 (length P - 4) P ys) (attributeHeaderBytes (n + 4) (kind + 32768)) → Wrote (nest kind cs) P zs r
+unfolding nest
+nest-wrote P ys zs cs kind n r room w er q =
+    let h : ℕ → List ℕ = λ k. attributeHeaderBytes (k + 4) (kind + 32768) in
+    record {
+      count = omega (arith, w .count, length-append (h (length cs)) cs, length-attribute-header (length cs + 4) (kind + 32768));
+      page = then-sized P h cs 4 n (length-attribute-header _ _) room (w .count) (w .page) q;
+    }
+
+-- a flag is its header
+pub flag-wrote : (P Q : List ℕ) (kind : ℕ) → Q ≡ put P (attributeHeaderBytes 4 kind) → Wrote (attr kind []) P Q 4
+flag-wrote P Q kind q =
+    record {
+      count = sym (length-attr kind []);
+      page = q ∙ ap (put P) (sym (attr-whole kind [] refl ∙ append-nil (attributeHeaderBytes 4 kind)));
+    }
+
+-- an attribute of a stated length
+pub filled-wrote : (P payload B C : List ℕ) (kind stated next : ℕ) → stated + 3 ≤ length P → length payload + 4 ≤ stated → next ≡ roundUp4 stated
+    → B ≡ put (take (length P - 4) (drop 4 P)) (payload ++ replicate (next - 4 - length payload) 0)
+    → C ≡ put (putMid 4 (length P - 4) P B) (attributeHeaderBytes stated kind) → Wrote (filled kind stated payload) P C next
+unfolding filled
+filled-wrote P payload B C kind stated next room fits en b c =
+    let zs : List ℕ = replicate (roundUp4 stated - 4 - length payload) 0 in
+    let head = attributeHeaderBytes stated kind in
+    record {
+      count = simp (length-append, length-attribute-header, length-replicate) (omega arith);
+      page = then-front P head (payload ++ zs) 4 (length-attribute-header stated kind) (omega arith) (rw en at b) c;
+    }
+
+-- it is an attribute where the payload fills it
+filled-attr : (kind stated : ℕ) (payload : List ℕ) → stated ≡ length payload + 4 → filled kind stated payload ≡ attr kind payload
+unfolding filled attr padding
+filled-attr kind stated payload e =
+    let z : roundUp4 stated - 4 - length payload ≡ roundUp4 stated - stated = omega arith in
+    ap (λ (k : ℕ). attributeHeaderBytes stated kind ++ (payload ++ replicate k 0)) z
+    ∙ ap (λ (k : ℕ). attributeHeaderBytes k kind ++ (payload ++ replicate (roundUp4 k - k) 0)) e
+
+pub attribute-filled : (P Q payload : List ℕ) (kind stated r : ℕ) → stated ≡ length payload + 4
+    → Wrote (filled kind stated payload) P Q r → Wrote (attr kind payload) P Q r
+attribute-filled P Q payload kind stated r e w = rw (filled-attr kind stated payload e) at w
+
+-- one zero more than the payload: the NUL of a name
+filled-nul : (kind : ℕ) (p : List ℕ) → filled kind (length p + 5) p ≡ attr kind (p ++ (0 ∷ []))
+unfolding filled attr padding
+filled-nul kind p =
+    let z = roundUp4 (length p + 5) - (length p + 5) in
+    let more : roundUp4 (length p + 5) - 4 - length p ≡ suc z = omega arith in
+    let long : length (p ++ (0 ∷ [])) + 4 ≡ length p + 5 = omega (arith, length-append p (0 ∷ [])) in
+    ap (λ (k : ℕ). attributeHeaderBytes (length p + 5) kind ++ (p ++ replicate k 0)) more
+    ∙ ap (λ (l : List ℕ). attributeHeaderBytes (length p + 5) kind ++ l) (sym (append-assoc p (0 ∷ []) (replicate z 0)))
+    ∙ ap (λ (k : ℕ). attributeHeaderBytes k kind ++ ((p ++ (0 ∷ [])) ++ replicate (roundUp4 k - k) 0)) (sym long)
+
+pub nul-le : (s : List ℕ) → nulAt s ≤ length s
+unfolding nulAt
+nul-le [] = omega arith
+nul-le (zero ∷ s) = omega arith
+nul-le (suc b ∷ s) = omega (arith, nul-le s)
+
+-- the bytes of a name before its first NUL
+pub length-name : (name : List ℕ) (n : ℕ) → n ≡ nulAt name → length (take n name) ≡ n
+length-name name n e = length-take-le n name (omega (arith, nul-le name))
+
+pub name-filled : (P Q name : List ℕ) (kind n stated r : ℕ) → n ≡ nulAt name → stated ≡ n + 5
+    → Wrote (filled kind stated (take n name)) P Q r → Wrote (attr kind (nameBytes name)) P Q r
+unfolding nameBytes
+name-filled P Q name kind n stated r e es w =
+    let l : stated ≡ length (take n name) + 5 = omega (arith, length-name name n e) in
+    rw (← e) (rw (filled-nul kind (take n name)) at (rw l at w))
+
+-- what identifies a thing, without a name and with one
+module _ (name : List ℕ) (number n : ℕ) (e : n ≡ nulAt name) where
+  pub identity-plain : (P Q : List ℕ) (k : ℕ) → n ≡ 0 → k ≡ 8 → Wrote (attr 1 (le32 number)) P Q k → Wrote (identity number name) P Q 8
+  unfolding identity named
+  identity-plain P Q k z ek w =
+      rw (eq-eqb (nulAt name) 0 (sym e ∙ z), append-nil (attr 1 (le32 number)), ← ek) w
+
+  pub identity-named : (P A B : List ℕ) (k m : ℕ) → (n ≡ 0 → ⊥) → length name + 16 ≤ length P → k ≡ 8 → Wrote (attr 1 (le32 number)) P A k
+      → Wrote (attr 2 (nameBytes name)) (take (length A - 8) (drop 8 A)) B m → Wrote (identity number name) P (putMid 8 (length A - 8) A B) (m + 8)
+  unfolding identity named
+  identity-named P A B k m z room ek a b =
+      let one = attr 1 (le32 number) in
+      let two = attr 2 (nameBytes name) in
+      rw (ne-eqb (nulAt name) 0 (λ q. z (e ∙ q)))
+      (record {
+        count = omega (arith, a .count, b .count, length-append one two);
+        page = then-rest P one two 8 (sym (a .count) ∙ ek) (omega (arith, a .count)) (a .page) (b .page);
+      })
+
+pub ruleset identity-laws = (identity-plain, identity-named)
+
+-- the nest of it
+pub numbered-wrote : (P ys zs name : List ℕ) (kind number n r : ℕ) → length name + 20 ≤ length P → Wrote (identity number name) (take (length P - 4) (drop 4 P)) ys n
+    → r ≡ n + 4 → zs ≡ put (putMid 4 (length P - 4) P ys) (attributeHeaderBytes (n + 4) (kind + 32768)) → Wrote (numbered kind number name) P zs r
+unfolding numbered
+numbered-wrote P ys zs name kind number n r room w er q = nest-wrote P ys zs (identity number name) kind n r (omega arith) w er q

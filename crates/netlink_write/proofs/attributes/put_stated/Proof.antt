@@ -1,0 +1,53 @@
+use Rattle.netlink_write.proofs.attributes.Laws.{filled-wrote}
+use borrow.Author.Needs.{needs}
+use Rattle.netlink_write.proofs.attributes.put_stated.Statement.{statement}
+use Rattle.netlink_write.proofs.attributes.put_stated.Tie as tie
+
+cast-t7 : tie.Need-cast-t7
+cast-t7 c = search needs
+
+step-requires : tie.Need-step-requires
+step-requires c κs = search needs
+
+sub-put-filled : tie.Need-sub-put-filled
+sub-put-filled c = search needs
+
+part-put-filled-start : tie.Need-part-put-filled-start
+part-put-filled-start c = search needs
+
+part-put-filled-end : tie.Need-part-put-filled-end
+part-put-filled-end c = search needs
+
+sub-put-filled-2 : tie.Need-sub-put-filled-2
+sub-put-filled-2 c = search needs
+
+put-filled-requires : tie.Need-put-filled-requires
+put-filled-requires c κs = search needs
+
+cast-put-attribute-header : tie.Need-cast-put-attribute-header
+cast-put-attribute-header c = search needs
+
+put-attribute-header-requires : tie.Need-put-attribute-header-requires
+put-attribute-header-requires c κs = search needs
+
+same-length : tie.Need-same-length
+same-length c = search needs
+
+returns : tie.Need-returns
+returns c = search (needs, filled-wrote)
+
+pub put-stated-spec : {M : Type 1} → statement M
+put-stated-spec =
+    tie.close
+    (tie.spec
+    cast-t7
+    step-requires
+    sub-put-filled
+    part-put-filled-start
+    part-put-filled-end
+    sub-put-filled-2
+    put-filled-requires
+    cast-put-attribute-header
+    put-attribute-header-requires
+    same-length
+    returns)

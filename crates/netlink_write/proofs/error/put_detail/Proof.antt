@@ -1,0 +1,85 @@
+use Rattle.netlink_write.proofs.error.Laws.{detail-laws}
+use borrow.Author.Needs.{needs}
+use Rattle.netlink_write.proofs.error.put_detail.Statement.{statement}
+use Rattle.netlink_write.proofs.error.put_detail.Tie as tie
+
+enum-told : tie.Need-enum-told
+enum-told c = search needs
+
+enum-known-detail : tie.Need-enum-known-detail
+enum-known-detail c = search needs
+
+put-low-number-requires : tie.Need-put-low-number-requires
+put-low-number-requires c κs = search needs
+
+enum-known-detail-2 : tie.Need-enum-known-detail-2
+enum-known-detail-2 c = search needs
+
+put-low-number-requires-2 : tie.Need-put-low-number-requires-2
+put-low-number-requires-2 c κs = search needs
+
+enum-known-detail-3 : tie.Need-enum-known-detail-3
+enum-known-detail-3 c = search needs
+
+put-low-number-requires-3 : tie.Need-put-low-number-requires-3
+put-low-number-requires-3 c κs = search needs
+
+sub-put-low-number : tie.Need-sub-put-low-number
+sub-put-low-number c = search needs
+
+part-put-low-number-start : tie.Need-part-put-low-number-start
+part-put-low-number-start c = search needs
+
+part-put-low-number-end : tie.Need-part-put-low-number-end
+part-put-low-number-end c = search needs
+
+put-low-number-requires-4 : tie.Need-put-low-number-requires-4
+put-low-number-requires-4 c κs = search needs
+
+add-result : tie.Need-add-result
+add-result c = search needs
+
+returns : tie.Need-returns
+returns c = search (needs, detail-laws)
+
+same-length : tie.Need-same-length
+same-length c = search needs
+
+returns-2 : tie.Need-returns-2
+returns-2 c = search (needs, detail-laws)
+
+same-length-2 : tie.Need-same-length-2
+same-length-2 c = search needs
+
+returns-3 : tie.Need-returns-3
+returns-3 c = search (needs, detail-laws)
+
+same-length-3 : tie.Need-same-length-3
+same-length-3 c = search needs
+
+returns-4 : tie.Need-returns-4
+returns-4 c = search (needs, detail-laws)
+
+pub put-detail-spec : {M : Type 1} → statement M
+put-detail-spec =
+    tie.close
+    (tie.spec
+    enum-told
+    enum-known-detail
+    put-low-number-requires
+    enum-known-detail-2
+    put-low-number-requires-2
+    enum-known-detail-3
+    put-low-number-requires-3
+    sub-put-low-number
+    part-put-low-number-start
+    part-put-low-number-end
+    put-low-number-requires-4
+    add-result
+    returns
+    same-length
+    returns-2
+    same-length-2
+    returns-3
+    same-length-3
+    returns-4)

@@ -1,0 +1,4 @@
+pub mod Page
+pub mod Headers
+pub mod Attributes
+pub mod Error

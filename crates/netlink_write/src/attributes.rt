@@ -1,0 +1,121 @@
+// Attributes and nests. All padding is written, as 0, and counted.
+ghost use mathlib.Core.Path.{_≡_};
+ghost use Prim.Native.Nat.{_+_, _≤_, _<_};
+ghost use mathlib.Core.List.{[]};
+ghost use lib.ListN.{length};
+ghost use Rattle.basics.specs.Numbers.{le32};
+ghost use Rattle.basics.specs.Put.{put};
+ghost use Rattle.netlink_write.specs.Page.{Wrote};
+ghost use Rattle.netlink_write.specs.Headers.{attributeHeaderBytes};
+ghost use Rattle.netlink_write.specs.Attributes.{attr, filled, nest, nameBytes, identity, numbered};
+use crate::bytes::put_filled;
+use crate::headers::put_attribute_header;
+use crate::numbers::put_low;
+use netlink::lengths::Stated;
+use netlink::policy::nul_at;
+
+// An attribute.
+pub fn put_attribute(page: &mut [u8], kind: u16, payload: &[u8]) -> usize
+    requires { ⌜ (length (now payload) ≤ 65531) × (length (now payload) + 7 ≤ length (now page)) ⌝ }
+    ensures { λ r. ⌜ Wrote (attr kind (now (payload .entry))) (now (page .entry)) (now (page .exit)) r ⌝ }
+    ensures { λ r. ⌜ r ≤ length (now (payload .entry)) + 7 ⌝ }
+{
+    put_stated(page, kind, payload, payload.len() + 4)
+}
+
+// A name: its bytes before the first NUL, and one NUL.
+pub fn put_name(page: &mut [u8], kind: u16, name: &[u8]) -> usize
+    requires { ⌜ (length (now name) ≤ 256) × (length (now name) + 8 ≤ length (now page)) ⌝ }
+    ensures { λ r. ⌜ Wrote (attr kind (nameBytes (now (name .entry)))) (now (page .entry)) (now (page .exit)) r ⌝ }
+    ensures { λ r. ⌜ r ≤ length (now (name .entry)) + 8 ⌝ }
+{
+    let n = nul_at(name);
+    put_stated(page, kind, &name[..n], n + 5)
+}
+
+// An attribute of a stated length: the payload, then zeros up to the step.
+fn put_stated(page: &mut [u8], kind: u16, payload: &[u8], stated: usize) -> usize
+    requires { ⌜ (length (now payload) + 4 ≤ stated) × (stated ≤ 65535) × (stated + 3 ≤ length (now page)) ⌝ }
+    ensures { λ r. ⌜ Wrote (filled kind stated (now (payload .entry))) (now (page .entry)) (now (page .exit)) r ⌝ }
+    ensures { λ r. ⌜ r ≤ stated + 3 ⌝ }
+{
+    let step = Stated(stated as u32).step();
+    let next = step.0;
+    put_filled(&mut page[4..], payload, next - 4);
+    put_attribute_header(page, stated as u16, kind);
+    next
+}
+
+// A flag: no payload.
+pub fn put_flag(page: &mut [u8], kind: u16) -> usize
+    requires { ⌜ 4 ≤ length (now page) ⌝ }
+    ensures { λ r. ⌜ Wrote (attr kind []) (now (page .entry)) (now (page .exit)) r ⌝ }
+    ensures { λ r. ⌜ r ≡ 4 ⌝ }
+{
+    put_attribute_header(page, 4, kind);
+    4
+}
+
+// A number of 32 bits.
+pub fn put_number(page: &mut [u8], kind: u16, x: u32) -> usize
+    requires { ⌜ 8 ≤ length (now page) ⌝ }
+    ensures { λ r. ⌜ Wrote (attr kind (le32 x)) (now (page .entry)) (now (page .exit)) r ⌝ }
+    ensures { λ r. ⌜ r ≡ 8 ⌝ }
+{
+    put_low_number(page, kind, x as usize)
+}
+
+// The low 32 bits of a number, as a place in a message is told.
+pub fn put_low_number(page: &mut [u8], kind: u16, x: usize) -> usize
+    requires { ⌜ 8 ≤ length (now page) ⌝ }
+    ensures { λ r. ⌜ Wrote (attr kind (le32 x)) (now (page .entry)) (now (page .exit)) r ⌝ }
+    ensures { λ r. ⌜ r ≡ 8 ⌝ }
+{
+    put_low(&mut page[4..], x);
+    close_attribute(page, kind, 4)
+}
+
+// The header of an attribute whose payload, a multiple of 4 bytes, already stands behind it.
+pub fn close_attribute(page: &mut [u8], kind: u16, payload: usize) -> usize
+    requires { ⌜ (payload ≤ 65531) × (4 ≤ length (now page)) ⌝ }
+    ensures { λ r. ⌜ r ≡ payload + 4 ⌝ }
+    ensures { λ _. ⌜ now (page .exit) ≡ put (now (page .entry)) (attributeHeaderBytes (payload + 4) kind) ⌝ }
+{
+    let stated = payload + 4;
+    put_attribute_header(page, stated as u16, kind);
+    stated
+}
+
+// The header of a nest whose contents, all their padding counted, already stand behind it.
+pub fn close_nest(page: &mut [u8], kind: u16, contents: usize) -> usize
+    requires { ⌜ (kind < 16384) × (contents ≤ 65531) × (4 ≤ length (now page)) ⌝ }
+    ensures { λ r. ⌜ r ≡ contents + 4 ⌝ }
+    ensures { λ _. ⌜ now (page .exit) ≡ put (now (page .entry)) (attributeHeaderBytes (contents + 4) (kind + 32768)) ⌝ }
+{
+    close_attribute(page, kind + 0x8000, contents)
+}
+
+// A nest that identifies a thing by its number and, where it has one, its name.
+pub fn put_numbered(page: &mut [u8], kind: u16, number: u32, name: &[u8]) -> usize
+    requires { ⌜ (kind < 16384) × (length (now name) ≤ 256) × (length (now name) + 20 ≤ length (now page)) ⌝ }
+    ensures { λ r. ⌜ Wrote (numbered kind number (now (name .entry))) (now (page .entry)) (now (page .exit)) r ⌝ }
+    ensures { λ r. ⌜ r ≤ length (now (name .entry)) + 20 ⌝ }
+{
+    let contents = put_identity(&mut page[4..], number, name);
+    close_nest(page, kind, contents)
+}
+
+// What that nest holds.
+fn put_identity(page: &mut [u8], number: u32, name: &[u8]) -> usize
+    requires { ⌜ (length (now name) ≤ 256) × (length (now name) + 16 ≤ length (now page)) ⌝ }
+    ensures { λ r. ⌜ Wrote (identity number (now (name .entry))) (now (page .entry)) (now (page .exit)) r ⌝ }
+    ensures { λ r. ⌜ r ≤ length (now (name .entry)) + 16 ⌝ }
+{
+    put_number(page, 1, number);
+    let n = nul_at(name);
+    if n == 0 {
+        return 8;
+    }
+    let m = put_name(&mut page[8..], 2, name);
+    m + 8
+}

@@ -1,0 +1,40 @@
+// Runs of bytes.
+ghost use mathlib.Core.Path.{_≡_};
+ghost use Prim.Native.Nat.{_≤_, _-_};
+ghost use mathlib.Core.List.{_++_};
+ghost use lib.ListN.{length, replicate};
+ghost use Rattle.basics.specs.Put.{put};
+
+// A copy of the bytes.
+pub fn put_bytes(page: &mut [u8], bytes: &[u8])
+    requires { ⌜ length (now bytes) ≤ length (now page) ⌝ }
+    ensures { λ _. ⌜ now (page .exit) ≡ put (now (page .entry)) (now (bytes .entry)) ⌝ }
+{
+    let mut i = 0;
+    while i < bytes.len() {
+        page[i] = bytes[i];
+        i += 1;
+    }
+}
+
+// n zero bytes.
+pub fn put_zeros(page: &mut [u8], n: usize)
+    requires { ⌜ n ≤ length (now page) ⌝ }
+    ensures { λ _. ⌜ now (page .exit) ≡ put (now (page .entry)) (replicate n 0) ⌝ }
+{
+    let mut i = 0;
+    while i < n {
+        page[i] = 0;
+        i += 1;
+    }
+}
+
+// A copy of the bytes, then zero bytes up to a total of n.
+pub fn put_filled(page: &mut [u8], bytes: &[u8], n: usize)
+    requires { ⌜ (length (now bytes) ≤ n) × (n ≤ length (now page)) ⌝ }
+    ensures { λ _. ⌜ now (page .exit) ≡ put (now (page .entry)) (now (bytes .entry) ++ replicate (n - length (now (bytes .entry))) 0) ⌝ }
+{
+    let k = bytes.len();
+    put_bytes(page, bytes);
+    put_zeros(&mut page[k..], n - k);
+}

@@ -1,0 +1,65 @@
+//! A case: all inputs of one call.
+
+use super::hex;
+use std::fmt::{Display, Formatter, Result};
+
+/// Inputs of the handler.
+#[derive(Clone, Debug, PartialEq, Eq)]
+pub struct HandleCase {
+    pub family: u32,
+    pub admin: u32,
+    pub roll: Vec<u8>,
+    pub debug_names: Vec<u8>,
+    pub flag_names: Vec<u8>,
+    pub settings: Vec<u8>,
+    pub datagram: Vec<u8>,
+    pub position: u64,
+    /// The page as it is before the call.
+    pub page: Vec<u8>,
+}
+
+/// Inputs of the normaliser.
+#[derive(Clone, Debug, PartialEq, Eq)]
+pub struct NormaliseCase {
+    pub contents: Vec<u8>,
+    pub names: Vec<u8>,
+    /// The page as it is before the call.
+    pub page: Vec<u8>,
+}
+
+/// One call.
+#[derive(Clone, Debug, PartialEq, Eq)]
+pub enum Case {
+    Handle(HandleCase),
+    Normalise(NormaliseCase),
+}
+
+impl Display for HandleCase {
+    fn fmt(&self, out: &mut Formatter) -> Result {
+        writeln!(out, "handle\nfamily {}\nadmin {}", self.family, self.admin)?;
+        writeln!(out, "roll {}", hex(&self.roll))?;
+        writeln!(out, "debug_names {}", hex(&self.debug_names))?;
+        writeln!(out, "flag_names {}", hex(&self.flag_names))?;
+        writeln!(out, "settings {}", hex(&self.settings))?;
+        writeln!(out, "datagram {}", hex(&self.datagram))?;
+        writeln!(out, "position {}", self.position)?;
+        writeln!(out, "page {} bytes, {}", self.page.len(), hex(&self.page))
+    }
+}
+
+impl Display for NormaliseCase {
+    fn fmt(&self, out: &mut Formatter) -> Result {
+        writeln!(out, "normalise\ncontents {}", hex(&self.contents))?;
+        writeln!(out, "names {}", hex(&self.names))?;
+        writeln!(out, "page {} bytes, {}", self.page.len(), hex(&self.page))
+    }
+}
+
+impl Display for Case {
+    fn fmt(&self, out: &mut Formatter) -> Result {
+        match self {
+            Case::Handle(case) => case.fmt(out),
+            Case::Normalise(case) => case.fmt(out),
+        }
+    }
+}

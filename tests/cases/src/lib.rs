@@ -1,0 +1,26 @@
+//! Cases for the handler and the normaliser, each made from a seed and its number alone.
+//!
+//! A case begins as a right box and a valid request of one of the four commands, in one of its many forms. Then it is
+//! damaged none to three times: in the tree of attributes, in what the attributes say, in the message, in the datagram,
+//! in the page or in the box. Small boxes dominate; every hundredth or so is large.
+
+#![forbid(unsafe_code)]
+
+mod bad_box;
+mod bad_message;
+mod bad_tree;
+mod bad_words;
+mod bitsets;
+mod boxes;
+mod case;
+mod datagrams;
+mod hex;
+mod making;
+mod names;
+mod requests;
+mod rng;
+mod tree;
+
+pub use case::{Case, HandleCase, NormaliseCase};
+pub use hex::hex;
+pub use making::case;

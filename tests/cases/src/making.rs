@@ -1,0 +1,151 @@
+//! One case from a seed and a number.
+
+use super::boxes::{self, BoxBytes, Model};
+use super::case::{Case, HandleCase, NormaliseCase};
+use super::datagrams;
+use super::requests::Request;
+use super::rng::Rng;
+use super::tree::write_all;
+use super::{bad_box, bad_message, bad_tree, bad_words, bitsets};
+
+/// Shortest answer page of the handler.
+const ANSWER_PAGE: usize = 32_768;
+/// Shortest page of the normaliser.
+const FORM_PAGE: usize = 144;
+/// Longest contents of the normaliser.
+const LONGEST: usize = 32_768;
+
+/// The case with this number of a seed.
+pub fn case(seed: u64, number: u64) -> Case {
+    let mut rng = Rng::new(seed, number);
+    match rng.per_mille(150) {
+        true => Case::Normalise(normalise(&mut rng)),
+        false => Case::Handle(handle(&mut rng)),
+    }
+}
+
+/// How often a case is damaged.
+fn damages(rng: &mut Rng) -> usize {
+    rng.weighted(&[(30, 0), (42, 1), (18, 2), (10, 3)])
+}
+
+/// What a damage of a handler's case is done to.
+#[derive(Clone, Copy)]
+enum Part {
+    Tree,
+    Words,
+    Message,
+    Admin,
+    Box,
+    Page,
+    Datagram,
+}
+
+const PARTS: [(usize, Part); 7] = [
+    (40, Part::Tree),
+    (34, Part::Words),
+    (14, Part::Message),
+    (3, Part::Admin),
+    (7, Part::Box),
+    (2, Part::Page),
+    (10, Part::Datagram),
+];
+
+fn handle(rng: &mut Rng) -> HandleCase {
+    let model = Model::new(rng);
+    let mut given = model.lend(rng);
+    let mut request = Request::new(rng, &model);
+    let parts: Vec<Part> = (0..damages(rng)).map(|_| rng.weighted(&PARTS)).collect();
+    let (mut page, mut late) = (long_page(rng), 0);
+    for part in parts {
+        match part {
+            Part::Tree => bad_tree::damage(rng, &mut request.attributes),
+            Part::Words => bad_words::damage(rng, &mut request, &model),
+            Part::Message => bad_message::damage(rng, &mut request),
+            Part::Admin => given.admin = 0,
+            Part::Box => bad_box::damage(rng, &mut given, &model),
+            Part::Page => page = short_page(rng),
+            Part::Datagram => late += 1,
+        }
+    }
+    let mut datagram = datagrams::around(rng, &request.write(), &model);
+    for _ in 0..late {
+        datagrams::damage(rng, &mut datagram);
+    }
+    call(given, datagram, contents_of_page(rng, page))
+}
+
+fn call(given: BoxBytes, datagram: datagrams::Datagram, page: Vec<u8>) -> HandleCase {
+    let [debug_names, flag_names] = given.lists;
+    HandleCase {
+        family: given.family,
+        admin: given.admin,
+        roll: given.roll,
+        debug_names,
+        flag_names,
+        settings: given.settings,
+        datagram: datagram.bytes,
+        position: datagram.position,
+        page,
+    }
+}
+
+fn long_page(rng: &mut Rng) -> usize {
+    ANSWER_PAGE + if rng.per_mille(100) { rng.within(1, 40) } else { 0 }
+}
+
+fn short_page(rng: &mut Rng) -> usize {
+    rng.pick(&[ANSWER_PAGE - 1, ANSWER_PAGE - 1, ANSWER_PAGE - 4, 24_684, 144, 36, 1, 0])
+}
+
+/// A page's bytes before the call: a pattern that no answer leaves by chance.
+fn contents_of_page(rng: &mut Rng, length: usize) -> Vec<u8> {
+    let pattern = rng.bytes(61);
+    let mut page = Vec::with_capacity(length + pattern.len());
+    while page.len() < length {
+        page.extend(&pattern);
+    }
+    page.truncate(length);
+    page
+}
+
+fn normalise(rng: &mut Rng) -> NormaliseCase {
+    let bits = boxes::bits(rng);
+    let list = boxes::list(rng, bits);
+    let mut names = boxes::list_bytes(&list);
+    let mut attributes = bitsets::contents(rng, &list);
+    let mut page = FORM_PAGE + rng.pick(&[0, 0, 0, 1, 56]);
+    let mut long = false;
+    for _ in 0..damages(rng) {
+        match rng.below(50) {
+            0 | 1 => page = rng.pick(&[FORM_PAGE - 1, FORM_PAGE - 1, 24, 1, 0]),
+            2..5 => bad_list(rng, &mut names),
+            5 => long = true,
+            6..28 => bad_tree::damage(rng, &mut attributes),
+            _ => bad_words::damage_bitset(rng, &mut attributes, &list),
+        }
+    }
+    let mut contents = Vec::new();
+    write_all(&attributes, &mut contents);
+    finish(rng, &mut contents, long);
+    NormaliseCase { contents, names, page: contents_of_page(rng, page) }
+}
+
+/// A list with too many entries, or broken in another way.
+fn bad_list(rng: &mut Rng, names: &mut Vec<u8>) {
+    match rng.per_mille(200) {
+        true => names.resize(32 * rng.pick(&[513, 514, 1024]), 0),
+        false => bad_box::list(rng, names),
+    }
+}
+
+/// Contents cut, or brought to about the longest length by NOMASK flags before them.
+fn finish(rng: &mut Rng, contents: &mut Vec<u8>, long: bool) {
+    if long {
+        let room = (LONGEST + rng.pick(&[0, 0, 1, 4, 100])).saturating_sub(contents.len());
+        contents.splice(..0, [4, 0, 1, 0].repeat(room / 4));
+        contents.extend(vec![0; room % 4]);
+    } else if rng.per_mille(60) {
+        contents.truncate(rng.below(contents.len() + 1));
+    }
+}

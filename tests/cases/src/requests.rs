@@ -1,0 +1,106 @@
+//! Valid requests of the four commands (document 01, "What the box reads and writes").
+
+use super::bitsets;
+use super::boxes::Model;
+use super::rng::Rng;
+use super::tree::{write_all, Attribute};
+
+pub const REQUEST: u16 = 1;
+pub const ACK: u16 = 4;
+pub const DUMP: u16 = 0x300;
+
+pub const HEADER: u16 = 1;
+pub const BITSET: u16 = 2;
+pub const PORT_INDEX: u16 = 1;
+pub const PORT_NAME: u16 = 2;
+pub const PORT_FLAGS: u16 = 3;
+
+/// A message before it becomes bytes.
+pub struct Request {
+    /// The stated length, where it isn't the true one.
+    pub stated: Option<u32>,
+    pub kind: u16,
+    pub flags: u16,
+    pub sequence: u32,
+    pub port_id: u32,
+    /// Command, version, reserved; may be cut.
+    pub generic: Vec<u8>,
+    pub attributes: Vec<Attribute>,
+    /// Bytes after the attributes, inside the message.
+    pub stray: Vec<u8>,
+}
+
+/// Which list a command's bits come from.
+pub fn list_of(command: u8) -> usize {
+    usize::from(command >= 13)
+}
+
+impl Request {
+    pub fn new(rng: &mut Rng, model: &Model) -> Self {
+        let command = rng.pick(&[7, 8, 8, 8, 13, 14, 14, 14]);
+        let mut attributes = vec![header(rng, model)];
+        if matches!(command, 8 | 14) {
+            let contents = bitsets::contents(rng, &model.lists[list_of(command)]);
+            attributes.push(Attribute::nest(BITSET, contents));
+        }
+        if rng.per_mille(100) {
+            attributes.reverse();
+        }
+        let flags = rng.pick(&[REQUEST, REQUEST | ACK, REQUEST | ACK, REQUEST | 0x100, REQUEST | 0x200 | ACK, 0xFCFF]);
+        Request {
+            stated: None,
+            kind: model.family,
+            flags,
+            sequence: rng.next() as u32,
+            port_id: rng.next() as u32,
+            generic: generic(rng, command),
+            attributes,
+            stray: Vec::new(),
+        }
+    }
+
+    /// The command, whatever was damaged.
+    pub fn command(&self) -> u8 {
+        self.generic.first().copied().unwrap_or(0)
+    }
+
+    /// The message's bytes, without the padding after its length.
+    pub fn write(&self) -> Vec<u8> {
+        let mut bytes = vec![0; 4];
+        bytes.extend(self.kind.to_le_bytes());
+        bytes.extend(self.flags.to_le_bytes());
+        bytes.extend(self.sequence.to_le_bytes());
+        bytes.extend(self.port_id.to_le_bytes());
+        bytes.extend(&self.generic);
+        write_all(&self.attributes, &mut bytes);
+        bytes.extend(&self.stray);
+        let stated = self.stated.unwrap_or(bytes.len() as u32);
+        bytes[..4].copy_from_slice(&stated.to_le_bytes());
+        bytes
+    }
+}
+
+/// The generic header; version and reserved may be anything.
+fn generic(rng: &mut Rng, command: u8) -> Vec<u8> {
+    match rng.per_mille(100) {
+        true => [vec![command], rng.bytes(3)].concat(),
+        false => vec![command, 1, 0, 0],
+    }
+}
+
+/// A header nest that names a port by index, name or both, with or without flags.
+fn header(rng: &mut Rng, model: &Model) -> Attribute {
+    let port = &model.ports[rng.below(model.ports.len())];
+    let index = Attribute::number(PORT_INDEX, port.index);
+    let name = Attribute::name(PORT_NAME, &port.name);
+    let mut parts = match rng.below(3) {
+        0 => vec![index],
+        1 => vec![name],
+        _ => vec![index, name],
+    };
+    if rng.per_mille(600) {
+        let flags = Attribute::number(PORT_FLAGS, rng.below(4) as u32);
+        parts.insert(rng.below(parts.len() + 1), flags);
+    }
+    Attribute::nest(HEADER, parts)
+}

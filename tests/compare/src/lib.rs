@@ -1,0 +1,44 @@
+//! Two implementations of document 01 over the same cases: kind, number, next position, count, every byte of the page
+//! and every byte of the settings.
+
+mod implementation;
+mod outcome;
+mod tally;
+
+#[cfg(feature = "library")]
+mod library;
+
+pub use implementation::{Implementation, Reader};
+#[cfg(feature = "library")]
+pub use library::Library;
+pub use outcome::{outcome, Outcome};
+pub use tally::Tally;
+
+use cases::Case;
+
+/// The first case on which two implementations differ, and what each of them did.
+pub struct Difference {
+    pub number: u64,
+    pub case: Case,
+    pub left: Outcome,
+    pub right: Outcome,
+}
+
+/// Compares so many cases of a seed, counting what the left one answers.
+pub fn compare(
+    left: &dyn Implementation,
+    right: &dyn Implementation,
+    seed: u64,
+    cases: u64,
+    tally: &mut Tally,
+) -> Option<Box<Difference>> {
+    for number in 0..cases {
+        let case = cases::case(seed, number);
+        let (left, right) = (outcome(left, &case), outcome(right, &case));
+        if left != right {
+            return Some(Box::new(Difference { number, case, left, right }));
+        }
+        tally.count(&left);
+    }
+    None
+}

@@ -1,0 +1,91 @@
+//! The proved library behind its C boundary (`ethnl_handle`, `ethnl_normalise`).
+
+use super::Implementation;
+use cases::{HandleCase, NormaliseCase};
+use reader::Answer;
+
+extern "C" {
+    fn ethnl_handle(
+        family: u32,
+        admin: u32,
+        roll: *const u8,
+        roll_len: usize,
+        debug_names: *const u8,
+        debug_names_len: usize,
+        flag_names: *const u8,
+        flag_names_len: usize,
+        settings: *mut u8,
+        settings_len: usize,
+        datagram: *const u8,
+        datagram_len: usize,
+        position: u64,
+        page: *mut u8,
+        page_len: usize,
+        kind: *mut u32,
+        refusal: *mut u32,
+        next: *mut u64,
+        written: *mut u64,
+    );
+
+    fn ethnl_normalise(
+        contents: *const u8,
+        contents_len: usize,
+        names: *const u8,
+        names_len: usize,
+        page: *mut u8,
+        page_len: usize,
+        written: *mut u64,
+    ) -> u32;
+}
+
+/// The library that was linked.
+pub struct Library;
+
+impl Implementation for Library {
+    fn handle(&self, case: &HandleCase, settings: &mut [u8], page: &mut [u8]) -> Answer {
+        // Results begin as values that no answer has, so that one left unwritten shows.
+        let mut answer = Answer { kind: u32::MAX, refusal: u32::MAX, next: u64::MAX - 1, written: u64::MAX };
+        // SAFETY: each pointer comes from a live slice or place and is followed by that slice's length.
+        unsafe {
+            ethnl_handle(
+                case.family,
+                case.admin,
+                case.roll.as_ptr(),
+                case.roll.len(),
+                case.debug_names.as_ptr(),
+                case.debug_names.len(),
+                case.flag_names.as_ptr(),
+                case.flag_names.len(),
+                settings.as_mut_ptr(),
+                settings.len(),
+                case.datagram.as_ptr(),
+                case.datagram.len(),
+                case.position,
+                page.as_mut_ptr(),
+                page.len(),
+                &mut answer.kind,
+                &mut answer.refusal,
+                &mut answer.next,
+                &mut answer.written,
+            );
+        }
+        answer
+    }
+
+    fn normalise(&self, case: &NormaliseCase, page: &mut [u8]) -> (u32, u64) {
+        let mut written = u64::MAX;
+        // SAFETY: each pointer comes from a live slice or place and is followed by that slice's length.
+        let number = unsafe {
+            ethnl_normalise(
+                case.contents.as_ptr(),
+                case.contents.len(),
+                case.names.as_ptr(),
+                case.names.len(),
+                page.as_mut_ptr(),
+                page.len(),
+                &mut written,
+            )
+        };
+        (number, written)
+    }
+}

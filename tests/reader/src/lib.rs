@@ -1,0 +1,30 @@
+//! An independent reader of ethtool netlink requests, written from document 01 alone.
+//!
+//! It answers the same calls as the proved library: one message at a time ([`handle`]), one bitset at a time
+//! ([`normalise`]), or a whole datagram for a fixed box ([`run`]). Inputs are plain numbers and byte slices; every
+//! input has an answer. Nothing here allocates but [`run`].
+
+#![forbid(unsafe_code)]
+
+mod attribute;
+mod bit_list;
+mod bitset;
+mod command;
+mod fault;
+mod framing;
+mod handler;
+mod name_list;
+mod normaliser;
+mod page;
+mod port_header;
+mod program;
+mod reply;
+mod roll;
+mod slots;
+mod switch_box;
+mod text;
+pub mod wire;
+
+pub use handler::{handle, Answer, DONE, END, REFUSED, SKIPPED};
+pub use normaliser::normalise;
+pub use program::run;

@@ -1,0 +1,61 @@
+//! Every input has an answer: lengths and bytes of any kind, never a panic.
+
+mod common;
+use common::*;
+
+fn next(state: &mut u64) -> usize {
+    *state = state.wrapping_mul(6_364_136_223_846_793_005).wrapping_add(1_442_695_040_888_963_407);
+    (*state >> 33) as usize
+}
+
+fn some_bytes(state: &mut u64, longest: usize) -> Vec<u8> {
+    let length = next(state) % (longest + 1);
+    (0..length).map(|_| if next(state).is_multiple_of(3) { 0 } else { next(state) as u8 }).collect()
+}
+
+#[test]
+fn any_bytes_in_any_place() {
+    let state = &mut 5;
+    for _ in 0..20_000 {
+        let mut setup = Setup::document();
+        match next(state) % 8 {
+            0 => setup.roll = some_bytes(state, 50),
+            1 => setup.debug_names = some_bytes(state, 100),
+            2 => setup.flag_names = some_bytes(state, 100),
+            3 => setup.settings = some_bytes(state, 40),
+            4 => setup.page = some_bytes(state, 300),
+            _ => {}
+        }
+        let datagram = some_bytes(state, 200);
+        let position = [0, 0, next(state) as u64 % 250, u64::MAX, 1 << 32][next(state) % 5];
+        let answer = setup.call_at(&datagram, position);
+        assert!(answer.kind <= 3 && answer.refusal <= 22 && answer.written <= setup.page.len() as u64);
+        reader::normalise(&datagram, &setup.flag_names, &mut setup.page);
+        reader::run(&datagram);
+    }
+}
+
+#[test]
+fn any_bytes_after_right_headers() {
+    let state = &mut 6;
+    for _ in 0..50_000 {
+        let command = [DEBUG_GET, DEBUG_SET, PRIVFLAGS_GET, PRIVFLAGS_SET][next(state) % 4];
+        let mut inside = some_bytes(state, 60);
+        inside.iter_mut().for_each(|byte| *byte %= [12, 255][next(state) % 2]);
+        let request = message(command, REQUEST, &[by_index(3), attribute(0x8002, &inside)]);
+        let answer = Setup::document().call(&request);
+        assert!(matches!(answer.refusal, 0 | 10..=13 | 18..=22));
+        assert_eq!(answer.next, request.len() as u64);
+    }
+}
+
+#[test]
+fn whole_bitmaps_as_long_as_a_datagram() {
+    let room = 32_768 - 20 - 12 - 4 - 4 - 8 - 4;
+    let parts = [attribute(NOMASK, &[]), number(SIZE, 8 * room as u32), attribute(VALUE, &vec![0; room])];
+    let request = message(PRIVFLAGS_SET, REQUEST, &[by_index(3), nest(2, &parts)]);
+    assert_eq!(request.len(), 32_768);
+    let mut setup = Setup::document();
+    assert_eq!(setup.call(&request).refusal, 0);
+    assert_eq!(setup.words(), [0; 4]);
+}

@@ -1,0 +1,53 @@
+//! Altered readers: each is the reader with one usual mistake or other reading put in (`edits/`).
+
+use cases::{HandleCase, NormaliseCase};
+use compare::Implementation;
+use reader::Answer;
+
+/// One altered reader.
+pub struct Slip {
+    pub name: &'static str,
+    /// What it does otherwise.
+    pub what: &'static str,
+    handle: fn(&HandleCase, &mut [u8], &mut [u8]) -> Answer,
+    normalise: fn(&NormaliseCase, &mut [u8]) -> (u32, u64),
+}
+
+impl Implementation for Slip {
+    fn handle(&self, case: &HandleCase, settings: &mut [u8], page: &mut [u8]) -> Answer {
+        (self.handle)(case, settings, page)
+    }
+
+    fn normalise(&self, case: &NormaliseCase, page: &mut [u8]) -> (u32, u64) {
+        (self.normalise)(case, page)
+    }
+}
+
+/// The slip that a module holds.
+macro_rules! slip {
+    ($module:ident, $what:literal) => {
+        Slip {
+            name: stringify!($module),
+            what: $what,
+            handle: |case, settings, page| {
+                let HandleCase { family, admin, roll, debug_names, flag_names, datagram, position, .. } = case;
+                let answer = $module::handle(
+                    *family,
+                    *admin,
+                    roll,
+                    debug_names,
+                    flag_names,
+                    settings,
+                    datagram,
+                    *position,
+                    page,
+                );
+                let $module::Answer { kind, refusal, next, written } = answer;
+                Answer { kind, refusal, next, written }
+            },
+            normalise: |case, page| $module::normalise(&case.contents, &case.names, page),
+        }
+    };
+}
+
+include!(concat!(env!("OUT_DIR"), "/slips.rs"));
