@@ -1,5 +1,5 @@
 -- Laws of the bits below a bound: the words of all of them, a word cut there, and whether a word has bits past it.
-use Prim.Native.Nat.{ℕ, suc, _+_, _-_, _*_, _/_, _%_, _^_, _≤_, _<_}
+use Prim.Native.Nat.{ℕ, _+_, _-_, _*_, _/_, _%_, _^_, _≤_, _<_}
 use mathlib.Core.Path.{_≡_, refl, sym, ap, _∙_}
 use mathlib.Core.Bool.{Bool, true, false, _&&_, _||_, not, and-true, and-false, or-true}
 use mathlib.Core.Logic.{⊎-elim}
@@ -9,15 +9,15 @@ use lib.Dec.{eqb, leb, ltb, lit<}
 use lib.Bits.{bitAnd, and-lt}
 use lib.Pow.{pow-pos}
 use lib.ListN.{length, getD}
-use borrow.Author.Tests.{lt-ltb, le-ltb, le-leb, lt-leb, leb-false, ltb-true, eq-eqb, ne-eqb, eqb-true, eqb-false}
-use Rattle.basics.specs.Scan.{all, any}
+use borrow.Author.Tests.{lt-ltb, le-ltb, le-leb, lt-leb, eqb-true, eqb-false}
+use Rattle.basics.specs.Scan.{any}
 use Rattle.basics.proofs.Order.{lt-or-ge}
 use Rattle.basics.proofs.Truth.{true-of, false-of, clash}
-use Rattle.basics.proofs.Scan.{all-of, all-each, any-one, any-none, any-not}
+use Rattle.basics.proofs.Scan.{all-of, all-each, any-none, any-not}
 use Rattle.bits.specs.Bit.{test, number}
-use Rattle.bits.specs.Set.{has, wordOf, allBelow, clearFrom, noneFrom, past, somePast, isBetween, bitBetween}
+use Rattle.bits.specs.Set.{has, wordOf, allBelow, cut, clearFrom, noneFrom, past, somePast, isBetween, bitBetween}
 use Rattle.bits.specs.Change.{Below}
-use Rattle.bits.proofs.Bit.{number-lt, test-number, number-ext, test-and, shl-one, test-ones, test-zero}
+use Rattle.bits.proofs.Bit.{number-lt, test-number, number-ext, number-cong, test-and, shl-one, test-ones, test-zero}
 use Rattle.bits.proofs.Words.{has-word, has-past}
 
 -- word j of all bits below n: full, empty, or the one where n stands
@@ -56,6 +56,16 @@ cut-is w n j m h e =
     number-ext 32 (bitAnd w m) (λ b. test w b && allBelow n (j * 32 + b))
     (and-lt 32 w m h (omega (arith, number-lt 32 (λ b. allBelow n (j * 32 + b)))))
     (λ b l. test-and w m b ∙ ap (λ (t : Bool). test w b && t) (ap (λ (x : ℕ). test x b) e ∙ test-number 32 (λ b. allBelow n (j * 32 + b)) b l))
+
+-- word j of the bits of a set below n, from word j of the set
+pub cut-of : (ws : List ℕ) (n j w r : ℕ) → w ≡ getD ws j 0 → r ≡ number 32 (λ b. test w b && allBelow n (j * 32 + b)) → r ≡ wordOf (cut n (has ws)) j
+cut-of ws n j w r ew er =
+    er
+    ∙ number-cong 32 (λ b. test w b && allBelow n (j * 32 + b)) (λ b. cut n (has ws) (j * 32 + b))
+    (λ b l. ap (λ (t : Bool). t && allBelow n (j * 32 + b)) (ap (λ (x : ℕ). test x b) ew ∙ sym (has-word ws j b l)))
+
+pub cut-below : (n : ℕ) (f : ℕ → Bool) → Below n (cut n f)
+cut-below n f i h = rw (le-ltb i n h) (and-false (f i))
 
 -- a word is what is left of it exactly when all its bits are kept
 module _ (w r : ℕ) (g : ℕ → Bool) (e : r ≡ number 32 (λ b. test w b && g b)) where

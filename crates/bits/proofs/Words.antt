@@ -1,19 +1,21 @@
 -- Laws of the words that hold a set, for any number of words: each fact about words is turned into one about bits.
 use Prim.Native.Nat.{ℕ, zero, suc, _+_, _*_, _/_, _%_, _^_, _≤_, _<_}
 use mathlib.Core.Path.{_≡_, refl, sym, ap, ap₂, _∙_, subst, fun-ext}
-use mathlib.Core.Logic.{_≢_}
+use mathlib.Core.Logic.{_≢_, ⊎-elim}
 use mathlib.Core.Bool.{Bool, true, false, cond}
-use mathlib.Core.List.{List, [], _∷_}
+use mathlib.Core.List.{List, _∷_}
 use native.Mathlib.Nat.{not-suc-le-zero, le-of-suc-le-suc}
 use native.Mathlib.Decide.{ℕ-discrete}
 use native.Mathlib.Omega.{arith}
 use lib.Dec.{eqb}
-use lib.ListN.{length, getD, set, length-set, List·getD-eq-default}
+use lib.ListN.{length, getD, take, set, length-set, List·getD-eq-default}
 use lib.Seq.{ext-getD, getD-set-same, getD-set-other}
 use borrow.Author.Tests.{eqb-true, eq-eqb, ne-eqb}
+use Rattle.basics.proofs.Order.{lt-or-ge}
 use Rattle.bits.specs.Bit.{test, number}
 use Rattle.bits.specs.Set.{has, wordOf, wordsOf, putBit}
-use Rattle.bits.proofs.Bit.{number-lt, test-number, number-ext, number-cong, test-one, test-zero}
+use Rattle.bits.specs.Change.{Same, Below}
+use Rattle.bits.proofs.Bit.{test-number, number-ext, number-cong, test-one, test-zero}
 
 pub length-wordsOf : (w : ℕ) (f : ℕ → Bool) → length (wordsOf w f) ≡ w
 unfolding wordsOf
@@ -53,6 +55,25 @@ words-ext ws f small same =
     ext-getD 0 ws (wordsOf (length ws) f) (sym (length-wordsOf (length ws) f))
     (λ j h. number-ext 32 (getD ws j 0) (λ b. f (j * 32 + b)) (small j h) (λ b l. same j b h l)
     ∙ sym (getD-wordsOf (length ws) f j h))
+
+-- fewer words
+pub take-wordsOf : (k w : ℕ) (f : ℕ → Bool) → k ≤ w → take k (wordsOf w f) ≡ wordsOf k f
+unfolding wordsOf
+take-wordsOf zero w f h = refl
+take-wordsOf (suc k) zero f h = absurd (not-suc-le-zero h)
+take-wordsOf (suc k) (suc w) f h = ap (λ (ws : List ℕ). number 32 f ∷ ws) (take-wordsOf k w (λ i. f (32 + i)) (le-of-suc-le-suc h))
+
+-- a set that ends with the words is what they hold
+pub has-all : (w : ℕ) (f : ℕ → Bool) → Below (w * 32) f → Same (has (wordsOf w f)) f
+has-all w f b i =
+    ⊎-elim
+    (λ (q : i < w * 32). has-wordsOf w f i q)
+    (λ (q : w * 32 ≤ i). has-past (wordsOf w f) i (omega (arith, length-wordsOf w f)) ∙ sym (b i q))
+    (lt-or-ge i (w * 32))
+
+-- and words are what holds their set
+pub wordsOf-has : (ws : List ℕ) → ((j : ℕ) → j < length ws → getD ws j 0 < 2 ^ 32) → ws ≡ wordsOf (length ws) (has ws)
+wordsOf-has ws small = words-ext ws (has ws) small (λ j b h l. sym (has-word ws j b l))
 
 -- one word replaced
 pub set-words : (ws : List ℕ) (f : ℕ → Bool) (q r : ℕ) → q < length ws → ((j : ℕ) → getD ws j 0 < 2 ^ 32)

@@ -28,6 +28,10 @@ wordsFor n = (n + 31) / 32
 abbrev pub allBelow : ℕ → ℕ → Bool
 allBelow n i = ltb i n
 
+-- the bits of a set below n
+abbrev pub cut : ℕ → (ℕ → Bool) → ℕ → Bool
+cut n f i = f i && allBelow n i
+
 -- the set s with bit n in it or not, as v says
 abbrev pub putBit : ℕ → Bool → (ℕ → Bool) → ℕ → Bool
 putBit n v s i = cond (eqb i n) v (s i)

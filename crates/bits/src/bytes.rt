@@ -1,4 +1,5 @@
 // Words as their little-endian bytes.
+use crate::word::bit_between;
 ghost use mathlib.Core.Path.{_≡_};
 ghost use Prim.Native.Nat.{_+_, _*_, _/_, _≤_, _<_};
 ghost use lib.ListN.{length, getD};
@@ -42,7 +43,7 @@ pub fn some_past(bytes: &[u8], n: usize, size: usize) -> bool
 {
     let mut j = n / 32;
     while j < bytes.len() / 4 {
-        if crate::word::bit_between(word_in(bytes, j), j, n, size) {
+        if bit_between(word_in(bytes, j), j, n, size) {
             return true;
         }
         j += 1;

@@ -1,4 +1,6 @@
 // A set in a slice of words.
+use crate::word::cut_word;
+use crate::word::merge_word;
 ghost use mathlib.Core.Path.{_≡_};
 ghost use Prim.Native.Nat.{_+_, _≤_};
 ghost use lib.ListN.{length, take, drop};
@@ -36,9 +38,9 @@ pub fn put_bit(words: &mut [u32], i: usize, v: bool)
     let k = (i % 32) as u32;
     let m = 1u32 << k;
     if v {
-        words[j] = crate::word::merge_word(m, m, words[j]);
+        words[j] = merge_word(m, m, words[j]);
     } else {
-        words[j] = crate::word::merge_word(m, 0, words[j]);
+        words[j] = merge_word(m, 0, words[j]);
     }
 }
 
@@ -48,7 +50,7 @@ pub fn none_from(words: &[u32], n: usize) -> bool
 {
     let mut j = n / 32;
     while j < words.len() {
-        if words[j] != crate::word::cut_word(words[j], n, j) {
+        if words[j] != cut_word(words[j], n, j) {
             return false;
         }
         j += 1;
@@ -62,7 +64,7 @@ pub fn merge_words(words: &mut [u32], mask: &[u32], value: &[u32])
     ensures { λ _. ⌜ now (words .exit) ≡ wordsOf (length (now (words .entry))) (merge (has (now (mask .entry))) (has (now (value .entry))) (has (now (words .entry)))) ⌝ }
 {
     for j in 0..words.len() {
-        words[j] = crate::word::merge_word(mask[j], value[j], words[j]);
+        words[j] = merge_word(mask[j], value[j], words[j]);
     }
 }
 

@@ -1,5 +1,5 @@
 -- Laws of chains: both tables hold values of `lastOf`, and a walk along a chain passes every entry of its hash.
-use Prim.Native.Nat.{ℕ, zero, suc, _+_, _-_, _*_, _/_, _%_, _<_, _≤_}
+use Prim.Native.Nat.{ℕ, zero, suc, _+_, _-_, _*_, _<_, _≤_}
 use mathlib.Core.Path.{_≡_, refl, sym, ap, ap₂, _∙_}
 use mathlib.Core.Bool.{Bool, true, false, not, cond}
 use mathlib.Core.Logic.{⊎-elim}
@@ -15,7 +15,7 @@ use Rattle.basics.specs.Scan.{all}
 use Rattle.basics.proofs.Order.{lt-or-ge}
 use Rattle.basics.proofs.Scan.{all-none, all-more, all-fails, all-done, all-of}
 use Rattle.basics.proofs.Truth.{false-of}
-use Rattle.entries.specs.Entry.{count, entryAt, same, isEmpty, differs, entryNew, distinct}
+use Rattle.entries.specs.Entry.{count, entryAt, same, differs, entryNew, distinct}
 use Rattle.entries.specs.Chain.{folded, spread, hashOf, lastOf, HeadRight, NextRight}
 use Rattle.entries.proofs.Entries.{entry-length, entry-first, entry-eight, same-equal}
 

@@ -1,21 +1,18 @@
 -- Laws of entries: their bytes, and when two are the same.
-use Prim.Native.Nat.{ℕ, zero, suc, _+_, _-_, _*_, _/_, _≤_, _<_}
-use mathlib.Core.Path.{_≡_, refl, sym, ap, ap₂, _∙_}
-use mathlib.Core.Bool.{Bool, true, false, _&&_, not}
+use Prim.Native.Nat.{ℕ, _+_, _-_, _*_, _≤_, _<_}
+use mathlib.Core.Path.{_≡_, sym, ap, _∙_}
+use mathlib.Core.Bool.{true, false}
 use mathlib.Core.Logic.{⊎-elim}
 use mathlib.Core.List.{List, []}
-use native.Mathlib.Numerals.{add-one}
 use native.Mathlib.Omega.{arith}
-use lib.Dec.{eqb, ltb}
+use lib.Dec.{eqb}
 use lib.ListN.{length, getD, take, drop, length-drop}
 use lib.Seq.{length-take-le, getD-take, getD-drop, ext-getD}
-use borrow.Author.Tests.{lt-ltb, le-ltb, eq-eqb, ne-eqb, eqb-true, not-true}
+use borrow.Author.Tests.{lt-ltb, le-ltb, eq-eqb, eqb-true, not-true}
 use Rattle.basics.specs.Numbers.{u32At, u64At}
-use Rattle.basics.specs.Scan.{all}
-use Rattle.basics.proofs.Numbers.{same-four}
 use Rattle.basics.proofs.Order.{lt-or-ge}
 use Rattle.basics.proofs.Scan.{all-of, all-each}
-use Rattle.basics.proofs.Truth.{false-of, both-true, clash}
+use Rattle.basics.proofs.Truth.{clash}
 use Rattle.entries.specs.Entry.{count, entryAt, sameByte, same, isEmpty, differs, entryNew, distinct}
 
 module _ (list : List ℕ) (i : ℕ) where
@@ -64,90 +61,6 @@ same-of a b h = all-of (sameByte a b) 32 (λ j l. eq-eqb _ _ (h j l))
 
 pub same-equal : (a b : List ℕ) → length a ≡ 32 → length b ≡ 32 → same a b ≡ true → a ≡ b
 same-equal a b la lb h = ext-getD 0 a b (la ∙ sym lb) (λ j l. same-bytes a b j h (omega arith))
-
--- two lists of 32 bytes whose four numbers of eight bytes are equal
-module _ (a b : List ℕ) (sa : (j : ℕ) → j < 32 → getD a j 0 < 256) (sb : (j : ℕ) → j < 32 → getD b j 0 < 256) where
-  four-lt : (s : List ℕ) → ((j : ℕ) → j < 32 → getD s j 0 < 256) → (p : ℕ) → p + 4 ≤ 32 → u32At s p < 4294967296
-  unfolding u32At
-  four-lt s h p l = omega (arith, h p (omega arith), h (p + 1) (omega arith), h (p + 2) (omega arith), h (p + 3) (omega arith))
-
-  halves : (p : ℕ) → p + 8 ≤ 32 → u64At a p ≡ u64At b p → (u32At a p ≡ u32At b p) × (u32At a (p + 4) ≡ u32At b (p + 4))
-  halves p l e = apart (u32At a p) (u32At b p) (u32At a (p + 4)) (u32At b (p + 4)) (four-lt a sa p (omega arith)) (four-lt b sb p (omega arith)) e
-    where
-      apart : (x y u v : ℕ) → x < 4294967296 → y < 4294967296 → x + u * 4294967296 ≡ y + v * 4294967296 → (x ≡ y) × (u ≡ v)
-      apart x y u v hx hy e = (omega arith, omega arith)
-
-  bytes : (p r : ℕ) → p + 4 ≤ 32 → r < 4 → u32At a p ≡ u32At b p → getD a (p + r) 0 ≡ getD b (p + r) 0
-  unfolding u32At
-  bytes p r l h e = at r h
-    where
-      each : (getD a p 0 ≡ getD b p 0) × (getD a (p + 1) 0 ≡ getD b (p + 1) 0) × (getD a (p + 2) 0 ≡ getD b (p + 2) 0) × (getD a (p + 3) 0 ≡ getD b (p + 3) 0)
-      each =
-          same-four (getD a p 0) (getD a (p + 1) 0) (getD a (p + 2) 0) (getD a (p + 3) 0) (getD b p 0) (getD b (p + 1) 0) (getD b (p + 2) 0) (getD b (p + 3) 0)
-          (sa p (omega arith)) (sa (p + 1) (omega arith)) (sa (p + 2) (omega arith)) (sb p (omega arith)) (sb (p + 1) (omega arith)) (sb (p + 2) (omega arith)) e
-
-      at : (r : ℕ) → r < 4 → getD a (p + r) 0 ≡ getD b (p + r) 0
-      at zero h = let z : p + 0 ≡ p = omega arith in rw z (each .0)
-      at (suc zero) h = each .1
-      at (suc (suc zero)) h = each .2
-      at (suc (suc (suc zero))) h = each .3
-      at (suc (suc (suc (suc r)))) h = absurd (omega arith)
-
-  eight-bytes : (p r : ℕ) → p + 8 ≤ 32 → r < 8 → u64At a p ≡ u64At b p → getD a (p + r) 0 ≡ getD b (p + r) 0
-  eight-bytes p r l h e =
-      ⊎-elim
-      (λ (u : r < 4). bytes p r (omega arith) u (halves p l e .0))
-      (λ (u : 4 ≤ r). let k : p + r ≡ p + 4 + (r - 4) = omega arith in rw k (bytes (p + 4) (r - 4) (omega arith) (omega arith) (halves p l e .1)))
-      (lt-or-ge r 4)
-
-  pub eights-same : u64At a 0 ≡ u64At b 0 → u64At a 8 ≡ u64At b 8 → u64At a 16 ≡ u64At b 16 → u64At a 24 ≡ u64At b 24 → same a b ≡ true
-  eights-same e0 e1 e2 e3 = same-of a b (λ j l. ⊎-elim (λ (u : j < 16). low j u) (λ (u : 16 ≤ j). high j u l) (lt-or-ge j 16))
-    where
-      at : (p j : ℕ) → p + 8 ≤ 32 → p ≤ j → j < p + 8 → u64At a p ≡ u64At b p → getD a j 0 ≡ getD b j 0
-      at p j l u v e = let k : j ≡ p + (j - p) = omega arith in rw k (eight-bytes p (j - p) l (omega arith) e)
-
-      low : (j : ℕ) → j < 16 → getD a j 0 ≡ getD b j 0
-      low j l = ⊎-elim (λ (u : j < 8). at 0 j (omega arith) (omega arith) u e0) (λ (u : 8 ≤ j). at 8 j (omega arith) u l e1) (lt-or-ge j 8)
-
-      high : (j : ℕ) → 16 ≤ j → j < 32 → getD a j 0 ≡ getD b j 0
-      high j g l = ⊎-elim (λ (u : j < 24). at 16 j (omega arith) g u e2) (λ (u : 24 ≤ j). at 24 j (omega arith) u l e3) (lt-or-ge j 24)
-
--- entries by their numbers
-module _ (list : List ℕ) (i k : ℕ) (hi : i < count list) (hk : k < count list) (small : (j : ℕ) → getD list j 0 < 256) where
-  small-entry : (i : ℕ) → i < count list → (j : ℕ) → j < 32 → getD (entryAt list i) j 0 < 256
-  small-entry i h j l = omega (arith, entry-byte list i h j l, small (i * 32 + j))
-
-  pub same-numbers : (t0 t1 t2 t3 : Bool) → t0 ≡ eqb (u64At list (i * 32)) (u64At list (k * 32)) → t1 ≡ eqb (u64At list (i * 32 + 8)) (u64At list (k * 32 + 8))
-      → t2 ≡ eqb (u64At list (i * 32 + 16)) (u64At list (k * 32 + 16)) → t3 ≡ eqb (u64At list (i * 32 + 24)) (u64At list (k * 32 + 24))
-      → t0 && t1 && t2 && t3 ≡ same (entryAt list i) (entryAt list k)
-  same-numbers t0 t1 t2 t3 e0 e1 e2 e3 =
-      rw
-      (e0 ∙ at 0 (i * 32) (k * 32) (omega arith) (omega arith) (omega arith), e1 ∙ at 8 (i * 32 + 8) (k * 32 + 8) (omega arith) refl refl, e2 ∙ at 16 (i * 32 + 16) (k * 32 + 16) (omega arith) refl refl, e3 ∙ at 24 (i * 32 + 24) (k * 32 + 24) (omega arith) refl refl)
-      (go (same a b) refl)
-    where
-      a : List ℕ
-      a = entryAt list i
-
-      b : List ℕ
-      b = entryAt list k
-
-      at : (p q r : ℕ) → p + 8 ≤ 32 → i * 32 + p ≡ q → k * 32 + p ≡ r → eqb (u64At list q) (u64At list r) ≡ eqb (u64At a p) (u64At b p)
-      at p q r l eq er = sym (ap₂ eqb (entry-eight list i hi p q l eq) (entry-eight list k hk p r l er))
-
-      go : (t : Bool) → same a b ≡ t → eqb (u64At a 0) (u64At b 0) && eqb (u64At a 8) (u64At b 8) && eqb (u64At a 16) (u64At b 16) && eqb (u64At a 24) (u64At b 24) ≡ same a b
-      go true e =
-          let q = same-equal a b (entry-length list i hi) (entry-length list k hk) e in
-          let x : (p : ℕ) → eqb (u64At a p) (u64At b p) ≡ true = λ p. eq-eqb (u64At a p) (u64At b p) (ap (λ (s : List ℕ). u64At s p) q) in
-          rw (x 0, x 8, x 16, x 24) (sym e)
-      go false e =
-          false-of _ (λ z. clash (all-true z) e) ∙ sym e
-        where
-          all-true : eqb (u64At a 0) (u64At b 0) && eqb (u64At a 8) (u64At b 8) && eqb (u64At a 16) (u64At b 16) && eqb (u64At a 24) (u64At b 24) ≡ true → same a b ≡ true
-          all-true z =
-              let y3 = both-true _ _ z in
-              let y2 = both-true _ _ (y3 .0) in
-              let y1 = both-true _ _ (y2 .0) in
-              eights-same a b (small-entry i hi) (small-entry k hk) (eqb-true _ _ (y1 .0)) (eqb-true _ _ (y1 .1)) (eqb-true _ _ (y2 .1)) (eqb-true _ _ (y3 .1))
 
 -- what `distinct` means: an entry that is not empty stands in one place only
 module _ (list : List ℕ) (d : distinct list ≡ true) where

@@ -1,4 +1,6 @@
 // Whether the entries are distinct, in time linear in the list where the hash spreads them.
+use crate::same::eight;
+use crate::same::same_entry;
 ghost use mathlib.Core.Path.{_≡_};
 ghost use Prim.Native.Nat.{_/_, _≤_, _<_};
 ghost use lib.ListN.{length};
@@ -36,10 +38,10 @@ fn hash(list: &[u8], i: usize) -> usize
     if list[at] == 0 {
         return 1024;
     }
-    let a = crate::eight(list, at);
-    let b = crate::eight(list, at + 8);
-    let c = crate::eight(list, at + 16);
-    let d = crate::eight(list, at + 24);
+    let a = eight(list, at);
+    let b = eight(list, at + 8);
+    let c = eight(list, at + 16);
+    let d = eight(list, at + 24);
     chain_of(fold(a, b, c, d))
 }
 
@@ -56,7 +58,7 @@ fn chain_new(list: &[u8], next: &[u16], i: usize, start: usize) -> bool
             return true;
         }
         let j = p - 1;
-        if crate::same_entry(list, i, j) {
+        if same_entry(list, i, j) {
             return false;
         }
         p = place(next[j]);

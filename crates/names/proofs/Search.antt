@@ -1,22 +1,21 @@
 -- Laws of the search: how it goes by entries and bytes, and what it finds in a list whose names are distinct.
-use Prim.Native.Nat.{ℕ, zero, suc, _+_, _*_, _/_, _≤_, _<_}
+use Prim.Native.Nat.{ℕ, zero, suc, _+_, _*_, _≤_, _<_}
 use mathlib.Core.Path.{_≡_, refl, sym, ap, _∙_}
-use mathlib.Core.Bool.{Bool, true, false, _||_, cond, or-true}
+use mathlib.Core.Bool.{Bool, true, false, cond, or-true}
 use mathlib.Core.Logic.{⊎-elim}
 use mathlib.Core.List.{List}
-use native.Mathlib.Nat.{le-of-eq}
 use native.Mathlib.Numerals.{add-one}
 use native.Mathlib.Omega.{arith}
 use lib.Dec.{eqb, ltb}
-use lib.ListN.{length, getD}
+use lib.ListN.{length, getD, take, length-take, List·getD-eq-default}
+use lib.Seq.{getD-take, take-all}
 use borrow.Author.Tests.{eq-eqb, ne-eqb, lt-ltb, le-ltb, ltb-true}
 use Rattle.basics.specs.Scan.{all, first}
 use Rattle.basics.proofs.Order.{lt-or-ge}
-use Rattle.basics.proofs.Scan.{all-none, all-more, all-fails, all-done, first-none, first-more, first-at, first-is}
+use Rattle.basics.proofs.Scan.{all-none, all-more, all-fails, first-none, first-more, first-at, first-is}
 use Rattle.basics.proofs.Truth.{false-of, clash}
-use Rattle.entries.specs.Entry.{count, entryAt, sameByte, same, isEmpty, distinct}
-use Rattle.entries.proofs.Entries.{entry-byte, entry-length, equal-same, same-bytes, same-of, distinct-one}
-use Rattle.names.specs.declared.Lookup.{Lookup}
+use Rattle.entries.specs.Entry.{count, entryAt, sameByte, same, isEmpty}
+use Rattle.entries.proofs.Entries.{entry-byte, entry-length, same-bytes, same-of, distinct-one}
 use Rattle.names.specs.Rule.{namesRight}
 use Rattle.names.specs.Search.{isName, noName, notFound, foundAt, lookup}
 use Rattle.names.proofs.Rules.{right-means}
@@ -110,9 +109,26 @@ module _ (names name : List ℕ) where
       before (suc k) l =
           ap (λ (x : ℕ). first x (isName names name)) (sym (add-one k)) ∙ first-more (isName names name) k (before k (omega arith)) (alone k (omega arith)) ∙ add-one k
 
--- an entry's own name, with any of the NULs that follow it or none, is found at that entry
-pub lookup-own : (names : List ℕ) → namesRight names ≡ true → (i : ℕ) → i < count names → isEmpty (entryAt names i) ≡ false → lookup names (entryAt names i) ≡ foundAt i
+-- the name of entry i, with all, some or none of the NULs that follow it, is found there
+pub lookup-name : (names : List ℕ) → namesRight names ≡ true → (i k : ℕ) → i < count names → isEmpty (entryAt names i) ≡ false → 0 < k
+    → ((j : ℕ) → k ≤ j → j < 32 → getD (entryAt names i) j 0 ≡ 0) → lookup names (take k (entryAt names i)) ≡ foundAt i
 unfolding noName
+lookup-name names right i k h e p z =
+    lookup-one names (take k (entryAt names i)) right
+    (rw (first ∙ e, le-ltb 32 (length (take k (entryAt names i))) (omega (arith, length-take k (entryAt names i), entry-length names i h))))
+    i h (same-of (entryAt names i) (take k (entryAt names i)) bytes)
+  where
+    first : isEmpty (take k (entryAt names i)) ≡ isEmpty (entryAt names i)
+    first = ap (λ (x : ℕ). eqb x 0) (getD-take k (entryAt names i) 0 0 p)
+
+    bytes : (j : ℕ) → j < 32 → getD (entryAt names i) j 0 ≡ getD (take k (entryAt names i)) j 0
+    bytes j l =
+        ⊎-elim
+        (λ (q : j < k). sym (getD-take k (entryAt names i) j 0 q))
+        (λ (q : k ≤ j). z j q l ∙ sym (List·getD-eq-default (take k (entryAt names i)) 0 (omega (arith, length-take k (entryAt names i)))))
+        (lt-or-ge j k)
+
+pub lookup-own : (names : List ℕ) → namesRight names ≡ true → (i : ℕ) → i < count names → isEmpty (entryAt names i) ≡ false → lookup names (entryAt names i) ≡ foundAt i
 lookup-own names right i h e =
-    lookup-one names (entryAt names i) right
-    (rw (e, le-ltb 32 (length (entryAt names i)) (le-of-eq (entry-length names i h)))) i h (equal-same (entryAt names i) (entryAt names i) refl)
+    ap (lookup names) (sym (take-all 32 (entryAt names i) (omega (arith, entry-length names i h))))
+    ∙ lookup-name names right i 32 h e (omega arith) (λ j l u. absurd (omega arith))

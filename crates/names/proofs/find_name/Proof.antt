@@ -1,3 +1,4 @@
+-- No entry before i is the name, and the bytes before j of entry i are the name's.
 use Prim.Native.Nat.{_≤_, _<_, _-_}
 use mathlib.Core.Path.{_≡_}
 use native.Mathlib.Omega.{arith}

@@ -1,3 +1,4 @@
+-- The words below j have no bit from n to size.
 use Prim.Native.Nat.{_-_, _/_}
 use native.Mathlib.Omega.{arith}
 use lib.ListN.{length}

@@ -1,3 +1,4 @@
+-- The bytes of the words below j are written.
 use Prim.Native.Nat.{_<_, _-_, _*_, _≤_}
 use mathlib.Core.Path.{_≡_, sym, ap, _∙_}
 use native.Mathlib.Omega.{arith}

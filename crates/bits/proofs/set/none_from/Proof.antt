@@ -1,3 +1,4 @@
+-- The words below j have no bit at or past n; those below word n / 32 cannot have one.
 use Prim.Native.Nat.{_-_}
 use lib.ListN.{length}
 use borrow.Author.Needs.{needs}

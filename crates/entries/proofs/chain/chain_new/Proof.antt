@@ -1,3 +1,4 @@
+-- Every entry from p on differs, and p is in the chain; p falls.
 use mathlib.Core.Path.{refl}
 use native.Mathlib.Omega.{arith}
 use borrow.Author.Needs.{needs}

@@ -1,3 +1,4 @@
+-- The tables hold the chains of the entries below i, all of which are new.
 use Prim.Native.Nat.{_≤_, _-_, _/_}
 use mathlib.Core.Path.{_∙_}
 use native.Mathlib.Omega.{arith}

@@ -1,3 +1,4 @@
+-- The entries below i are right.
 use Prim.Native.Nat.{_≤_, _-_, _/_}
 use mathlib.Core.Path.{_≡_}
 use mathlib.Core.Bool.{true}

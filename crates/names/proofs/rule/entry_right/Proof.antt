@@ -1,3 +1,4 @@
+-- The entry is right as far as the pairs before j tell.
 use Prim.Native.Nat.{_≤_, _-_}
 use mathlib.Core.Path.{_≡_}
 use native.Mathlib.Omega.{arith}

@@ -1,8 +1,8 @@
 use mathlib.Core.Path.{ap₂}
 use lib.Dec.{eqb}
 use borrow.Author.Needs.{needs}
-use Rattle.entries.proofs.same_eight.Statement.{statement}
-use Rattle.entries.proofs.same_eight.Tie as tie
+use Rattle.entries.proofs.same.same_eight.Statement.{statement}
+use Rattle.entries.proofs.same.same_eight.Tie as tie
 
 eight-requires : tie.Need-eight-requires
 eight-requires c κs = search needs

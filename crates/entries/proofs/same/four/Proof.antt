@@ -1,7 +1,7 @@
 use Rattle.basics.specs.Numbers.{u32At}
 use borrow.Author.Needs.{needs}
-use Rattle.entries.proofs.four.Statement.{statement}
-use Rattle.entries.proofs.four.Tie as tie
+use Rattle.entries.proofs.same.four.Statement.{statement}
+use Rattle.entries.proofs.same.four.Tie as tie
 
 shared-slice-read-wide : tie.Need-shared-slice-read-wide
 shared-slice-read-wide c = search needs

@@ -1,7 +1,7 @@
 use borrow.Author.Needs.{needs}
-use Rattle.entries.proofs.Entries.{same-numbers}
-use Rattle.entries.proofs.same_entry.Statement.{statement}
-use Rattle.entries.proofs.same_entry.Tie as tie
+use Rattle.entries.proofs.Eights.{same-numbers}
+use Rattle.entries.proofs.same.same_entry.Statement.{statement}
+use Rattle.entries.proofs.same.same_entry.Tie as tie
 
 mul-a : tie.Need-mul-a
 mul-a c = search needs
