@@ -57,14 +57,14 @@ fn judge_masked(s: &[u8], nest: usize, n: usize, size: usize, value: Slot, mask:
     }
     let mask_start = mask.start;
     let mask_end = mask.end;
-    let bitmap = payload(s, mask_start, mask_end);
-    if bitmap.len() / 4 < words_for(size) {
+    let masks = payload(s, mask_start, mask_end);
+    if masks.len() / 4 < words_for(size) {
         return refused(Refusal::ShortBitmap(place(mask_start)));
     }
-    if some_past(bitmap, n, size) {
+    if some_past(masks, n, size) {
         return refused(Refusal::PastLength(place(mask_start)));
     }
-    let masked = cut_at(bitmap, size);
+    let masked = cut_at(masks, size);
     Judged {
         judgement: Judgement::Accepted,
         form: Form {

@@ -1,16 +1,15 @@
 -- Demand 3, "forms decide": two bitsets change every starting set alike exactly when their normal forms are equal bytes.
-use Prim.Native.Nat.{ℕ, zero, suc, _+_, _*_, _/_, _%_, _≤_, _<_}
+use Prim.Native.Nat.{ℕ, _+_, _*_, _/_, _%_, _≤_, _<_}
 use mathlib.Core.Path.{_≡_, refl, sym, ap, ap₂, _∙_}
-use mathlib.Core.List.{List, [], _∷_, _++_}
+use mathlib.Core.List.{List, _++_}
 use mathlib.Core.Bool.{Bool}
 use lib.ListN.{length, take, drop}
 use lib.Seq.{take-at, drop-at}
 use native.Mathlib.Omega.{arith}
 use Rattle.basics.specs.Numbers.{le32}
-use Rattle.bits.specs.Bit.{number}
 use Rattle.bits.specs.Set.{wordsOf, wordsFor}
 use Rattle.bits.specs.Bytes.{bytesOf}
-use Rattle.bits.proofs.Words.{length-wordsOf}
+use Rattle.bits.proofs.Words.{length-wordsOf, take-wordsOf}
 use Rattle.bits.proofs.WordBytes.{length-bytesOf, bytes-same}
 use Rattle.bits.proofs.Change.{alike-words, words-alike}
 use Rattle.netlink_write.specs.Headers.{attributeHeaderBytes}
@@ -23,18 +22,12 @@ use Rattle.normal.specs.Normal.{normalForm}
 use Rattle.normal.specs.Claims.{Fits, ActAlike}
 use Rattle.normal.proofs.Effect.{mask-below, value-within, alike-merge, merge-alike}
 
-take-words : (w k : ℕ) (f : ℕ → Bool) → w ≤ k → take w (wordsOf k f) ≡ wordsOf w f
-unfolding wordsOf
-take-words zero k f h = refl
-take-words (suc w) zero f h = absurd (omega arith)
-take-words (suc w) (suc k) f h = ap (λ (l : List ℕ). number 32 f ∷ l) (take-words w k (λ i. f (32 + i)) (omega arith))
-
 -- the normal form's bytes, in the words that the set has
 pub normal-bytes : (n : ℕ) (b : Bitset) → n ≤ 512
     → normalForm n b ≡ partsBytes n (wordsOf (wordsFor n) (valueOf b)) (wordsOf (wordsFor n) (maskOf n b))
 unfolding normalForm formBytes
 normal-bytes n b h =
-    ap₂ (partsBytes n) (take-words (wordsFor n) 16 (valueOf b) (omega arith)) (take-words (wordsFor n) 16 (maskOf n b) (omega arith))
+    ap₂ (partsBytes n) (take-wordsOf (wordsFor n) 16 (valueOf b) (omega arith)) (take-wordsOf (wordsFor n) 16 (maskOf n b) (omega arith))
 
 -- two lists in a row are known by their parts, where the first parts are equally long
 split : (n : ℕ) (a b c d : List ℕ) → length a ≡ n → length c ≡ n → a ++ b ≡ c ++ d → (a ≡ c) × (b ≡ d)
