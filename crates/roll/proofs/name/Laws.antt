@@ -1,0 +1,147 @@
+-- Laws of names: the field at a place, two names four bytes at a time, and the rule of a name.
+use Prim.Native.Nat.{ℕ, zero, suc, _+_, _-_, _≤_, _<_}
+use mathlib.Core.Path.{_≡_, refl, sym, ap, _∙_}
+use mathlib.Core.List.{List, []}
+use mathlib.Core.Bool.{Bool, true, false, _&&_, _||_, not}
+use mathlib.Core.Logic.{⊎-elim}
+use lib.ListN.{length, getD}
+use lib.Dec.{eqb}
+use native.Mathlib.Omega.{arith}
+use borrow.Author.Tests.{eq-eqb, ne-eqb, eqb-true, le-leb, lt-leb, not-true, not-false}
+use Rattle.basics.specs.Numbers.{byteAt, u32At}
+use Rattle.basics.specs.Scan.{all}
+use Rattle.basics.proofs.Numbers.{same-four}
+use Rattle.basics.proofs.Order.{lt-or-ge}
+use Rattle.basics.proofs.Scan.{all-none, all-more, all-fails, all-done, all-of, all-each}
+use Rattle.basics.proofs.Truth.{true-of, false-of, clash}
+use Rattle.netlink.specs.Attributes.{partOf}
+use Rattle.netlink.proofs.attributes.Laws.{part-past}
+use Rattle.roll.specs.Name.{nameAt, sameByte, sameName, isNameAt, nulThenNul, nameRight}
+
+-- the field at a place
+module _ (roll : List ℕ) (at : ℕ) where
+  outside : length roll < at + 16 → [] ≡ nameAt roll at
+  unfolding nameAt
+  outside h = part-past roll at (at + 16) (omega arith) h
+
+  pub field-short : length roll < 16 → [] ≡ nameAt roll at
+  field-short h = outside (omega arith)
+
+  module _ (l : 16 ≤ length roll) where
+    pub field-past : length roll - 16 < at → [] ≡ nameAt roll at
+    field-past h = outside (omega arith)
+
+  pub field-in : (p : List ℕ) (e : ℕ) → e ≡ at + 16 → p ≡ partOf roll at e → p ≡ nameAt roll at
+  unfolding nameAt
+  field-in p e q h = h ∙ ap (partOf roll at) q
+
+pub ruleset field-laws = (field-short, field-past, field-in)
+
+-- two names
+module _ (a b : List ℕ) where
+  pub same-bytes : sameName a b ≡ true → (j : ℕ) → j < 16 → byteAt a j ≡ byteAt b j
+  unfolding sameName sameByte
+  same-bytes h j l = eqb-true _ _ (all-each (sameByte a b) 16 j h l)
+
+  pub same-of : ((j : ℕ) → j < 16 → byteAt a j ≡ byteAt b j) → sameName a b ≡ true
+  unfolding sameName sameByte
+  same-of h = all-of (sameByte a b) 16 (λ j l. eq-eqb _ _ (h j l))
+
+  four-same : (p : ℕ) → p + 4 ≤ 16 → sameName a b ≡ true → u32At a p ≡ u32At b p
+  unfolding u32At byteAt
+  four-same p l h =
+      rw
+      (same-bytes h p (omega arith), same-bytes h (p + 1) (omega arith), same-bytes h (p + 2) (omega arith), same-bytes h (p + 3) (omega arith))
+
+  module _ (p x y : ℕ) (ex : x ≡ u32At a p) (ey : y ≡ u32At b p) where
+    pub four-differ : (x ≡ y → ⊥) → p + 4 ≤ 16 → false ≡ sameName a b
+    four-differ n l = sym (false-of (sameName a b) (λ h. n (ex ∙ four-same p l h ∙ sym ey)))
+
+  module _ (sa : (j : ℕ) → getD a j 0 < 256) (sb : (j : ℕ) → getD b j 0 < 256) where
+    bytes : (p j : ℕ) → u32At a p ≡ u32At b p → p ≤ j → j < p + 4 → byteAt a j ≡ byteAt b j
+    unfolding u32At byteAt
+    bytes p j e l u = let k : j ≡ p + (j - p) = omega arith in rw k (at (j - p) (omega arith))
+      where
+        four : (getD a p 0 ≡ getD b p 0) × (getD a (p + 1) 0 ≡ getD b (p + 1) 0) × (getD a (p + 2) 0 ≡ getD b (p + 2) 0) × (getD a (p + 3) 0 ≡ getD b (p + 3) 0)
+        four =
+            same-four (getD a p 0) (getD a (p + 1) 0) (getD a (p + 2) 0) (getD a (p + 3) 0) (getD b p 0) (getD b (p + 1) 0) (getD b (p + 2) 0) (getD b (p + 3) 0)
+            (sa p) (sa (p + 1)) (sa (p + 2)) (sb p) (sb (p + 1)) (sb (p + 2)) e
+
+        at : (r : ℕ) → r < 4 → getD a (p + r) 0 ≡ getD b (p + r) 0
+        at zero h = let z : p + 0 ≡ p = omega arith in rw z (four .0)
+        at (suc zero) h = four .1
+        at (suc (suc zero)) h = four .2
+        at (suc (suc (suc zero))) h = four .3
+        at (suc (suc (suc (suc r)))) h = absurd (omega arith)
+
+    pub fours-same : u32At a 0 ≡ u32At b 0 → u32At a 4 ≡ u32At b 4 → u32At a 8 ≡ u32At b 8 → u32At a 12 ≡ u32At b 12 → sameName a b ≡ true
+    fours-same e0 e4 e8 e12 = same-of (λ j l. ⊎-elim (λ (u : j < 8). low j u) (λ (u : 8 ≤ j). high j u l) (lt-or-ge j 8))
+      where
+        low : (j : ℕ) → j < 8 → byteAt a j ≡ byteAt b j
+        low j l = ⊎-elim (λ (u : j < 4). bytes 0 j e0 (omega arith) u) (λ (u : 4 ≤ j). bytes 4 j e4 u l) (lt-or-ge j 4)
+
+        high : (j : ℕ) → 8 ≤ j → j < 16 → byteAt a j ≡ byteAt b j
+        high j g l = ⊎-elim (λ (u : j < 12). bytes 8 j e8 g u) (λ (u : 12 ≤ j). bytes 12 j e12 u l) (lt-or-ge j 12)
+
+    -- the last four decide, where the others are equal
+    pub fours-decide : (x0 y0 x4 y4 x8 y8 x y : ℕ) → x0 ≡ u32At a 0 → y0 ≡ u32At b 0 → x0 ≡ y0 → x4 ≡ u32At a 4 → y4 ≡ u32At b 4 → x4 ≡ y4
+        → x8 ≡ u32At a 8 → y8 ≡ u32At b 8 → x8 ≡ y8 → x ≡ u32At a 12 → y ≡ u32At b 12 → eqb x y ≡ sameName a b
+    fours-decide x0 y0 x4 y4 x8 y8 x y a0 b0 e0 a4 b4 e4 a8 b8 e8 ex ey = go (eqb x y) refl
+      where
+        go : (t : Bool) → eqb x y ≡ t → t ≡ sameName a b
+        go true q = sym (fours-same (sym a0 ∙ e0 ∙ b0) (sym a4 ∙ e4 ∙ b4) (sym a8 ∙ e8 ∙ b8) (sym ex ∙ eqb-true _ _ q ∙ ey))
+        go false q = four-differ 12 x y ex ey (λ p. clash (eq-eqb _ _ p) q) (omega arith)
+
+-- the name at a place
+module _ (roll : List ℕ) (at : ℕ) (name : List ℕ) where
+  pub name-long : 16 < length name → false ≡ isNameAt roll at name
+  unfolding isNameAt
+  name-long h = sym (rw (lt-leb _ _ h))
+
+  pub name-fits : (f : List ℕ) (b : Bool) → length name ≤ 16 → f ≡ nameAt roll at → b ≡ sameName f name → b ≡ isNameAt roll at name
+  unfolding isNameAt
+  name-fits f b h ef eb = eb ∙ sym (rw (le-leb _ _ h, ← ef))
+
+pub ruleset named-laws = (name-long, name-fits)
+
+-- the rule of a name
+module _ (s : List ℕ) where
+  module _ (j x : ℕ) (ex : x ≡ byteAt s j) where
+    pub nul-no : (x ≡ 0 → ⊥) → true ≡ nulThenNul s j
+    unfolding nulThenNul
+    nul-no n = sym (rw (← ex, ne-eqb _ _ n))
+
+    pub nul-yes : (y : ℕ) → x ≡ 0 → y ≡ byteAt s (j + 1) → eqb y 0 ≡ nulThenNul s j
+    unfolding nulThenNul
+    nul-yes y z ey = sym (rw (← ex, eq-eqb _ _ z, ← ey))
+
+  module _ (x : ℕ) (ex : x ≡ byteAt s 0) where
+    pub right-empty : x ≡ 0 → false ≡ nameRight s
+    unfolding nameRight
+    right-empty z = sym (rw (← ex, eq-eqb _ _ z))
+
+    module _ (n : x ≡ 0 → ⊥) (y : ℕ) (ey : y ≡ byteAt s 15) where
+      pub right-full : (y ≡ 0 → ⊥) → false ≡ nameRight s
+      unfolding nameRight
+      right-full z = sym (rw (← ex, ne-eqb _ _ n, ← ey, ne-eqb _ _ z))
+
+      module _ (z : y ≡ 0) where
+        rest : nameRight s ≡ all 15 (nulThenNul s)
+        unfolding nameRight
+        rest = rw (← ex, ne-eqb _ _ n, ← ey, eq-eqb _ _ z)
+
+        pub right-not : (j : ℕ) (b : Bool) → j < 15 → b ≡ nulThenNul s j → not b ≡ true → false ≡ nameRight s
+        right-not j b l e q = sym (rest ∙ all-fails (nulThenNul s) 15 j l (sym e ∙ not-true b q))
+
+        pub right-done : (j : ℕ) → all j (nulThenNul s) ≡ true → j ≤ 15 → 15 ≤ j → true ≡ nameRight s
+        right-done j h l u = sym (rest ∙ all-done (nulThenNul s) 15 j h l u)
+
+  pub right-start : all 0 (nulThenNul s) ≡ true
+  right-start = all-none (nulThenNul s)
+
+  pub right-more : (j : ℕ) (b : Bool) → all j (nulThenNul s) ≡ true → b ≡ nulThenNul s j → not b ≡ false → all (j + 1) (nulThenNul s) ≡ true
+  right-more j b h e q = all-more (nulThenNul s) j h (sym e ∙ not-false b q)
+
+pub ruleset nul-laws = (nul-no, nul-yes)
+
+pub ruleset right-laws = (right-empty, right-full, right-not, right-done, right-start, right-more)

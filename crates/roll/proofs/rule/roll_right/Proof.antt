@@ -1,0 +1,45 @@
+use Rattle.roll.proofs.rule.Laws.{roll-laws}
+use borrow.Author.Needs.{needs}
+use Rattle.roll.proofs.rule.roll_right.Statement.{statement}
+use Rattle.roll.proofs.rule.roll_right.Tie as tie
+
+all-whole-requires : tie.Need-all-whole-requires
+all-whole-requires c κs = search needs
+
+returns : tie.Need-returns
+returns c = search (needs, roll-laws)
+
+ports-requires : tie.Need-ports-requires
+ports-requires c κs = search needs
+
+returns-2 : tie.Need-returns-2
+returns-2 c = search (needs, roll-laws)
+
+returns-3 : tie.Need-returns-3
+returns-3 c = search (needs, roll-laws)
+
+ports-right-requires : tie.Need-ports-right-requires
+ports-right-requires c κs = search needs
+
+returns-4 : tie.Need-returns-4
+returns-4 c = search (needs, roll-laws)
+
+all-distinct-requires : tie.Need-all-distinct-requires
+all-distinct-requires c κs = search needs
+
+returns-5 : tie.Need-returns-5
+returns-5 c = search (needs, roll-laws)
+
+pub roll-right-spec : {M : Type 1} → statement M
+roll-right-spec =
+    tie.close
+    (tie.spec
+    all-whole-requires
+    returns
+    ports-requires
+    returns-2
+    returns-3
+    ports-right-requires
+    returns-4
+    all-distinct-requires
+    returns-5)

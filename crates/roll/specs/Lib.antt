@@ -1,0 +1,4 @@
+pub mod Record
+pub mod Name
+pub mod Find
+pub mod Rule
