@@ -1,0 +1,2 @@
+-- Read back
+use Prim.Native.Nat.{ℕ}
