@@ -1,5 +1,5 @@
 -- The port of an index or of a name (document 01, refusal 16: "no such port, by index if given, else by name").
-use Prim.Native.Nat.{ℕ, zero, suc}
+use Prim.Native.Nat.{ℕ, suc}
 use mathlib.Core.List.{List}
 use mathlib.Core.Bool.{Bool, cond}
 use lib.Dec.{eqb}

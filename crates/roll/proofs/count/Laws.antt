@@ -1,11 +1,11 @@
 -- Laws of the count of ports.
-use Prim.Native.Nat.{ℕ, zero, suc, _+_}
-use mathlib.Core.Path.{_≡_, refl, ap, _∙_}
+use Prim.Native.Nat.{ℕ, suc, _+_}
+use mathlib.Core.Path.{_≡_, refl, ap}
 use mathlib.Core.List.{List}
 use native.Mathlib.Omega.{arith}
 use Rattle.roll.specs.declared.record.RecordRead.{RecordRead}
 use Rattle.roll.specs.declared.record.RecordRead.the-variants.{Port}
-use Rattle.roll.specs.Record.{recordAt, Records, records, portsIn, portCount}
+use Rattle.roll.specs.Record.{recordAt, records, portsIn, portCount}
 use Rattle.roll.proofs.record.Laws.{Last, turn-last, turn-port}
 
 -- n ports stand before a place

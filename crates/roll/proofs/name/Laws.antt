@@ -2,10 +2,10 @@
 use Prim.Native.Nat.{ℕ, zero, suc, _+_, _-_, _≤_, _<_}
 use mathlib.Core.Path.{_≡_, refl, sym, ap, _∙_}
 use mathlib.Core.List.{List, []}
-use mathlib.Core.Bool.{Bool, true, false, _&&_, _||_, not}
+use mathlib.Core.Bool.{Bool, true, false, not}
 use mathlib.Core.Logic.{⊎-elim}
 use lib.ListN.{length, getD}
-use lib.Dec.{eqb}
+use lib.Dec.{eqb, leb}
 use native.Mathlib.Omega.{arith}
 use borrow.Author.Tests.{eq-eqb, ne-eqb, eqb-true, le-leb, lt-leb, not-true, not-false}
 use Rattle.basics.specs.Numbers.{byteAt, u32At}
@@ -13,7 +13,7 @@ use Rattle.basics.specs.Scan.{all}
 use Rattle.basics.proofs.Numbers.{same-four}
 use Rattle.basics.proofs.Order.{lt-or-ge}
 use Rattle.basics.proofs.Scan.{all-none, all-more, all-fails, all-done, all-of, all-each}
-use Rattle.basics.proofs.Truth.{true-of, false-of, clash}
+use Rattle.basics.proofs.Truth.{false-of, both-true, clash}
 use Rattle.netlink.specs.Attributes.{partOf}
 use Rattle.netlink.proofs.attributes.Laws.{part-past}
 use Rattle.roll.specs.Name.{nameAt, sameByte, sameName, isNameAt, nulThenNul, nameRight}
@@ -102,6 +102,10 @@ module _ (roll : List ℕ) (at : ℕ) (name : List ℕ) where
   unfolding isNameAt
   name-fits f b h ef eb = eb ∙ sym (rw (le-leb _ _ h, ← ef))
 
+  pub named-same : isNameAt roll at name ≡ true → sameName (nameAt roll at) name ≡ true
+  unfolding isNameAt
+  named-same h = both-true (leb (length name) 16) (sameName (nameAt roll at) name) h .1
+
 pub ruleset named-laws = (name-long, name-fits)
 
 -- the rule of a name
@@ -141,6 +145,10 @@ module _ (s : List ℕ) where
 
   pub right-more : (j : ℕ) (b : Bool) → all j (nulThenNul s) ≡ true → b ≡ nulThenNul s j → not b ≡ false → all (j + 1) (nulThenNul s) ≡ true
   right-more j b h e q = all-more (nulThenNul s) j h (sym e ∙ not-false b q)
+
+  pub right-starts : nameRight s ≡ true → byteAt s 0 ≡ 0 → ⊥
+  unfolding nameRight
+  right-starts h z = clash h (rw z)
 
 pub ruleset nul-laws = (nul-no, nul-yes)
 

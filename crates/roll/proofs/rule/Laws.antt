@@ -1,24 +1,20 @@
 -- Laws of the rule: how the loops over the records decide it, and what a right roll gives.
-use Prim.Native.Nat.{ℕ, zero, suc, _+_, _≤_, _<_}
+use Prim.Native.Nat.{ℕ, _≤_, _<_}
 use mathlib.Core.Path.{_≡_, refl, sym, ap, _∙_}
 use mathlib.Core.List.{List}
-use mathlib.Core.Bool.{Bool, true, false, _&&_, not, cond}
-use lib.Dec.{eqb, leb}
-use native.Mathlib.Omega.{arith}
-use borrow.Author.Tests.{eq-eqb, ne-eqb, le-leb, lt-leb, leb-true, eqb-true, not-true, not-false}
-use Rattle.basics.specs.Numbers.{byteAt, u32At}
-use Rattle.basics.proofs.Truth.{both-true, false-of, clash}
+use mathlib.Core.Bool.{Bool, true, false, _&&_, not}
+use borrow.Author.Tests.{eq-eqb, ne-eqb, le-leb, lt-leb, leb-true, not-true, not-false}
+use Rattle.basics.specs.Numbers.{u32At}
+use Rattle.basics.proofs.Truth.{both-true}
 use Rattle.roll.specs.declared.record.RecordRead.{RecordRead}
 use Rattle.roll.specs.declared.record.RecordRead.the-variants.{Port, Unknown, Cut, End}
-use Rattle.roll.specs.declared.find.Found.{Found}
 use Rattle.roll.specs.declared.find.Found.the-variants as F
-use Rattle.roll.specs.Record.{recordAt, Records, onRecord, records, portCount}
-use Rattle.roll.specs.Record.Records.{done, broken, port}
+use Rattle.roll.specs.Record.{recordAt, onRecord, records, portCount}
+use Rattle.roll.specs.Record.Records.{port}
 use Rattle.roll.specs.Name.{nameAt, isNameAt, nameRight}
-use Rattle.roll.specs.Find.{find, isIndex, isNamed, byIndex, byName}
+use Rattle.roll.specs.Find.{isIndex, isNamed}
 use Rattle.roll.specs.Rule.{whole, each, portRight, another, distinct, rollRight}
 use Rattle.roll.proofs.record.Laws.{Last, turn, turn-last, turn-port}
-use Rattle.roll.proofs.name.Laws.{same-bytes}
 
 -- whole records
 abbrev pub WholeFrom : List ℕ → ℕ → Type 0

@@ -1,0 +1,19 @@
+use Rattle.boxes.proofs.layout.Laws.{of-laws}
+use borrow.Author.Needs.{needs}
+use Rattle.boxes.proofs.layout.number_of.Statement.{statement}
+use Rattle.boxes.proofs.layout.number_of.Tie as tie
+
+enum-told : tie.Need-enum-told
+enum-told c = search needs
+
+returns : tie.Need-returns
+returns c = search (needs, of-laws)
+
+enum-told-2 : tie.Need-enum-told-2
+enum-told-2 c = search needs
+
+returns-2 : tie.Need-returns-2
+returns-2 c = search (needs, of-laws)
+
+pub number-of-spec : {M : Type 1} → statement M
+number-of-spec = tie.close (tie.spec enum-told returns enum-told-2 returns-2)
