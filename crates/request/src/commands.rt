@@ -2,7 +2,7 @@
 ghost use mathlib.Core.Path.{_≡_};
 ghost use Rattle.request.specs.Commands.{row, commands, commandOf};
 
-// The numbers of the commands, and of those of their replies.
+// The numbers of the commands, and of their replies.
 const DEBUG_GET: u8 = 7;
 
 const DEBUG_SET: u8 = 8;
@@ -14,6 +14,9 @@ const PRIVFLAGS_SET: u8 = 14;
 const DEBUG_GET_REPLY: u8 = 7;
 
 const PRIVFLAGS_GET_REPLY: u8 = 14;
+
+// How many commands there are.
+const COUNT: usize = 4;
 
 // The set of a port that a command works on.
 pub enum Set {
@@ -46,7 +49,7 @@ fn row(number: u8, change: bool, set: Set, reply: u8) -> Command
 }
 
 // The table.
-fn commands() -> [Command; 4]
+fn commands() -> [Command; COUNT]
     ensures { λ r. ⌜ r ≡ commands ⌝ }
 {
     [
@@ -62,7 +65,7 @@ pub fn read_command(number: u8) -> CommandRead
     ensures { λ r. ⌜ r ≡ commandOf number ⌝ }
 {
     let rows = commands();
-    for i in 0..4 {
+    for i in 0..COUNT {
         let command = rows[i];
         if command.number == number {
             return CommandRead::Listed(command);

@@ -1,6 +1,6 @@
 -- Laws of what a request is aimed at: one for each return.
 use Prim.Native.Nat.{ℕ}
-use mathlib.Core.Path.{_≡_, refl, sym, ap, _∙_}
+use mathlib.Core.Path.{_≡_, sym, ap, _∙_}
 use mathlib.Core.List.{List}
 use Rattle.netlink.specs.declared.walk.Slot.{Slot}
 use Rattle.refusal.specs.declared.Refusal.{Refusal}

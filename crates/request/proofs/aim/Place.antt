@@ -1,16 +1,15 @@
 -- A port that a request is aimed at is one of the roll's, and its record lies in the roll.
-use Prim.Native.Nat.{ℕ, zero, suc, _+_, _-_, _≤_, _<_}
-use mathlib.Core.Path.{_≡_, refl, sym, ap, _∙_}
+use Prim.Native.Nat.{ℕ, zero, suc, _+_, _≤_, _<_}
+use mathlib.Core.Path.{_≡_, sym, ap, _∙_}
 use mathlib.Core.List.{List}
-use mathlib.Core.Bool.{Bool, true, false, _||_, not, cond}
-use lib.ListN.{length, getD}
-use lib.Dec.{ltb}
+use mathlib.Core.Bool.{Bool, true, false, cond}
+use lib.ListN.{length, length-take, length-drop}
 use native.Mathlib.Omega.{arith}
 use Rattle.netlink.specs.Attributes.{partOf}
-use Rattle.netlink.specs.Walk.{absent, walked, slotNumber}
+use Rattle.netlink.specs.Walk.{slotNumber}
 use Rattle.netlink.specs.declared.walk.Slot.{Slot}
-use Rattle.netlink.specs.declared.walk.Stop.{Stop}
-use Rattle.netlink.specs.declared.walk.Stop.the-variants as S
+use Rattle.netlink.proofs.attributes.Laws.{part-in}
+use Rattle.roll.specs.Name.{nameAt}
 use Rattle.roll.specs.Record.{recordAt, Records, onRecord, recordsUpTo, records, portCount}
 use Rattle.roll.specs.Record.Records.{done, broken, port}
 use Rattle.roll.specs.Find.{find, isIndex, isNamed, byIndex, byName}
@@ -130,5 +129,11 @@ module _ (roll : List ℕ) where
       go (H.Parts index name flags) = with-flags-in (targetOf m header index name roll) flags (target-in m header index name)
 
   -- a port that a request is aimed at
-  pub aimed-in : (m : List ℕ) (header : Slot) (k i n e f : ℕ) → A.Port k i n e f ≡ aimOf m header roll → InRoll roll k i n e
-  aimed-in m header k i n e f q = rw (sym q) at (aim-in m header)
+  pub aimed-in : (m : List ℕ) (header : Slot) (r : Aim) (k i n e f : ℕ) → r ≡ aimOf m header roll → r ≡ A.Port k i n e f → InRoll roll k i n e
+  aimed-in m header r k i n e f er q = rw (sym er ∙ q) at (aim-in m header)
+
+  -- its name is a whole field
+  pub name-whole : (k i n e : ℕ) → InRoll roll k i n e → length (nameAt roll n) ≡ 16
+  unfolding nameAt
+  name-whole k i n e p =
+      ap length (sym (part-in roll n (n + 16) (omega arith) (omega arith))) ∙ simp (length-take, length-drop) (omega arith)

@@ -1,7 +1,7 @@
 -- Laws of the search through the rows of the commands.
 use Prim.Native.Nat.{ℕ, suc, _+_, _≤_, _<_}
-use mathlib.Core.Path.{_≡_, refl, sym, ap, _∙_}
-use mathlib.Core.List.{List, []}
+use mathlib.Core.Path.{_≡_, sym, ap, _∙_}
+use mathlib.Core.List.{List}
 use mathlib.Core.Bool.{false, cond}
 use lib.ListN.{length, getD, drop, drop-of-length-le}
 use lib.Seq.{drop-cons}
@@ -12,7 +12,6 @@ use borrow.Author.Tests.{eq-eqb, ne-eqb}
 use Rattle.request.specs.Commands.{row, commands, rowOf, commandOf}
 use Rattle.request.specs.declared.commands.Set.the-variants.{Debug}
 use Rattle.request.specs.declared.commands.Command.{Command}
-use Rattle.request.specs.declared.commands.CommandRead.{CommandRead}
 use Rattle.request.specs.declared.commands.CommandRead.the-variants.{Listed, Unlisted}
 
 -- the rows before i are of other numbers
@@ -27,8 +26,8 @@ pub rows-start : (number : ℕ) (rows : List Command) → rows ≡ commands → 
 unfolding commandOf RowsFrom
 rows-start number rows e = rw e
 
-module _ (number : ℕ) (rows : List Command) (i : ℕ) (inv : RowsFrom number rows i) (four : length rows ≡ 4) where
-  module _ (h : i < 4) where
+module _ (number : ℕ) (rows : List Command) (i : ℕ) (inv : RowsFrom number rows i) (n : ℕ) (size : length rows ≡ n) where
+  module _ (h : i < n) where
     turn : commandOf number ≡ cond (eqb (getD rows i blank .number) number) (Listed (getD rows i blank)) (rowOf (drop (suc i) rows) number)
     unfolding rowOf RowsFrom
     turn = inv ∙ ap (λ (x : List Command). rowOf x number) (drop-cons rows i blank (omega arith))
@@ -40,7 +39,7 @@ module _ (number : ℕ) (rows : List Command) (i : ℕ) (inv : RowsFrom number r
     unfolding RowsFrom
     rows-next q = turn ∙ rw (ne-eqb _ _ q, add-one i)
 
-  pub rows-done : 4 ≤ i → Unlisted ≡ commandOf number
+  pub rows-done : n ≤ i → Unlisted ≡ commandOf number
   unfolding rowOf RowsFrom
   rows-done h = sym (inv ∙ ap (λ (x : List Command). rowOf x number) (drop-of-length-le rows {i = i} (omega arith)))
 

@@ -1,10 +1,8 @@
--- Laws of the search for the port: one for each return, and where the port stands that is found.
-use Prim.Native.Nat.{ℕ, zero, suc, _+_, _-_, _≤_, _<_}
-use mathlib.Core.Path.{_≡_, refl, sym, ap, _∙_}
+-- Laws of the search for the port: one for each return.
+use Prim.Native.Nat.{ℕ, _-_}
+use mathlib.Core.Path.{_≡_, sym, ap, _∙_}
 use mathlib.Core.List.{List}
 use mathlib.Core.Bool.{Bool, true, false, _&&_, not, cond}
-use lib.ListN.{length}
-use native.Mathlib.Omega.{arith}
 use borrow.Author.Tests.{not-true, not-false}
 use Rattle.basics.proofs.Truth.{cond-true, cond-false}
 use Rattle.netlink.specs.Attributes.{partOf}
