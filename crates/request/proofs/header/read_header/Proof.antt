@@ -1,0 +1,61 @@
+use Rattle.request.proofs.header.Laws.{header-laws}
+use borrow.Author.Needs.{needs}
+use Rattle.request.proofs.header.read_header.Statement.{statement}
+use Rattle.request.proofs.header.read_header.Tie as tie
+
+header-policy-requires : tie.Need-header-policy-requires
+header-policy-requires c κs = search needs
+
+payload-requires : tie.Need-payload-requires
+payload-requires c κs = search needs
+
+walk-requires : tie.Need-walk-requires
+walk-requires c κs = search needs
+
+enum-known-stop : tie.Need-enum-known-stop
+enum-known-stop c = search needs
+
+of-fault-requires : tie.Need-of-fault-requires
+of-fault-requires c κs = search needs
+
+returns : tie.Need-returns
+returns c = search (needs, header-laws)
+
+enum-told : tie.Need-enum-told
+enum-told c = search needs
+
+element-copy-out-index : tie.Need-element-copy-out-index
+element-copy-out-index c = search needs
+
+element-copy-out-name : tie.Need-element-copy-out-name
+element-copy-out-name c = search needs
+
+element-copy-out-flags : tie.Need-element-copy-out-flags
+element-copy-out-flags c = search needs
+
+place-requires : tie.Need-place-requires
+place-requires c κs = search needs
+
+judge-parts-requires : tie.Need-judge-parts-requires
+judge-parts-requires c κs = search needs
+
+returns-2 : tie.Need-returns-2
+returns-2 c = search (needs, header-laws)
+
+pub read-header-spec : {M : Type 1} → statement M
+read-header-spec =
+    tie.close
+    (tie.spec
+    header-policy-requires
+    payload-requires
+    walk-requires
+    enum-known-stop
+    of-fault-requires
+    returns
+    enum-told
+    element-copy-out-index
+    element-copy-out-name
+    element-copy-out-flags
+    place-requires
+    judge-parts-requires
+    returns-2)

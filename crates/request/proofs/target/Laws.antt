@@ -1,0 +1,83 @@
+-- Laws of the search for the port: one for each return.
+use Prim.Native.Nat.{ℕ, _-_}
+use mathlib.Core.Path.{_≡_, sym, ap, _∙_}
+use mathlib.Core.List.{List}
+use mathlib.Core.Bool.{Bool, true, false, _&&_, not, cond}
+use borrow.Author.Tests.{not-true, not-false}
+use Rattle.basics.proofs.Truth.{cond-true, cond-false}
+use Rattle.netlink.specs.Attributes.{partOf}
+use Rattle.netlink.specs.Walk.{slotNumber}
+use Rattle.netlink.specs.declared.walk.Slot.{Slot}
+use Rattle.refusal.specs.declared.Refusal.the-variants.{UnknownPort, OtherName}
+use Rattle.roll.specs.Find.{byIndex, byName}
+use Rattle.roll.specs.Name.{isNameAt}
+use Rattle.roll.specs.declared.find.Found.{Found}
+use Rattle.roll.specs.declared.find.Found.the-variants as F
+use Rattle.request.specs.Target.{onFound, otherName, portByIndex, portByName, targetOf}
+use Rattle.request.specs.declared.target.Target.{Target}
+use Rattle.request.specs.declared.target.Target.the-variants.{Port, Refused}
+
+module _ (m : List ℕ) (name : Slot) (roll : List ℕ) (at : ℕ) where
+  pub other-absent : not (name .present) ≡ true → false ≡ otherName m name roll at
+  unfolding otherName
+  other-absent h = sym (ap (λ (x : Bool). x && not (isNameAt roll at (partOf m (name .start) (name .end)))) (not-true (name .present) h))
+
+  pub other-given : (p : List ℕ) (b : Bool) → not (name .present) ≡ false → p ≡ partOf m (name .start) (name .end) → b ≡ isNameAt roll at p
+      → not b ≡ otherName m name roll at
+  unfolding otherName
+  other-given p b h ep eb =
+      ap not (eb ∙ ap (isNameAt roll at) ep)
+      ∙ sym (ap (λ (x : Bool). x && not (isNameAt roll at (partOf m (name .start) (name .end)))) (not-false (name .present) h))
+
+pub ruleset other-laws = (other-absent, other-given)
+
+module _ (m : List ℕ) (header index name : Slot) (roll : List ℕ) (x : ℕ) (ex : x ≡ slotNumber m index) (f : Found) (ef : f ≡ byIndex roll x) where
+  judge : ℕ → ℕ → ℕ → ℕ → Target
+  judge k i n e = cond (otherName m name roll n) (Refused (OtherName (header .start - 4))) (Port k i n e)
+
+  by-index : portByIndex m header index name roll ≡ onFound f (Refused (UnknownPort (index .start - 4))) judge
+  unfolding portByIndex judge
+  by-index = sym (ap (λ (y : Found). onFound y (Refused (UnknownPort (index .start - 4))) judge) (ef ∙ ap (byIndex roll) ex))
+
+  pub index-unknown : (at : ℕ) → at ≡ index .start - 4 → f ≡ F.Nothing → Refused (UnknownPort at) ≡ portByIndex m header index name roll
+  index-unknown at ea q =
+      ap (λ (y : ℕ). Refused (UnknownPort y)) ea ∙ sym (by-index ∙ ap (λ (y : Found). onFound y (Refused (UnknownPort (index .start - 4))) judge) q)
+
+  module _ (k i n e : ℕ) (q : f ≡ F.Port k i n e) (b : Bool) (eb : b ≡ otherName m name roll n) where
+    found : portByIndex m header index name roll ≡ cond b (Refused (OtherName (header .start - 4))) (Port k i n e)
+    unfolding judge
+    found =
+        by-index ∙ ap (λ (y : Found). onFound y (Refused (UnknownPort (index .start - 4))) judge) q
+        ∙ ap (λ (y : Bool). cond y (Refused (OtherName (header .start - 4))) (Port k i n e)) (sym eb)
+
+    pub index-other : (at : ℕ) → at ≡ header .start - 4 → b ≡ true → Refused (OtherName at) ≡ portByIndex m header index name roll
+    index-other at ea h = ap (λ (y : ℕ). Refused (OtherName y)) ea ∙ sym (found ∙ cond-true b _ _ h)
+
+    pub index-found : b ≡ false → Port k i n e ≡ portByIndex m header index name roll
+    index-found h = sym (found ∙ cond-false b _ _ h)
+
+pub ruleset index-laws = (index-unknown, index-other, index-found)
+
+module _ (m : List ℕ) (name : Slot) (roll p : List ℕ) (ep : p ≡ partOf m (name .start) (name .end)) (f : Found) (ef : f ≡ byName roll p) where
+  by-name : portByName m name roll ≡ onFound f (Refused (UnknownPort (name .start - 4))) Port
+  unfolding portByName
+  by-name = sym (ap (λ (y : Found). onFound y (Refused (UnknownPort (name .start - 4))) Port) (ef ∙ ap (byName roll) ep))
+
+  pub name-unknown : (at : ℕ) → at ≡ name .start - 4 → f ≡ F.Nothing → Refused (UnknownPort at) ≡ portByName m name roll
+  name-unknown at ea q = ap (λ (y : ℕ). Refused (UnknownPort y)) ea ∙ sym (rw q at by-name)
+
+  pub name-found : (k i n e : ℕ) → f ≡ F.Port k i n e → Port k i n e ≡ portByName m name roll
+  name-found k i n e q = sym (rw q at by-name)
+
+pub ruleset name-laws = (name-unknown, name-found)
+
+module _ (m : List ℕ) (header index name : Slot) (roll : List ℕ) (t : Target) where
+  pub target-index : index .present ≡ true → t ≡ portByIndex m header index name roll → t ≡ targetOf m header index name roll
+  unfolding targetOf
+  target-index h e = e ∙ sym (cond-true (index .present) _ _ h)
+
+  pub target-name : index .present ≡ false → t ≡ portByName m name roll → t ≡ targetOf m header index name roll
+  unfolding targetOf
+  target-name h e = e ∙ sym (cond-false (index .present) _ _ h)
+
+pub ruleset target-laws = (target-index, target-name)

@@ -1,0 +1,26 @@
+-- Document 01, "What a call says back", levels: "Then the header is walked whole, then 14 to 17".
+use Prim.Native.Nat.{ℕ}
+use mathlib.Core.List.{List}
+use Rattle.netlink.specs.declared.walk.Slot.{Slot}
+use Rattle.request.specs.Header.{headerOf}
+use Rattle.request.specs.Target.{targetOf}
+use Rattle.request.specs.declared.header.Header.{Header}
+use Rattle.request.specs.declared.header.Header.the-variants as H
+use Rattle.request.specs.declared.target.Target.{Target}
+use Rattle.request.specs.declared.target.Target.the-variants as T
+use Rattle.request.specs.declared.aim.Aim.{Aim}
+use Rattle.request.specs.declared.aim.Aim.the-variants.{Port, Refused}
+
+-- a port with the header's flags, or 16 or 17
+unfoldable pub withFlags : Target → ℕ → Aim
+withFlags (T.Refused why) flags = Refused why
+withFlags (T.Port position index name end) flags = Port position index name end flags
+
+-- a refusal of the header level, or what its parts come to
+abbrev pub onHeader : Header → (Slot → Slot → ℕ → Aim) → Aim
+onHeader (H.Refused why) rest = Refused why
+onHeader (H.Parts index name flags) rest = rest index name flags
+
+-- the port that the header nest of the message m names
+unfoldable pub aimOf : List ℕ → Slot → List ℕ → Aim
+aimOf m header roll = onHeader (headerOf m header) (λ index name flags. withFlags (targetOf m header index name roll) flags)

@@ -1,0 +1,34 @@
+-- Document 01, "What a call says back", levels: "Then the header is walked whole, then 14 to 17": here 14 and 15.
+use Prim.Native.Nat.{ℕ, _-_}
+use mathlib.Core.List.{List}
+use mathlib.Core.Bool.{_||_, not, cond}
+use lib.ListN.{getD}
+use lib.Dec.{ltb}
+use Rattle.netlink.specs.Attributes.{partOf}
+use Rattle.netlink.specs.Walk.{absent, walked, slotNumber}
+use Rattle.netlink.specs.declared.walk.Slot.{Slot}
+use Rattle.refusal.specs.declared.Refusal.the-variants.{NoPort, HeaderFlag}
+use Rattle.request.specs.Policies.{headerPolicy}
+use Rattle.request.specs.Top.{onStop}
+use Rattle.request.specs.declared.header.Header.{Header}
+use Rattle.request.specs.declared.header.Header.the-variants.{Parts, Refused}
+
+-- 15, "header flag other than 1, 2": the flags are a bit map, and absent ones are 0
+unfoldable pub flagsJudged : List ℕ → Slot → Slot → Slot → Header
+flagsJudged m index name flags =
+    cond (ltb 3 (slotNumber m flags)) (Refused (HeaderFlag (flags .start - 4)))
+    (Parts index name (slotNumber m flags))
+
+-- 14, "neither index nor name of a port", of the nest at a place; then 15
+unfoldable pub partsOf : List ℕ → ℕ → Slot → Slot → Slot → Header
+partsOf m nest index name flags =
+    cond (not (index .present || name .present)) (Refused (NoPort nest)) (flagsJudged m index name flags)
+
+-- the header nest, walked whole in the message m cut at the nest's end: every place counts from the start of m
+unfoldable pub headerOf : List ℕ → Slot → Header
+headerOf m header =
+    onStop (walked headerPolicy (partOf m 0 (header .end)) (header .start) .stop) Refused
+    (partsOf m (header .start - 4)
+    (getD (walked headerPolicy (partOf m 0 (header .end)) (header .start) .slots) 1 absent)
+    (getD (walked headerPolicy (partOf m 0 (header .end)) (header .start) .slots) 2 absent)
+    (getD (walked headerPolicy (partOf m 0 (header .end)) (header .start) .slots) 3 absent))

@@ -1,0 +1,52 @@
+// The top level of a request: refusals 10 to 13.
+ghost use mathlib.Core.Path.{_≡_};
+ghost use Rattle.request.specs.Top.{nestsOf, topOf};
+use crate::policies::BITSET;
+use crate::policies::HEADER;
+use crate::policies::top_policy;
+use netlink::headers::GenericHeader;
+use netlink::headers::MessageHeader;
+use netlink::walk::Slot;
+use netlink::walk::Stop;
+use netlink::walk::walk;
+use refusal::Refusal;
+use refusal::of_fault;
+
+pub enum Top {
+    // The bitset is absent in a GET.
+    Nests { header: Slot, bitset: Slot },
+    Refused(Refusal),
+}
+
+// Judges what the top level lacks: the header, then in a SET the bitset.
+fn judge_nests(change: bool, header: Slot, bitset: Slot) -> Top
+    ensures { λ r. ⌜ r ≡ nestsOf change header bitset ⌝ }
+{
+    if !header.present {
+        return Top::Refused(Refusal::MissingTop(HEADER));
+    }
+    if change {
+        if !bitset.present {
+            return Top::Refused(Refusal::MissingTop(BITSET));
+        }
+    }
+    Top::Nests { header, bitset }
+}
+
+// Walks the top level of a message whole, then judges what it lacks.
+pub fn read_top(message: &[u8], change: bool) -> Top
+    ensures { λ r. ⌜ r ≡ topOf (now (message .entry)) change ⌝ }
+{
+    let walked = walk(
+        top_policy(change),
+        message,
+        MessageHeader::SIZE + GenericHeader::SIZE,
+    );
+    let stop = walked.stop;
+    if let Stop::At { fault, at } = stop {
+        return Top::Refused(of_fault(fault, at));
+    }
+    let header = walked.slots[HEADER];
+    let bitset = walked.slots[BITSET];
+    judge_nests(change, header, bitset)
+}
