@@ -1,8 +1,8 @@
 -- Read back by places: what netlink reads where an attribute or a nest was written, and what a walk makes of the attributes that it reads.
 use Prim.Native.Nat.{ℕ, _+_, _-_, _%_, _≤_, _<_}
 use mathlib.Core.Path.{_≡_, refl, sym, ap, _∙_}
-use mathlib.Core.List.{List, _++_}
-use lib.ListN.{length, take, drop}
+use mathlib.Core.List.{List, [], _++_}
+use lib.ListN.{length}
 use lib.Seq.{take-all}
 use native.Mathlib.Omega.{arith}
 use Rattle.netlink.specs.Attributes.{Attributes, attributes, partOf}
@@ -13,7 +13,11 @@ use Rattle.netlink.specs.declared.walk.Stop.{Stop}
 use Rattle.netlink.specs.declared.walk.Stop.the-variants.{Whole}
 use Rattle.netlink.proofs.attributes.Laws.{part-in}
 use Rattle.netlink_write.specs.Attributes.{attr, nest}
-use Rattle.netlink_write.proofs.ReadBack.{payload-back, attributes-back, nests-back}
+use Rattle.netlink_write.proofs.ReadBack.{part-back, payload-back, attributes-back, nests-back}
+
+-- the front of a list, and all of it
+pub part-front : (s post : List ℕ) (e : ℕ) → e ≡ length s → partOf (s ++ post) 0 e ≡ s
+part-front s post e h = part-back [] s post 0 e refl (omega arith)
 
 pub part-all : (s : List ℕ) (e : ℕ) → e ≡ length s → partOf s 0 e ≡ s
 part-all s e h = sym (part-in s 0 e (omega arith) (omega arith)) ∙ take-all (e - 0) s (omega arith)

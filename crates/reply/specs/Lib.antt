@@ -1,3 +1,4 @@
 pub mod List
 pub mod Set
 pub mod Message
+pub mod Claims

@@ -1,5 +1,4 @@
 // BITS: a nest with one BIT for each bit that is listed.
-ghost use mathlib.Core.Path.{_≡_};
 ghost use Prim.Native.Nat.{_+_, _*_, _≤_, _<_};
 ghost use lib.ListN.{length};
 ghost use Rattle.bits.specs.Set.{has};

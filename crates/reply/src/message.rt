@@ -57,7 +57,15 @@ fn close_message(page: &mut [u8], h: Heading, attributes: usize) -> usize
 }
 
 // The port's nest, then the set's.
-fn put_attributes(page: &mut [u8], index: u32, name: &[u8], compact: bool, names: &[u8], words: &[u32], n: usize) -> usize
+fn put_attributes(
+    page: &mut [u8],
+    index: u32,
+    name: &[u8],
+    compact: bool,
+    names: &[u8],
+    words: &[u32],
+    n: usize,
+) -> usize
     requires { ⌜ (length (now name) ≤ 16) × (length (now words) ≡ wordsFor n) × (n ≤ 512) × (26680 ≤ length (now page)) ⌝ }
     ensures { λ r. ⌜ Wrote (attributesBytes index (now (name .entry)) compact (now (names .entry)) (now (words .entry)) n) (now (page .entry)) (now (page .exit)) r ⌝ }
     ensures { λ r. ⌜ r ≤ 26680 ⌝ }
@@ -68,7 +76,16 @@ fn put_attributes(page: &mut [u8], index: u32, name: &[u8], compact: bool, names
 }
 
 // The reply about one set of one port: its index and name, then the n bits in the words, with their names.
-pub fn put_reply(page: &mut [u8], h: Heading, index: u32, name: &[u8], compact: bool, names: &[u8], words: &[u32], n: usize) -> usize
+pub fn put_reply(
+    page: &mut [u8],
+    h: Heading,
+    index: u32,
+    name: &[u8],
+    compact: bool,
+    names: &[u8],
+    words: &[u32],
+    n: usize,
+) -> usize
     requires { ⌜ (length (now name) ≤ 16) × (length (now words) ≡ wordsFor n) × (n ≤ 512) × (26700 ≤ length (now page)) ⌝ }
     ensures { λ r. ⌜ Wrote (replyBytes h index (now (name .entry)) compact (now (names .entry)) (now (words .entry)) n) (now (page .entry)) (now (page .exit)) r ⌝ }
     ensures { λ r. ⌜ r ≤ 26700 ⌝ }

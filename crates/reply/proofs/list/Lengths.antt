@@ -1,8 +1,8 @@
 -- How long a nest of index and name is, and BITS: whole words, and at most 48 bytes for a BIT with a right name.
 use Prim.Native.Nat.{ℕ, zero, suc, _+_, _*_, _%_, _≤_, _<_}
-use mathlib.Core.Path.{_≡_, refl, sym, ap, _∙_}
+use mathlib.Core.Path.{_≡_, refl}
 use mathlib.Core.Bool.{Bool, true, false, cond}
-use mathlib.Core.List.{List, [], _∷_, _++_}
+use mathlib.Core.List.{List, [], _∷_}
 use lib.ListN.{length, take, getD, length-append}
 use lib.Dec.{eqb}
 use native.Mathlib.Omega.{arith}
@@ -18,18 +18,19 @@ use Rattle.netlink_write.specs.Attributes.{attr, nameBytes, named, identity, nu
 use Rattle.netlink_write.proofs.attributes.Laws.{length-attr, length-nest, length-name}
 use Rattle.reply.specs.List.{bitIn, bitsBytes}
 
+pub length-nameBytes : (name : List ℕ) → length (nameBytes name) ≡ nulAt name + 1
+unfolding nameBytes
+length-nameBytes name = omega (arith, length-append (take (nulAt name) name) (0 ∷ []), length-name name (nulAt name) refl)
+
 -- a nest of index and name
 module _ (number : ℕ) (name : List ℕ) where
   length-named : (length (named name) % 4 ≡ 0) × (length (named name) ≤ roundUp4 (nulAt name + 5))
-  unfolding named nameBytes
+  unfolding named
   length-named = go (eqb (nulAt name) 0)
     where
-      payload : length (nameBytes name) ≡ nulAt name + 1
-      payload = omega (arith, length-append (take (nulAt name) name) (0 ∷ []), length-name name (nulAt name) refl)
-
       go : (t : Bool) → (length (cond t [] (attr 2 (nameBytes name))) % 4 ≡ 0) × (length (cond t [] (attr 2 (nameBytes name))) ≤ roundUp4 (nulAt name + 5))
       go true = (refl, omega arith)
-      go false = let l = length-attr 2 (nameBytes name) in let p = payload in (omega arith, omega arith)
+      go false = let l = length-attr 2 (nameBytes name) in let p = length-nameBytes name in (omega arith, omega arith)
 
   pub identity-whole : length (identity number name) % 4 ≡ 0
   unfolding identity
