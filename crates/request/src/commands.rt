@@ -1,6 +1,7 @@
 // The commands that are taken up, a row of one table each.
 ghost use mathlib.Core.Path.{_≡_};
 ghost use Rattle.request.specs.Commands.{row, commands, commandOf};
+use boxes::layout::Set;
 
 // The numbers of the commands, and of their replies.
 const DEBUG_GET: u8 = 7;
@@ -17,12 +18,6 @@ const PRIVFLAGS_GET_REPLY: u8 = 14;
 
 // How many commands there are.
 const COUNT: usize = 4;
-
-// The set of a port that a command works on.
-pub enum Set {
-    Debug,
-    Flags,
-}
 
 // A command: its number, whether it changes the set (SET) or asks for it (GET), the set, and the command of its reply.
 pub struct Command {
