@@ -14,16 +14,14 @@ use Rattle.names.proofs.Rules.{right-means}
 use Rattle.netlink.specs.Attributes.{attributes}
 use Rattle.netlink.specs.Attributes.Attributes.{done, attribute}
 use Rattle.netlink.specs.Policy.{nulAt}
-use Rattle.netlink_write.specs.Headers.{attributeHeaderBytes}
 use Rattle.netlink_write.specs.Attributes.{nest, identity, numbered}
 use Rattle.netlink_write.proofs.ReadBack.{attributes-end}
-use Rattle.netlink_write.proofs.headers.Laws.{length-attribute-header}
 use Rattle.netlink_write.proofs.attributes.Laws.{length-nest}
 use Rattle.reply.specs.Set.{contentsBytes, setBytes}
 use Rattle.reply.specs.Message.{headersBytes, attributesBytes, replyBytes}
 use Rattle.reply.specs.Claims.{ReadsBack}
 use Rattle.reply.specs.declared.message.Heading.{Heading}
-use Rattle.reply.proofs.Places.{nest-at}
+use Rattle.reply.proofs.Places.{part-all, upTo, nest-at, contents-at, cut-at}
 use Rattle.reply.proofs.list.Lengths.{Short, right-short, identity-whole, identity-most, length-numbered}
 use Rattle.reply.proofs.set.Lengths.{contents-whole, contents-most}
 use Rattle.reply.proofs.set.ReadBack.{set-back}
@@ -54,32 +52,38 @@ module _ (h : Heading) (index : ℕ) (name : List ℕ) (compact : Bool) (names w
       port-in ∙ sym (append-assoc headers (numbered 1 index name) (nest 2 contents))
       ∙ ap (λ (l : List ℕ). (headers ++ numbered 1 index name) ++ l) (sym (append-nil (nest 2 contents)))
 
+  set-at : 20 + length (numbered 1 index name) ≡ length (headers ++ numbered 1 index name)
+  set-at = omega (arith, long, length-append headers (numbered 1 index name))
+
+  total : length reply ≡ length contents + length (numbered 1 index name) + 24
+  unfolding reply contents
+  total = length-parts h index name compact names words n
+
   -- its attributes: the port's nest, then the set's, which ends the message
   pub reply-attributes : nulAt name < 16 → attributes (replyBytes h index name compact names words n) 20
       ≡ attribute 1 2 24 (20 + length (numbered 1 index name))
       (attribute 2 2 (24 + length (numbered 1 index name)) (length (replyBytes h index name compact names words n)) done)
   unfolding reply contents numbered
-  reply-attributes short =
+  reply-attributes port =
       let few : n ≤ 512 = rw en at (right-means names right .few) in
-      let shorts : Short names n = rw en at (right-short names right) in
-      let port = length-numbered index name 1 in
-      let total = length-parts h index name compact names words n in
-      let place : 20 + length (numbered 1 index name) ≡ length (headers ++ numbered 1 index name) = omega (arith, long, length-append headers (numbered 1 index name)) in
-      nest-at reply headers (nest 2 contents) (identity index name) 1 20 24 (20 + length (numbered 1 index name)) port-in (sym long)
-      (omega arith) (omega (arith, identity-most index name)) (identity-whole index name) refl (omega arith)
-      ∙ ap (attribute 1 2 24 (20 + length (numbered 1 index name)))
-      (nest-at reply (headers ++ numbered 1 index name) [] contents 2 (20 + length (numbered 1 index name)) (24 + length (numbered 1 index name)) (length reply) set-in place
-      (omega arith) (omega (arith, contents-most names words n compact few ew shorts)) (contents-whole names words n compact) (omega arith) (omega arith)
-      ∙ ap (attribute 2 2 (24 + length (numbered 1 index name)) (length reply)) (attributes-end reply _ (omega (arith, length-nest 2 contents))))
+      let short : Short names n = rw en at (right-short names right) in
+      let long-port = length-numbered index name 1 in
+      let set = 20 + length (numbered 1 index name) in
+      nest-at reply headers (nest 2 contents) (identity index name) 1 20 port-in (sym long) 24 set set
+      (omega arith) (omega (arith, identity-most index name)) (identity-whole index name) refl (omega arith) refl
+      ∙ ap (attribute 1 2 24 set)
+      (nest-at reply (headers ++ numbered 1 index name) [] contents 2 set set-in set-at (24 + length (numbered 1 index name)) (length reply) (length reply)
+      (omega arith) (omega (arith, contents-most names words n compact few ew short)) (contents-whole names words n compact) (omega arith)
+      (omega (arith, total)) (omega (arith, total, length-nest 2 contents))
+      ∙ ap (attribute 2 2 (24 + length (numbered 1 index name)) (length reply)) (attributes-end reply (length reply) (omega arith)))
 
   -- the set
   pub reply-back : Small words → Below n (has words)
       → ReadsBack (replyBytes h index name compact names words n) (24 + length (numbered 1 index name)) names (has words)
-  unfolding reply contents nest
+  unfolding reply contents
   reply-back small below =
-      let header = attributeHeaderBytes (length contents + 4) 32770 in
-      let pre = headers ++ (numbered 1 index name ++ header) in
-      let whole : reply ≡ pre ++ contents = port-in ∙ simp append-assoc in
-      let place : 24 + length (numbered 1 index name) ≡ length pre
-      = omega (arith, long, length-append headers (numbered 1 index name ++ header), length-append (numbered 1 index name) header, length-attribute-header (length contents + 4) 32770) in
-      rw (whole, place) (set-back pre names words n right en ew small below compact)
+      let pre = headers ++ numbered 1 index name in
+      let set = 20 + length (numbered 1 index name) in
+      let cut = cut-at reply pre [] contents 2 set set-in set-at (length reply) (omega (arith, total)) in
+      let place = contents-at reply pre [] contents 2 set set-in set-at (24 + length (numbered 1 index name)) (omega arith) in
+      rw (sym (part-all reply (length reply) refl) ∙ cut, place) (set-back (upTo pre 2 contents) names words n right en ew small below compact)

@@ -24,11 +24,9 @@ use Rattle.netlink.specs.Policy.{ruleOf, plain, nested, judged}
 use Rattle.netlink.specs.Walk.{found, absent, firstFault, lastOf, walked, slotNumber}
 use Rattle.netlink.specs.declared.walk.Stop.the-variants.{Whole}
 use Rattle.netlink.specs.declared.walk.Walked.{Walked}
-use Rattle.netlink_write.specs.Headers.{attributeHeaderBytes}
 use Rattle.netlink_write.specs.Attributes.{attr, nest}
 use Rattle.netlink_write.proofs.ReadBack.{attributes-end}
 use Rattle.netlink.proofs.walk.Meaning.{stop-is}
-use Rattle.netlink_write.proofs.headers.Laws.{length-attribute-header}
 use Rattle.netlink_write.proofs.attributes.Laws.{length-attr, length-nest}
 use Rattle.bitset.specs.Policies.{bitsetPolicy, bitsPolicy}
 use Rattle.bitset.specs.Bitset.{effect}
@@ -43,7 +41,7 @@ use Rattle.reply.specs.Claims.{ReadsBack}
 use Rattle.reply.proofs.list.Lengths.{Short, right-short, bits-whole, bits-most}
 use Rattle.reply.proofs.list.ReadBack.{listedFrom, mask-back, list-back}
 use Rattle.reply.proofs.set.Lengths.{length-opening}
-use Rattle.reply.proofs.Places.{part-all, payload-at, attribute-at, nest-at, walked-by}
+use Rattle.reply.proofs.Places.{part-all, payload-at, attribute-at, upTo, nest-at, contents-at, cut-at, walked-by}
 
 -- no bit of n or more is below n
 none-between : (f : ℕ → Bool) (n : ℕ) → somePast f n n ≡ false
@@ -145,12 +143,12 @@ module _ (s pre post names : List ℕ) (n at : ℕ) (e : s ≡ pre ++ (openingBy
     verbose-attributes : attributes s at ≡ opened (attribute 3 2 (at + 16) (length s) done)
     verbose-attributes =
         let most = bits-most names listed n short in
-        let past = attributes-end s (at + 12 + length (nest 3 (bitsBytes names listed n))) (omega (arith, bits-end, length-nest 3 (bitsBytes names listed n))) in
         opening-back
         ∙ ap opened
-        (nest-at s (pre ++ openingBytes n) [] (bitsBytes names listed n) 3 (at + 12) (at + 16) (length s) bits-in past-size
+        (nest-at s (pre ++ openingBytes n) [] (bitsBytes names listed n) 3 (at + 12) bits-in past-size (at + 16) (length s) (length s)
         (omega arith) (omega arith) (bits-whole names listed n) (omega arith) (omega (arith, bits-end))
-        ∙ ap (attribute 3 2 (at + 16) (length s)) past)
+        (omega (arith, bits-end, length-nest 3 (bitsBytes names listed n)))
+        ∙ ap (attribute 3 2 (at + 16) (length s)) (attributes-end s (length s) (omega arith)))
 
     verbose-walked : walked bitsetPolicy s at
         ≡ record { stop = Whole; slots = absent ∷ found (at + 4) (at + 4) ∷ found (at + 8) (at + 12) ∷ found (at + 16) (length s) ∷ absent ∷ absent ∷ absent ∷ absent ∷ [] }
@@ -158,19 +156,16 @@ module _ (s pre post names : List ℕ) (n at : ℕ) (e : s ≡ pre ++ (openingBy
     verbose-walked =
         walked-by bitsetPolicy s at (opened (attribute 3 2 (at + 16) (length s) done)) verbose-attributes (rw (nomask-back, size-back))
 
-    contents-in : s ≡ ((pre ++ openingBytes n) ++ attributeHeaderBytes (length (bitsBytes names listed n) + 4) 32771) ++ bitsBytes names listed n
-    unfolding nest
-    contents-in = bits-in ∙ simp (append-assoc, append-nil)
-
     verbose-back : bitsetReading s at names ≡ accepted (only (listedFrom listed 0 n))
     unfolding partsReading mixedAt listReading
     verbose-back =
-        let header = attributeHeaderBytes (length (bitsBytes names listed n) + 4) 32771 in
-        let long = length-attribute-header (length (bitsBytes names listed n) + 4) 32771 in
-        let place : at + 16 ≡ length ((pre ++ openingBytes n) ++ header) = omega (arith, past-size, length-append (pre ++ openingBytes n) header) in
-        let read = list-back names listed s (omega arith) ((pre ++ openingBytes n) ++ header) n (at + 16) contents-in place (omega arith) short in
+        let bits = bitsBytes names listed n in
+        let all = part-all s (length s) refl in
+        let cut = cut-at s (pre ++ openingBytes n) [] bits 3 (at + 12) bits-in past-size (length s) (omega (arith, bits-end)) in
+        let place = contents-at s (pre ++ openingBytes n) [] bits 3 (at + 12) bits-in past-size (at + 16) (omega arith) in
+        let read = list-back names listed s (omega arith) (upTo (pre ++ openingBytes n) 3 bits) n (at + 16) (sym all ∙ cut) place (omega arith) short in
         by-walk _ verbose-walked
-        ∙ rw (part-all s (length s) refl, stop-is bitsPolicy s (at + 16), read .0, read .1)
+        ∙ rw (all, stop-is bitsPolicy s (at + 16), read .0, read .1)
 
 -- the contents of a set whose names are right, in either form
 module _ (pre names words : List ℕ) (n : ℕ) (right : namesRight names ≡ true) (en : count names ≡ n) (ew : length words ≡ wordsFor n)
