@@ -6,7 +6,7 @@ use mathlib.Core.Bool.{true, _&&_}
 use native.Mathlib.Omega.{arith}
 use lib.ListN.{length}
 use lib.Dec.{leb}
-use borrow.Author.Tests.{leb-true}
+use borrow.Author.Tests.{leb-true, le-leb}
 use Rattle.basics.proofs.Truth.{both-true}
 use Rattle.bits.specs.Set.{wordsFor}
 use Rattle.entries.specs.Entry.{count}
@@ -70,3 +70,11 @@ box-means family admin roll debug flags settings h =
       settings-right = f .1;
       exact = S.right-means settings (portCount roll) (count debug) (count flags) (f .1) .exact;
     }
+
+-- settings that are right make a right box again: the other rules do not look at them
+pub box-keeps : (family admin : ℕ) (roll debug flags settings after : List ℕ) → boxRight family admin roll debug flags settings ≡ true
+    → settingsRight after (portCount roll) (count debug) (count flags) ≡ true → boxRight family admin roll debug flags after ≡ true
+unfolding boxRight familyRight adminRight
+box-keeps family admin roll debug flags settings after h s =
+    let r = box-means family admin roll debug flags settings h in
+    rw (le-leb 16 family (r .family-low), le-leb family 65535 (r .family-high), le-leb admin 1 (r .admin-bit), r .roll-right, r .debug-right, r .flags-right, s)
