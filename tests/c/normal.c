@@ -1,4 +1,4 @@
-/* The normaliser through the C boundary: the sheet's normal forms, refusals that write nothing, the page past the form. */
+/* The normaliser through the C boundary: the sheet P1 to P12, refusals that write nothing, the page past the form. */
 #include "check.h"
 #include "message.h"
 #include "ethnl.h"
@@ -58,42 +58,85 @@ static void bit(struct message *contents, const char *bit_name, uint32_t index, 
     end_nest(contents, nest);
 }
 
-static void forms(void)
+static struct message compact(int nomask, uint32_t size, const uint32_t *value, const uint32_t *mask, size_t count)
 {
-    struct message p1 = form(8, 0, 8, 2), p2 = {.length = 0}, p9 = {.length = 0};
-    size_t bits;
+    struct message contents = {.length = 0};
+
+    if (nomask)
+        flag(&contents, NOMASK);
+    number(&contents, SIZE, size);
+    words(&contents, VALUE, value, count);
+    if (!nomask)
+        words(&contents, MASK, mask, count);
+    return contents;
+}
+
+static struct message one_bit(uint32_t index)
+{
+    struct message contents = {.length = 0};
+    size_t bits = begin_nest(&contents, BITS);
+
+    bit(&contents, NULL, index, 1);
+    end_nest(&contents, bits);
+    return contents;
+}
+
+static void is_refused(const char *what, struct message contents, uint32_t expected)
+{
+    check(normalise(&contents, sizeof page) == expected && written == 0 && page[0] == 0xAA, what);
+}
+
+/* P1 to P8 and P12: compact bitsets. */
+static void compact_sheet(void)
+{
+    const uint32_t all[] = {0xFFFFFFFF}, two[] = {2}, none[] = {0, 0}, eight[] = {8, 0}, past[] = {0, 256}, mask[] = {8, 2};
+    struct message p1 = compact(0, 40, eight, mask, 2), p2 = compact(1, 3, two, NULL, 1), p3 = compact(1, 0, none, NULL, 0);
+    struct message p4 = compact(0, 0, none, none, 0), p6 = compact(0, 64, past, none, 2), p12 = compact(0, 3, all, all, 1);
 
     is_form("P1: the same", &p1, form(8, 0, 8, 2));
-    flag(&p2, NOMASK);
-    number(&p2, SIZE, 3);
-    words(&p2, VALUE, (uint32_t[]){2}, 1);
     is_form("P2: every bit masked", &p2, form(2, 0, 0xFFFFFFFF, 0xFF));
-    bits = begin_nest(&p9, BITS);
+    is_form("P3: the empty set", &p3, form(0, 0, 0xFFFFFFFF, 0xFF));
+    is_form("P4: nothing masked", &p4, form(0, 0, 0, 0));
+    is_refused("P5: 20", compact(0, 64, none, past, 2), 20);
+    is_form("P6: nothing masked", &p6, form(0, 0, 0, 0));
+    is_refused("P7: 19", compact(1, 33, none, NULL, 1), 19);
+    is_refused("P8: 19", compact(1, 4294967295, none, NULL, 1), 19);
+    is_form("P12: bits below SIZE", &p12, form(7, 0, 7, 0));
+}
+
+/* P9 to P11: bit lists. */
+static void list_sheet(void)
+{
+    struct message p9 = {.length = 0}, p10 = {.length = 0}, p11 = one_bit(39);
+    size_t bits = begin_nest(&p9, BITS);
+
     bit(&p9, NULL, 3, 1);
     bit(&p9, "lldp", 0, 0);
     end_nest(&p9, bits);
     is_form("P9: the later entry wins", &p9, form(0, 0, 8, 0));
+    flag(&p10, NOMASK);
+    end_nest(&p10, begin_nest(&p10, BITS));
+    is_form("P10: the empty set", &p10, form(0, 0, 0xFFFFFFFF, 0xFF));
+    is_form("P11: bit 39", &p11, form(0, 128, 0, 128));
+    is_refused("P11: bit 40 is past N", one_bit(40), 20);
 }
 
-static void refusals(void)
+static void other_refusals(void)
 {
-    struct message p5 = {.length = 0}, empty = {.length = 0};
+    struct message empty = {.length = 0}, p1 = form(8, 0, 8, 2);
 
-    number(&p5, SIZE, 64);
-    words(&p5, VALUE, (uint32_t[]){0, 0}, 2);
-    words(&p5, MASK, (uint32_t[]){0, 256}, 2);
-    check(normalise(&p5, sizeof page) == 20 && written == 0 && page[0] == 0xAA, "P5: 20, nothing written");
-    check(normalise(&empty, sizeof page) == 13 && written == 0, "no SIZE: 13");
-    check(normalise(&p5, ETHNL_FORM_MAX - 1) == 2 && written == 0, "a page of 143 bytes: 2");
+    is_refused("no SIZE: 13", empty, 13);
+    check(normalise(&p1, ETHNL_FORM_MAX - 1) == 2 && written == 0, "a page of 143 bytes: 2");
     names[ETHNL_NAME_LEN - 1] = 'x';
-    check(normalise(&p5, sizeof page) == 1 && written == 0, "a name of 32 bytes: 1");
+    is_refused("a name of 32 bytes: 1", p1, 1);
     names[ETHNL_NAME_LEN - 1] = 0;
 }
 
 int main(void)
 {
     memcpy(names + 3 * ETHNL_NAME_LEN, "lldp", 4);
-    forms();
-    refusals();
+    compact_sheet();
+    list_sheet();
+    other_refusals();
     return checked();
 }
