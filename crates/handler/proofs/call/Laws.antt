@@ -1,0 +1,147 @@
+-- Laws of one call: one for each return.
+use Prim.Native.Nat.{ℕ, _+_, _-_, _≤_, _<_, min}
+use mathlib.Core.Path.{_≡_, refl, sym, ap, _∙_}
+use mathlib.Core.List.{List, []}
+use mathlib.Core.Bool.{Bool, true, false, cond, not, _||_}
+use lib.ListN.{length, drop, length-drop}
+use lib.Seq.{length-take-le}
+use lib.Dec.{eqb, ltb}
+use native.Mathlib.Omega.{arith}
+use borrow.Author.Tests.{lt-ltb, le-ltb, ltb-false, not-false}
+use Rattle.basics.specs.Numbers.{u32At}
+use Rattle.basics.specs.Put.{put}
+use Rattle.basics.proofs.Put.{put-nil}
+use Rattle.entries.specs.Entry.{count}
+use Rattle.netlink.specs.Lengths.{roundUp4}
+use Rattle.netlink.specs.Headers.{messageHeader}
+use Rattle.netlink.specs.Messages.{messageAt}
+use Rattle.netlink.proofs.attributes.Laws.{part-in}
+use Rattle.netlink.specs.Attributes.{partOf}
+use Rattle.netlink.specs.declared.headers.MessageHeader.{MessageHeader}
+use Rattle.netlink.specs.declared.messages.MessageRead.{MessageRead}
+use Rattle.netlink.specs.declared.messages.MessageRead.the-variants.{Message, Misstated, Cut, AtEnd, Outside}
+use Rattle.refusal.specs.declared.Refusal.{Refusal}
+use Rattle.refusal.specs.declared.Refusal.the-variants as R
+use Rattle.roll.specs.Record.{portCount}
+use Rattle.boxes.specs.Box.{boxRight}
+use Rattle.boxes.proofs.rule.Meaning.{box-means}
+use Rattle.boxes.proofs.settings.Laws as S
+use Rattle.request.specs.Admission.{admitted}
+use Rattle.request.specs.declared.commands.Command.{Command}
+use Rattle.request.specs.declared.admission.Admission.{Admission}
+use Rattle.request.specs.declared.admission.Admission.the-variants as A
+use Rattle.handler.specs.Answer.{Speech, Outcome, quiet, refusal, leaves, returned, Said, Did}
+use Rattle.handler.specs.Obey.{Fit, obeyed}
+use Rattle.handler.specs.Call.{onAdmission, messageOutcome, stays, onMessage, outcome}
+use Rattle.handler.specs.declared.answer.Kind.{Kind}
+use Rattle.handler.specs.declared.answer.Kind.the-variants.{End, Skipped, Refused}
+use Rattle.handler.specs.declared.answer.Answer.{Answer}
+use Rattle.handler.proofs.obey.Laws.{leaves-did}
+
+-- nothing is written, and the settings stay
+pub quiet-did : (o : Outcome) (k : Kind) (next : ℕ) (P ws : List ℕ) (r : Answer) → r ≡ record { kind = k; next = next; written = 0 } → o ≡ leaves (quiet k next) ws
+    → Did o P P ws r
+quiet-did o k next P ws r e q = rw q (record { said = record { result = e; page = sym (put-nil P) }; settings = refl })
+
+module _ (family admin : ℕ) (roll debug flags ws m : List ℕ) (h : MessageHeader) (next : ℕ) (a : Admission) (e : a ≡ admitted m h family (eqb admin 1)) (P : List ℕ) (r : Answer) where
+  pub message-skipped : a ≡ A.Skipped → r ≡ record { kind = Skipped; next = next; written = 0 } → Did (messageOutcome family admin roll debug flags ws m h next) P P ws r
+  unfolding messageOutcome
+  message-skipped q er = quiet-did _ Skipped next P ws r er (rw (← e, q))
+
+  module _ (Q : List ℕ) where
+    pub message-refused : (why : Refusal) → a ≡ A.Refused why → Said (refusal m next why) P Q r → Did (messageOutcome family admin roll debug flags ws m h next) P Q ws r
+    unfolding messageOutcome
+    message-refused why q s = rw (← e, q) (leaves-did (refusal m next why) P Q ws r s)
+
+    pub message-go : (c : Command) (new : List ℕ) → a ≡ A.Go c → Did (obeyed roll debug flags ws m h next c) P Q new r
+        → Did (messageOutcome family admin roll debug flags ws m h next) P Q new r
+    unfolding messageOutcome
+    message-go c new q d = rw (← e, q) d
+
+pub ruleset message-laws = (message-skipped, message-refused, message-go)
+
+-- a right box fits
+pub box-fit : (family admin : ℕ) (roll debug flags ws : List ℕ) (b : Bool) → b ≡ boxRight family admin roll debug flags ws → not b ≡ false → Fit roll debug flags ws
+box-fit family admin roll debug flags ws b e n =
+    let right = box-means family admin roll debug flags ws (sym e ∙ not-false b n) in
+    record {
+      ports = right .ports-few;
+      debug-few = right .debug-few;
+      flags-few = right .flags-few;
+      exact = right .exact;
+      clear = S.right-means ws (portCount roll) (count debug) (count flags) (right .settings-right) .clear;
+    }
+
+module _ (family admin : ℕ) (roll debug flags ws datagram : List ℕ) (position : ℕ) (P : List ℕ) (b : Bool) (e : b ≡ boxRight family admin roll debug flags ws) where
+  pub call-box : (r : Answer) → not b ≡ true → r ≡ record { kind = Refused R.Box; next = position; written = 0 }
+      → Did (outcome family admin roll debug flags ws datagram position (length P)) P P ws r
+  unfolding outcome
+  call-box r z er = quiet-did _ (Refused R.Box) position P ws r er (rw (← e, z))
+
+  module _ (right : not b ≡ false) where
+    pub call-page : (r : Answer) → length P < 32768 → r ≡ record { kind = Refused R.Page; next = position; written = 0 }
+        → Did (outcome family admin roll debug flags ws datagram position (length P)) P P ws r
+    unfolding outcome
+    call-page r l er = quiet-did _ (Refused R.Page) position P ws r er (rw (← e, right, lt-ltb _ _ l))
+
+    module _ (room : 32768 ≤ length P) where
+      pub call-long : (r : Answer) → 32768 < length datagram → r ≡ record { kind = Refused R.Datagram; next = position; written = 0 }
+          → Did (outcome family admin roll debug flags ws datagram position (length P)) P P ws r
+      unfolding outcome
+      call-long r l er = quiet-did _ (Refused R.Datagram) position P ws r er (rw (← e, right, le-ltb _ _ room, lt-ltb _ _ l))
+
+      module _ (short : length datagram ≤ 32768) (x : MessageRead) (ex : x ≡ messageAt datagram position) where
+        by-message : outcome family admin roll debug flags ws datagram position (length P)
+            ≡ onMessage x position ws (λ h end next. messageOutcome family admin roll debug flags ws (partOf datagram position end) h next)
+        unfolding outcome
+        by-message = rw (← e, right, le-ltb _ _ room, le-ltb _ _ short, ← ex)
+
+        pub call-outside : (r : Answer) → x ≡ Outside → r ≡ record { kind = Refused R.Datagram; next = position; written = 0 }
+            → Did (outcome family admin roll debug flags ws datagram position (length P)) P P ws r
+        call-outside r q er = quiet-did _ (Refused R.Datagram) position P ws r er (by-message ∙ rw q)
+
+        pub call-end : (r : Answer) → x ≡ AtEnd → r ≡ record { kind = End; next = position; written = 0 }
+            → Did (outcome family admin roll debug flags ws datagram position (length P)) P P ws r
+        call-end r q er = quiet-did _ End position P ws r er (by-message ∙ rw q)
+
+        pub call-cut : (r : Answer) → x ≡ Cut → r ≡ record { kind = Refused R.Datagram; next = position; written = 0 }
+            → Did (outcome family admin roll debug flags ws datagram position (length P)) P P ws r
+        call-cut r q er = quiet-did _ (Refused R.Datagram) position P ws r er (by-message ∙ rw q)
+
+        pub call-misstated : (r : Answer) → x ≡ Misstated → r ≡ record { kind = Refused R.Length; next = position; written = 0 }
+            → Did (outcome family admin roll debug flags ws datagram position (length P)) P P ws r
+        call-misstated r q er = quiet-did _ (Refused R.Length) position P ws r er (by-message ∙ rw q)
+
+        pub call-message : (h : MessageHeader) (end next : ℕ) (m Q new : List ℕ) (r : Answer) → x ≡ Message h end next → m ≡ partOf datagram position end
+            → Did (messageOutcome family admin roll debug flags ws m h next) P Q new r
+            → Did (outcome family admin roll debug flags ws datagram position (length P)) P Q new r
+        call-message h end next m Q new r q em d = rw (by-message, q, ← em) d
+
+pub ruleset call-laws = (call-box, call-page, call-long, call-outside, call-end, call-cut, call-misstated, call-message)
+
+-- a message that was read has its 16 header bytes
+message-bounds : (d : List ℕ) (at : ℕ) (h : MessageHeader) (e n : ℕ) → messageAt d at ≡ Message h e n → (at + 16 ≤ e) × (e ≤ length d)
+unfolding messageAt
+message-bounds d at h e n q =
+    by (ltb (length d) at) (eqb at (length d)) (ltb (length d) (at + 16)) (ltb (u32At d at) 16) (ltb (length d) (at + u32At d at)) refl refl q
+  where
+    by : (a b c f g : Bool) → ltb (u32At d at) 16 ≡ f → ltb (length d) (at + u32At d at) ≡ g
+        → cond a Outside (cond b AtEnd (cond c Cut (cond (f || g) Misstated (Message (messageHeader d at) (at + u32At d at) (min (at + roundUp4 (u32At d at)) (length d))))))
+        ≡ Message h e n → (at + 16 ≤ e) × (e ≤ length d)
+    by true b c f g p r q = absurd (let z : _≡_ {A = ℕ} 0 1 = cc in omega arith)
+    by false true c f g p r q = absurd (let z : _≡_ {A = ℕ} 0 1 = cc in omega arith)
+    by false false true f g p r q = absurd (let z : _≡_ {A = ℕ} 0 1 = cc in omega arith)
+    by false false false true g p r q = absurd (let z : _≡_ {A = ℕ} 0 1 = cc in omega arith)
+    by false false false false true p r q = absurd (let z : _≡_ {A = ℕ} 0 1 = cc in omega arith)
+    by false false false false false p r q =
+        let e1 : e ≡ at + u32At d at = cc in
+        let lo = ltb-false (u32At d at) 16 p in
+        let hi = ltb-false (length d) (at + u32At d at) r in
+        (omega arith, omega arith)
+
+pub message-long : (d : List ℕ) (at : ℕ) (x : MessageRead) (h : MessageHeader) (e n : ℕ) (m : List ℕ) → x ≡ messageAt d at → x ≡ Message h e n → m ≡ partOf d at e
+    → 16 ≤ length m
+message-long d at x h e n m ex q em =
+    let b = message-bounds d at h e n (sym ex ∙ q) in
+    let l : length m ≡ e - at = ap length (em ∙ sym (part-in d at e (omega arith) (b .1))) ∙ length-take-le (e - at) (drop at d) (rw (length-drop at d) (omega arith)) in
+    omega arith

@@ -1,0 +1,23 @@
+use Rattle.handler.proofs.speak.Laws.{refuse-said}
+use borrow.Author.Needs.{needs}
+use Rattle.handler.proofs.speak.refuse.Statement.{statement}
+use Rattle.handler.proofs.speak.refuse.Tie as tie
+
+errno-requires : tie.Need-errno-requires
+errno-requires c κs = search needs
+
+detail-requires : tie.Need-detail-requires
+detail-requires c κs = search needs
+
+put-error-requires : tie.Need-put-error-requires
+put-error-requires c κs = search needs
+
+same-length : tie.Need-same-length
+same-length c = search needs
+
+returns : tie.Need-returns
+returns c = search (needs, refuse-said)
+
+pub refuse-spec : {M : Type 1} → statement M
+refuse-spec =
+    tie.close (tie.spec errno-requires detail-requires put-error-requires same-length returns)

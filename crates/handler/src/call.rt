@@ -1,0 +1,118 @@
+// One call: the message at a position of a datagram, answered.
+ghost use mathlib.Core.Path.{_≡_};
+ghost use Prim.Native.Nat.{_≤_};
+ghost use lib.ListN.{length};
+ghost use Rattle.handler.specs.Answer.{Did};
+ghost use Rattle.handler.specs.Obey.{Fit};
+ghost use Rattle.handler.specs.Call.{messageOutcome, outcome};
+use crate::answer::Answer;
+use crate::answer::Kind;
+use crate::obey::obey;
+use crate::speak::refuse;
+use boxes::rule::box_right;
+use netlink::attributes::payload;
+use netlink::headers::MessageHeader;
+use netlink::messages::MessageRead;
+use netlink::messages::read_message;
+use refusal::Refusal;
+use request::admission::Admission;
+use request::admission::admit;
+
+// The least page and the longest datagram.
+pub const PAGE: usize = 32768;
+
+pub const DATAGRAM: usize = 32768;
+
+// An answer that writes nothing.
+fn quiet(kind: Kind, next: usize) -> Answer
+    ensures { λ r. ⌜ r ≡ record { kind = kind; next = next; written = 0 } ⌝ }
+{
+    Answer {
+        kind,
+        next,
+        written: 0,
+    }
+}
+
+// Answers the message m, whose header is h.
+fn answer_message<'a>(
+    family: u32,
+    admin: u32,
+    page: &mut [u8],
+    settings: &mut [u32],
+    roll: &[u8],
+    debug: &'a [u8],
+    flags: &'a [u8],
+    m: &[u8],
+    h: MessageHeader,
+    next: usize,
+) -> Answer
+    requires { ⌜ (32768 ≤ length (now page)) × (16 ≤ length (now m)) ⌝ }
+    requires { ⌜ Fit (now roll) (now debug) (now flags) (now settings) ⌝ }
+    ensures { λ r. ⌜ Did (messageOutcome family admin (now (roll .entry)) (now (debug .entry)) (now (flags .entry)) (now (settings .entry)) (now (m .entry)) h next) (now (page .entry)) (now (page .exit)) (now (settings .exit)) r ⌝ }
+{
+    match admit(m, h, family, admin == 1) {
+        Admission::Skipped => {
+            return quiet(Kind::Skipped, next);
+        }
+        Admission::Refused(why) => {
+            return refuse(page, m, why, next);
+        }
+        Admission::Go(command) => {
+            return obey(page, settings, roll, debug, flags, m, h, next, command);
+        }
+    }
+}
+
+// Takes one message from a datagram, answers it, and keeps the settings. Every input has an answer: nothing is asked of the caller.
+pub fn handle<'a>(
+    family: u32,
+    admin: u32,
+    roll: &[u8],
+    debug: &'a [u8],
+    flags: &'a [u8],
+    settings: &mut [u32],
+    datagram: &[u8],
+    position: usize,
+    page: &mut [u8],
+) -> Answer
+    ensures { λ r. ⌜ Did (outcome family admin (now (roll .entry)) (now (debug .entry)) (now (flags .entry)) (now (settings .entry)) (now (datagram .entry)) position (length (now (page .entry)))) (now (page .entry)) (now (page .exit)) (now (settings .exit)) r ⌝ }
+{
+    if !box_right(family, admin, roll, debug, flags, settings) {
+        return quiet(Kind::Refused(Refusal::Box), position);
+    }
+    if page.len() < PAGE {
+        return quiet(Kind::Refused(Refusal::Page), position);
+    }
+    if DATAGRAM < datagram.len() {
+        return quiet(Kind::Refused(Refusal::Datagram), position);
+    }
+    match read_message(datagram, position) {
+        MessageRead::Outside => {
+            return quiet(Kind::Refused(Refusal::Datagram), position);
+        }
+        MessageRead::AtEnd => {
+            return quiet(Kind::End, position);
+        }
+        MessageRead::Cut => {
+            return quiet(Kind::Refused(Refusal::Datagram), position);
+        }
+        MessageRead::Misstated => {
+            return quiet(Kind::Refused(Refusal::Length), position);
+        }
+        MessageRead::Message { header, end, next } => {
+            return answer_message(
+                family,
+                admin,
+                page,
+                settings,
+                roll,
+                debug,
+                flags,
+                payload(datagram, position, end),
+                header,
+                next,
+            );
+        }
+    }
+}

@@ -1,0 +1,343 @@
+// A command that is admitted: judged level by level, then carried out.
+ghost use mathlib.Core.Path.{_≡_};
+ghost use Prim.Native.Nat.{_≤_, _<_};
+ghost use lib.ListN.{length};
+ghost use Rattle.roll.specs.Record.{portCount};
+ghost use Rattle.boxes.specs.Layout.{ofSet};
+ghost use Rattle.handler.specs.Answer.{Said, Did, speech, done, ackBytes};
+ghost use Rattle.handler.specs.Obey.{Fit, heading, placeIn, widthIn, setOf, changedBy, gotten, setOutcome, deed, aimed, obeyed};
+ghost use Rattle.entries.specs.Entry.{count};
+use crate::answer::Answer;
+use crate::change::apply;
+use crate::speak::acknowledge;
+use crate::speak::refuse;
+use crate::speak::show;
+use bitset::form::Judgement;
+use bitset::judge::judge;
+use boxes::layout::Set;
+use boxes::layout::number_of;
+use boxes::layout::place;
+use boxes::settings::set_at;
+use netlink::attributes::payload;
+use netlink::headers::MessageHeader;
+use netlink::numbers::u32_at;
+use netlink::walk::Slot;
+use reply::message::Heading;
+use request::aim::Aim;
+use request::aim::read_aim;
+use request::commands::Command;
+use request::top::Top;
+use request::top::read_top;
+
+// The names of a set.
+fn names_of<'a>(set: Set, debug: &'a [u8], flags: &'a [u8]) -> &'a [u8]
+    ensures { λ r. ⌜ now r ≡ ofSet set (now (debug .entry)) (now (flags .entry)) ⌝ }
+{
+    match set {
+        Set::Debug => {
+            return debug;
+        }
+        Set::Flags => {
+            return flags;
+        }
+    }
+}
+
+fn heading(h: MessageHeader, command: Command) -> Heading
+    ensures { λ r. ⌜ r ≡ heading h command ⌝ }
+{
+    Heading {
+        family: h.kind,
+        flags: 0,
+        sequence: h.sequence,
+        port: h.port,
+        command: command.reply,
+    }
+}
+
+// The first word of a set of the port at a position.
+fn place_of(roll: &[u8], debug: &[u8], flags: &[u8], position: usize, set: Set) -> usize
+    requires { ⌜ (position < portCount (now roll)) × (portCount (now roll) ≤ 64) × (count (now debug) ≤ 512) × (count (now flags) ≤ 512) ⌝ }
+    ensures { λ r. ⌜ r ≡ placeIn (now (roll .entry)) (now (debug .entry)) (now (flags .entry)) position set ⌝ }
+{
+    let wd = bits::words_for(entries::count(debug));
+    let wf = bits::words_for(entries::count(flags));
+    place(roll::count::ports(roll), wd, wf, position, set)
+}
+
+// How many words a set has.
+fn width_of(debug: &[u8], flags: &[u8], set: Set) -> usize
+    ensures { λ r. ⌜ r ≡ widthIn (now (debug .entry)) (now (flags .entry)) set ⌝ }
+{
+    let wd = bits::words_for(entries::count(debug));
+    let wf = bits::words_for(entries::count(flags));
+    number_of(set, wd, wf)
+}
+
+// The words of a set of the port at a position.
+fn held<'s>(
+    settings: &'s [u32],
+    roll: &[u8],
+    debug: &[u8],
+    flags: &[u8],
+    position: usize,
+    set: Set,
+) -> &'s [u32]
+    requires { ⌜ position < portCount (now roll) ⌝ }
+    requires { ⌜ Fit (now roll) (now debug) (now flags) (now settings) ⌝ }
+    ensures { λ r. ⌜ now r ≡ setOf (now (roll .entry)) (now (debug .entry)) (now (flags .entry)) (now (settings .entry)) position set ⌝ }
+{
+    let wd = bits::words_for(entries::count(debug));
+    let wf = bits::words_for(entries::count(flags));
+    set_at(settings, roll::count::ports(roll), wd, wf, position, set)
+}
+
+// A done GET.
+fn get<'a>(
+    page: &mut [u8],
+    settings: &[u32],
+    roll: &[u8],
+    debug: &'a [u8],
+    flags: &'a [u8],
+    m: &[u8],
+    h: MessageHeader,
+    next: usize,
+    command: Command,
+    position: usize,
+    index: usize,
+    name: usize,
+    asked: u32,
+) -> Answer
+    requires { ⌜ (32768 ≤ length (now page)) × (16 ≤ length (now m)) × (position < portCount (now roll)) ⌝ }
+    requires { ⌜ Fit (now roll) (now debug) (now flags) (now settings) ⌝ }
+    ensures { λ r. ⌜ Said (speech done next (gotten (now (roll .entry)) (now (debug .entry)) (now (flags .entry)) (now (settings .entry)) (now (m .entry)) h command position index name asked)) (now (page .entry)) (now (page .exit)) r ⌝ }
+{
+    let set = command.set;
+    let words = held(settings, roll, debug, flags, position, set);
+    let n = number_of(set, entries::count(debug), entries::count(flags));
+    let names = names_of(set, debug, flags);
+    show(
+        page,
+        m,
+        h,
+        next,
+        heading(h, command),
+        u32_at(roll, index),
+        roll::name::name_at(roll, name),
+        asked % 2 == 1,
+        names,
+        words,
+        n,
+    )
+}
+
+// The change of an accepted bitset, and its ACK.
+fn change(
+    page: &mut [u8],
+    settings: &mut [u32],
+    roll: &[u8],
+    debug: &[u8],
+    flags: &[u8],
+    m: &[u8],
+    h: MessageHeader,
+    next: usize,
+    set: Set,
+    position: usize,
+    mask: [u32; 16],
+    value: [u32; 16],
+) -> Answer
+    requires { ⌜ (32768 ≤ length (now page)) × (16 ≤ length (now m)) × (position < portCount (now roll)) ⌝ }
+    requires { ⌜ Fit (now roll) (now debug) (now flags) (now settings) ⌝ }
+    ensures { λ r. ⌜ Said (speech done next (ackBytes (now (m .entry)) h)) (now (page .entry)) (now (page .exit)) r ⌝ }
+    ensures { λ _. ⌜ now (settings .exit) ≡ changedBy (now (roll .entry)) (now (debug .entry)) (now (flags .entry)) (now (settings .entry)) position set mask value ⌝ }
+{
+    let at = place_of(roll, debug, flags, position, set);
+    let w = width_of(debug, flags, set);
+    apply(settings, at, w, mask, value);
+    acknowledge(page, m, h, next)
+}
+
+// A SET: judged, then applied word by word, and acknowledged.
+fn set<'a>(
+    page: &mut [u8],
+    settings: &mut [u32],
+    roll: &[u8],
+    debug: &'a [u8],
+    flags: &'a [u8],
+    m: &[u8],
+    h: MessageHeader,
+    next: usize,
+    which: Set,
+    position: usize,
+    bitset: Slot,
+) -> Answer
+    requires { ⌜ (32768 ≤ length (now page)) × (16 ≤ length (now m)) × (position < portCount (now roll)) ⌝ }
+    requires { ⌜ Fit (now roll) (now debug) (now flags) (now settings) ⌝ }
+    ensures { λ r. ⌜ Did (setOutcome (now (roll .entry)) (now (debug .entry)) (now (flags .entry)) (now (settings .entry)) (now (m .entry)) h next position which bitset) (now (page .entry)) (now (page .exit)) (now (settings .exit)) r ⌝ }
+{
+    let start = bitset.start;
+    let end = bitset.end;
+    let judged = judge(payload(m, 0, end), start, names_of(which, debug, flags));
+    let judgement = judged.judgement;
+    if let Judgement::Refused(why) = judgement {
+        return refuse(page, m, why, next);
+    }
+    let form = judged.form;
+    let mask = form.mask;
+    let value = form.value;
+    change(
+        page,
+        settings,
+        roll,
+        debug,
+        flags,
+        m,
+        h,
+        next,
+        which,
+        position,
+        mask,
+        value,
+    )
+}
+
+// GET or SET of the port that is aimed at.
+fn carry_out<'a>(
+    page: &mut [u8],
+    settings: &mut [u32],
+    roll: &[u8],
+    debug: &'a [u8],
+    flags: &'a [u8],
+    m: &[u8],
+    h: MessageHeader,
+    next: usize,
+    command: Command,
+    bitset: Slot,
+    position: usize,
+    index: usize,
+    name: usize,
+    asked: u32,
+) -> Answer
+    requires { ⌜ (32768 ≤ length (now page)) × (16 ≤ length (now m)) × (position < portCount (now roll)) ⌝ }
+    requires { ⌜ Fit (now roll) (now debug) (now flags) (now settings) ⌝ }
+    ensures { λ r. ⌜ Did (deed (now (roll .entry)) (now (debug .entry)) (now (flags .entry)) (now (settings .entry)) (now (m .entry)) h next command bitset position index name asked) (now (page .entry)) (now (page .exit)) (now (settings .exit)) r ⌝ }
+{
+    if command.change {
+        let which = command.set;
+        return set(
+            page,
+            settings,
+            roll,
+            debug,
+            flags,
+            m,
+            h,
+            next,
+            which,
+            position,
+            bitset,
+        );
+    }
+    get(
+        page,
+        settings,
+        roll,
+        debug,
+        flags,
+        m,
+        h,
+        next,
+        command,
+        position,
+        index,
+        name,
+        asked,
+    )
+}
+
+// The header level.
+fn aim<'a>(
+    page: &mut [u8],
+    settings: &mut [u32],
+    roll: &[u8],
+    debug: &'a [u8],
+    flags: &'a [u8],
+    m: &[u8],
+    h: MessageHeader,
+    next: usize,
+    command: Command,
+    header: Slot,
+    bitset: Slot,
+) -> Answer
+    requires { ⌜ (32768 ≤ length (now page)) × (16 ≤ length (now m)) ⌝ }
+    requires { ⌜ Fit (now roll) (now debug) (now flags) (now settings) ⌝ }
+    ensures { λ r. ⌜ Did (aimed (now (roll .entry)) (now (debug .entry)) (now (flags .entry)) (now (settings .entry)) (now (m .entry)) h next command header bitset) (now (page .entry)) (now (page .exit)) (now (settings .exit)) r ⌝ }
+{
+    match read_aim(m, header, roll) {
+        Aim::Refused(why) => {
+            return refuse(page, m, why, next);
+        }
+        Aim::Port {
+            position,
+            index,
+            name,
+            end: _,
+            flags: asked,
+        } => {
+            return carry_out(
+                page,
+                settings,
+                roll,
+                debug,
+                flags,
+                m,
+                h,
+                next,
+                command,
+                bitset,
+                position,
+                index,
+                name,
+                asked,
+            );
+        }
+    }
+}
+
+// The top level of an admitted command.
+pub fn obey<'a>(
+    page: &mut [u8],
+    settings: &mut [u32],
+    roll: &[u8],
+    debug: &'a [u8],
+    flags: &'a [u8],
+    m: &[u8],
+    h: MessageHeader,
+    next: usize,
+    command: Command,
+) -> Answer
+    requires { ⌜ (32768 ≤ length (now page)) × (16 ≤ length (now m)) ⌝ }
+    requires { ⌜ Fit (now roll) (now debug) (now flags) (now settings) ⌝ }
+    ensures { λ r. ⌜ Did (obeyed (now (roll .entry)) (now (debug .entry)) (now (flags .entry)) (now (settings .entry)) (now (m .entry)) h next command) (now (page .entry)) (now (page .exit)) (now (settings .exit)) r ⌝ }
+{
+    match read_top(m, command.change) {
+        Top::Refused(why) => {
+            return refuse(page, m, why, next);
+        }
+        Top::Nests { header, bitset } => {
+            return aim(
+                page,
+                settings,
+                roll,
+                debug,
+                flags,
+                m,
+                h,
+                next,
+                command,
+                header,
+                bitset,
+            );
+        }
+    }
+}
