@@ -1,8 +1,15 @@
 // The functions that C calls, as include/ethnl.h declares them: numbers and byte buffers alone.
 ghost use mathlib.Core.Path.{_≡_};
+ghost use Prim.Native.Nat.{_/_, _%_};
 ghost use lib.ListN.{length};
 ghost use Rattle.normal.specs.Normal.{normalised};
-ghost use Rattle.ethnl.specs.Exported.{Normalise};
+ghost use Rattle.ethnl.specs.Exported.{Normalise, Handle, After, boxBroken, bytesOutcome, wordsOutcome};
+use handler::answer::Answer;
+use handler::answer::Kind;
+use refusal::Refusal;
+
+// The most bytes that settings can have: 64 ports, two sets of 512 bits each.
+pub const SETTINGS: usize = 8192;
 
 // Writes the normal form of a bitset's contents to the page. Returns document 01's number, 0 if accepted.
 #[no_mangle]
@@ -17,4 +24,120 @@ pub extern "C" fn ethnl_normalise(
     let normal = normal::normalise(contents, names, page);
     *written = normal.written as u64;
     normal.number
+}
+
+fn box_broken(position: usize) -> Answer
+    ensures { λ r. ⌜ r ≡ boxBroken position ⌝ }
+{
+    Answer {
+        kind: Kind::Refused(Refusal::Box),
+        next: position,
+        written: 0,
+    }
+}
+
+// The handler over settings as bytes, with room for their words.
+fn handle_in<'a>(
+    family: u32,
+    admin: u32,
+    roll: &[u8],
+    debug: &'a [u8],
+    flags: &'a [u8],
+    settings: &mut [u8],
+    words: &mut [u32],
+    datagram: &[u8],
+    position: usize,
+    page: &mut [u8],
+) -> Answer
+    requires { ⌜ (length (now settings) % 4 ≡ 0) × (length (now words) ≡ length (now settings) / 4) ⌝ }
+    ensures { λ r. ⌜ After (wordsOutcome family admin (now (roll .entry)) (now (debug .entry)) (now (flags .entry)) (now (settings .entry)) (now (datagram .entry)) position (length (now (page .entry)))) (now (page .entry)) (now (page .exit)) (now (settings .exit)) r ⌝ }
+{
+    bits::read_words(settings, words);
+    let answer = handler::call::handle(
+        family,
+        admin,
+        roll,
+        debug,
+        flags,
+        words,
+        datagram,
+        position,
+        page,
+    );
+    bits::write_words(words, settings);
+    answer
+}
+
+// The same with the room made here.
+fn handle_bytes<'a>(
+    family: u32,
+    admin: u32,
+    roll: &[u8],
+    debug: &'a [u8],
+    flags: &'a [u8],
+    settings: &mut [u8],
+    datagram: &[u8],
+    position: usize,
+    page: &mut [u8],
+) -> Answer
+    ensures { λ r. ⌜ After (bytesOutcome family admin (now (roll .entry)) (now (debug .entry)) (now (flags .entry)) (now (settings .entry)) (now (datagram .entry)) position (length (now (page .entry)))) (now (page .entry)) (now (page .exit)) (now (settings .exit)) r ⌝ }
+{
+    if settings.len() % 4 != 0 {
+        return box_broken(position);
+    }
+    if SETTINGS < settings.len() {
+        return box_broken(position);
+    }
+    let n = settings.len() / 4;
+    let mut words = [0u32; 2048];
+    handle_in(
+        family,
+        admin,
+        roll,
+        debug,
+        flags,
+        settings,
+        &mut words[..n],
+        datagram,
+        position,
+        page,
+    )
+}
+
+// Takes one message from a datagram, answers it, and keeps the settings, which are the little-endian bytes of their words. Settings that are
+// no whole words, or more than any box has, break the box.
+#[no_mangle]
+pub extern "C" fn ethnl_handle<'a>(
+    family: u32,
+    admin: u32,
+    roll: &[u8],
+    debug: &'a [u8],
+    flags: &'a [u8],
+    settings: &mut [u8],
+    datagram: &[u8],
+    position: u64,
+    page: &mut [u8],
+    kind: &mut u32,
+    refusal: &mut u32,
+    next: &mut u64,
+    written: &mut u64,
+)
+    ensures { λ _. ⌜ Handle (bytesOutcome family admin (now (roll .entry)) (now (debug .entry)) (now (flags .entry)) (now (settings .entry)) (now (datagram .entry)) position (length (now (page .entry)))) (now (page .entry)) (now (page .exit)) (now (settings .exit)) (now (kind .exit)) (now (refusal .exit)) (now (next .exit)) (now (written .exit)) ⌝ }
+{
+    let answer = handle_bytes(
+        family,
+        admin,
+        roll,
+        debug,
+        flags,
+        settings,
+        datagram,
+        position as usize,
+        page,
+    );
+    let told = answer.kind;
+    *kind = told.number();
+    *refusal = told.refusal();
+    *next = answer.next as u64;
+    *written = answer.written as u64;
 }

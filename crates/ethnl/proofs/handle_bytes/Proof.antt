@@ -1,0 +1,52 @@
+use lib.ListN.{length-take}
+use native.Mathlib.Omega.{arith}
+use Rattle.ethnl.proofs.Laws.{bytes-laws}
+use native.Mathlib.Omega.{arith}
+use borrow.Author.Needs.{needs}
+use Rattle.ethnl.proofs.handle_bytes.Statement.{statement}
+use Rattle.ethnl.proofs.handle_bytes.Tie as tie
+
+box-broken-requires : tie.Need-box-broken-requires
+box-broken-requires c κs = search needs
+
+returns : tie.Need-returns
+returns c = search (needs, bytes-laws)
+
+box-broken-requires-2 : tie.Need-box-broken-requires-2
+box-broken-requires-2 c κs = search needs
+
+returns-2 : tie.Need-returns-2
+returns-2 c = search (needs, bytes-laws)
+
+array-borrow-prefix-words : tie.Need-array-borrow-prefix-words
+array-borrow-prefix-words c = search needs
+
+slice-aggregate-handle-in : tie.Need-slice-aggregate-handle-in
+slice-aggregate-handle-in c = simp length-take (omega arith)
+
+handle-in-requires : tie.Need-handle-in-requires
+handle-in-requires c κs = simp length-take (omega arith)
+
+same-length : tie.Need-same-length
+same-length c = search needs
+
+same-length-2 : tie.Need-same-length-2
+same-length-2 c = search needs
+
+returns-3 : tie.Need-returns-3
+returns-3 c = search (needs, bytes-laws)
+
+pub handle-bytes-spec : {M : Type 1} → statement M
+handle-bytes-spec =
+    tie.close
+    (tie.spec
+    box-broken-requires
+    returns
+    box-broken-requires-2
+    returns-2
+    array-borrow-prefix-words
+    slice-aggregate-handle-in
+    handle-in-requires
+    same-length
+    same-length-2
+    returns-3)
