@@ -1,0 +1,81 @@
+-- Demands 1 and 2, "accepted exactly when the rules in document 01 .. accept it" and "A refusal carries its number from document 01".
+--     exact            the kind is told by the first check, in document 01's order, that does not pass; it is done where all pass
+--     done-exactly     done exactly when every check passes
+--     refused-exactly  refused by a row of the table exactly when that row applies and every check before it passes
+use Prim.Native.Nat.{ℕ, _+_, min}
+use mathlib.Core.Path.{_≡_, refl, sym, _∙_}
+use mathlib.Core.List.{List, _∷_}
+use mathlib.Core.Bool.{Bool, _||_, not, cond}
+use lib.ListN.{length}
+use lib.Dec.{eqb, ltb}
+use Rattle.basics.specs.Numbers.{u32At}
+use Rattle.netlink.specs.Attributes.{partOf}
+use Rattle.netlink.specs.Headers.{messageHeader}
+use Rattle.netlink.specs.Lengths.{roundUp4}
+use Rattle.netlink.specs.Messages.{messageAt}
+use Rattle.netlink.specs.declared.messages.MessageRead.{MessageRead}
+use Rattle.netlink.specs.declared.messages.MessageRead.the-variants.{Message, Misstated, Cut, AtEnd, Outside}
+use Rattle.refusal.specs.declared.Refusal.{Refusal}
+use Rattle.refusal.specs.declared.Refusal.the-variants as R
+use Rattle.boxes.specs.Box.{boxRight}
+use Rattle.handler.specs.Answer.{Outcome}
+use Rattle.handler.specs.Call.{stays, onMessage, messageOutcome, outcome}
+use Rattle.handler.specs.declared.answer.Kind.{Kind}
+use Rattle.handler.specs.declared.answer.Kind.the-variants.{Done, Refused}
+use Rattle.demands.specs.Check.{Check, refuseIf, first, AllPass, FirstIs}
+use Rattle.demands.specs.Check.Check.{ends}
+use Rattle.demands.specs.Request.{messageChecks}
+use Rattle.demands.specs.Call.{messageOf, endIf, callChecks}
+use Rattle.demands.proofs.First.{step, stop-step, end, first-done, done-first, first-refused, refused-first}
+use Rattle.demands.proofs.Request.{kind, message-first}
+
+module _ (family admin : ℕ) (roll debug flags ws datagram : List ℕ) (position room : ℕ) where
+  abbrev answered : Outcome
+  answered = outcome family admin roll debug flags ws datagram position room
+
+  abbrev checks : List Check
+  checks = callChecks family admin roll debug flags ws datagram position room
+
+  abbrev called : MessageRead → Outcome
+  called read =
+      onMessage read position ws (λ h end next. messageOutcome family admin roll debug flags ws (partOf datagram position end) h next)
+
+  abbrev read-kind : MessageRead → Kind
+  read-kind read = kind (called read)
+
+  message : MessageRead
+  message = Message (messageHeader datagram position) (position + u32At datagram position) (min (position + roundUp4 (u32At datagram position)) (length datagram))
+
+  read-first : read-kind (messageAt datagram position)
+      ≡ first Done
+      (refuseIf (ltb (length datagram) position) R.Datagram
+      ∷ endIf datagram position
+      ∷ refuseIf (ltb (length datagram) (position + 16)) R.Datagram
+      ∷ refuseIf (ltb (u32At datagram position) 16 || ltb (length datagram) (position + u32At datagram position)) R.Length
+      ∷ messageChecks family admin roll debug flags (messageOf datagram position) (messageHeader datagram position))
+  unfolding messageAt endIf messageOf message
+  read-first =
+      let wrong = ltb (u32At datagram position) 16 || ltb (length datagram) (position + u32At datagram position) in
+      let cut = ltb (length datagram) (position + 16) in
+      let over = eqb position (length datagram) in
+      step read-kind Done (ltb (length datagram) position) R.Datagram Outside (cond over AtEnd (cond cut Cut (cond wrong Misstated message))) _ refl
+      (stop-step read-kind Done over ends AtEnd (cond cut Cut (cond wrong Misstated message)) _ (end Done _)
+      (step read-kind Done cut R.Datagram Cut (cond wrong Misstated message) _ refl
+      (step read-kind Done wrong R.Length Misstated message _ refl
+      (message-first roll debug flags ws (partOf datagram position (position + u32At datagram position)) (messageHeader datagram position) _ family admin))))
+
+  pub exact : answered .said .kind ≡ first Done checks
+  unfolding outcome callChecks
+  exact =
+      let rest = called (messageAt datagram position) in
+      let long = ltb 32768 (length datagram) in
+      step kind Done (not (boxRight family admin roll debug flags ws)) R.Box (stays R.Box position ws) _ _ refl
+      (step kind Done (ltb room 32768) R.Page (stays R.Page position ws) (cond long (stays R.Datagram position ws) rest) _ refl
+      (step kind Done long R.Datagram (stays R.Datagram position ws) rest _ refl read-first))
+
+  pub done-exactly : (answered .said .kind ≡ Done → AllPass checks) × (AllPass checks → answered .said .kind ≡ Done)
+  done-exactly = (λ e. first-done checks (sym exact ∙ e), λ a. exact ∙ done-first a)
+
+  pub refused-exactly : (why : Refusal)
+      → (answered .said .kind ≡ Refused why → FirstIs why checks) × (FirstIs why checks → answered .said .kind ≡ Refused why)
+  refused-exactly why = (λ e. first-refused why checks (sym exact ∙ e), λ f. exact ∙ refused-first why f)

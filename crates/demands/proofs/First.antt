@@ -1,0 +1,95 @@
+-- The first check that does not pass: how a definition's tests line up with it, and what it means.
+use mathlib.Core.Path.{_≡_, refl, ap, _∙_}
+use mathlib.Core.List.{List, [], _∷_, _++_}
+use mathlib.Core.Bool.{Bool, true, false, cond}
+use Prim.Native.Nat.{ℕ}
+use native.Mathlib.Omega.{arith}
+use Rattle.netlink.specs.declared.policy.Fault.{Fault}
+use Rattle.netlink.specs.declared.walk.Stop.{Stop}
+use Rattle.netlink.specs.declared.walk.Stop.the-variants.{Whole, At}
+use Rattle.refusal.specs.Refusal.{ofFault}
+use Rattle.refusal.specs.declared.Refusal.{Refusal}
+use Rattle.handler.specs.declared.answer.Kind.{Kind}
+use Rattle.handler.specs.declared.answer.Kind.the-variants.{End, Skipped, Done, Refused}
+use Rattle.demands.specs.Check.{Check, refuseIf, walks, first, AllPass, FirstIs}
+use Rattle.demands.specs.Check.Check.{passes, refuses, ends, skips}
+use Rattle.demands.specs.Check.AllPass.{none, next}
+use Rattle.demands.specs.Check.FirstIs.{here, later}
+
+-- a test of a definition is the first check, and what comes after it the others
+module _ {A : Type 0} (kind : A → Kind) (last : Kind) where
+  pub stop-step : (t : Bool) (check : Check) (a x : A) (checks : List Check) → kind a ≡ first last (check ∷ checks) → kind x ≡ first last checks
+      → kind (cond t a x) ≡ first last (cond t check passes ∷ checks)
+  unfolding first
+  stop-step true check a x checks h e = h
+  stop-step false check a x checks h e = e
+
+  pub step : (t : Bool) (why : Refusal) (a x : A) (checks : List Check) → kind a ≡ Refused why → kind x ≡ first last checks
+      → kind (cond t a x) ≡ first last (refuseIf t why ∷ checks)
+  unfolding refuseIf first
+  step t why a x checks h e = stop-step t (refuses why) a x checks h e
+
+  pub walk-step : (stop : Stop) (on : Stop → A) (checks : List Check) → ((fault : Fault) (at : ℕ) → kind (on (At fault at)) ≡ Refused (ofFault fault at))
+      → kind (on Whole) ≡ first last checks → kind (on stop) ≡ first last (walks stop ∷ checks)
+  unfolding walks first
+  walk-step Whole on checks h e = e
+  walk-step (At fault at) on checks h e = h fault at
+
+-- a row that does not apply, one that does, the two other answers, and no row left
+module _ (last : Kind) where
+  pub pass : (why : Refusal) (checks : List Check) (kind : Kind) → kind ≡ first last checks → kind ≡ first last (refuseIf false why ∷ checks)
+  unfolding refuseIf first
+  pass why checks kind e = e
+
+  pub fault : (why : Refusal) (checks : List Check) → Refused why ≡ first last (refuseIf true why ∷ checks)
+  unfolding refuseIf first
+  fault why checks = refl
+
+  pub skip : (checks : List Check) → Skipped ≡ first last (skips ∷ checks)
+  unfolding first
+  skip checks = refl
+
+  pub end : (checks : List Check) → End ≡ first last (ends ∷ checks)
+  unfolding first
+  end checks = refl
+
+  pub no-more : last ≡ first last []
+  unfolding first
+  no-more = refl
+
+-- checks after others
+pub first-append : (last : Kind) (xs ys : List Check) → first last (xs ++ ys) ≡ first (first last ys) xs
+unfolding first
+first-append last [] ys = refl
+first-append last (passes ∷ xs) ys = first-append last xs ys
+first-append last (refuses why ∷ xs) ys = refl
+first-append last (ends ∷ xs) ys = refl
+first-append last (skips ∷ xs) ys = refl
+
+-- done exactly where every check passes
+pub first-done : (checks : List Check) → first Done checks ≡ Done → AllPass checks
+unfolding first
+first-done [] e = none
+first-done (passes ∷ checks) e = next (first-done checks e)
+first-done (refuses why ∷ checks) e = absurd (let z : _≡_ {A = ℕ} 0 1 = cc in omega arith)
+first-done (ends ∷ checks) e = absurd (let z : _≡_ {A = ℕ} 0 1 = cc in omega arith)
+first-done (skips ∷ checks) e = absurd (let z : _≡_ {A = ℕ} 0 1 = cc in omega arith)
+
+pub done-first : {checks : List Check} → AllPass checks → first Done checks ≡ Done
+unfolding first
+done-first none = refl
+done-first (next rest) = done-first rest
+
+-- refused exactly by the first check that does not pass
+pub first-refused : (why : Refusal) (checks : List Check) → first Done checks ≡ Refused why → FirstIs why checks
+unfolding first
+first-refused why [] e = absurd (let z : _≡_ {A = ℕ} 0 1 = cc in omega arith)
+first-refused why (passes ∷ checks) e = later (first-refused why checks e)
+first-refused why (refuses other ∷ checks) e = let q : other ≡ why = cc in rw q here
+first-refused why (ends ∷ checks) e = absurd (let z : _≡_ {A = ℕ} 0 1 = cc in omega arith)
+first-refused why (skips ∷ checks) e = absurd (let z : _≡_ {A = ℕ} 0 1 = cc in omega arith)
+
+pub refused-first : (why : Refusal) {checks : List Check} → FirstIs why checks → first Done checks ≡ Refused why
+unfolding first
+refused-first why here = refl
+refused-first why (later rest) = refused-first why rest

@@ -1,0 +1,5 @@
+pub mod First
+pub mod Bitset
+pub mod Request
+pub mod Exact
+pub mod Late

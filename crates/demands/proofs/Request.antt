@@ -1,0 +1,216 @@
+-- What a message's definitions tell is its first check that does not pass: skipping and 5 to 9, the top level, the header level, the bitset.
+use Prim.Native.Nat.{ℕ, _-_, _/_, _%_}
+use mathlib.Core.Path.{_≡_, refl, _∙_}
+use mathlib.Core.List.{List, [], _∷_, _++_}
+use mathlib.Core.Bool.{Bool, true, false, _&&_, _||_, not, cond}
+use lib.ListN.{length, getD}
+use lib.Dec.{eqb, ltb}
+use Rattle.basics.specs.Numbers.{byteAt}
+use Rattle.netlink.specs.Attributes.{partOf}
+use Rattle.netlink.specs.Walk.{absent, walked, slotNumber}
+use Rattle.netlink.specs.declared.headers.MessageHeader.{MessageHeader}
+use Rattle.netlink.specs.declared.walk.Slot.{Slot}
+use Rattle.refusal.specs.declared.Refusal.{Refusal}
+use Rattle.refusal.specs.declared.Refusal.the-variants as R
+use Rattle.bitset.specs.Bitset.{Reading}
+use Rattle.bitset.specs.Bitset.Reading.{refused, accepted}
+use Rattle.bitset.specs.Judge.{bitsetReading}
+use Rattle.roll.specs.Find.{byIndex, byName}
+use Rattle.roll.specs.declared.find.Found.{Found}
+use Rattle.roll.specs.declared.find.Found.the-variants as F
+use Rattle.boxes.specs.Layout.{ofSet}
+use Rattle.boxes.specs.declared.layout.Set.{Set}
+use Rattle.request.specs.Admission.{barred, permitted, onCommand, admitted}
+use Rattle.request.specs.Aim.{withFlags, onHeader, aimOf}
+use Rattle.request.specs.Commands.{commandOf}
+use Rattle.request.specs.Header.{flagsJudged, partsOf, headerOf}
+use Rattle.request.specs.Policies.{topPolicy, headerPolicy}
+use Rattle.request.specs.Target.{onFound, otherName, portByIndex, portByName, targetOf}
+use Rattle.request.specs.Top.{onStop, nestsOf, topOf}
+use Rattle.request.specs.declared.admission.Admission.{Admission}
+use Rattle.request.specs.declared.admission.Admission.the-variants as A
+use Rattle.request.specs.declared.commands.Command.{Command}
+use Rattle.request.specs.declared.commands.CommandRead.{CommandRead}
+use Rattle.request.specs.declared.commands.CommandRead.the-variants.{Listed, Unlisted}
+use Rattle.request.specs.declared.header.Header.{Header}
+use Rattle.request.specs.declared.header.Header.the-variants as H
+use Rattle.request.specs.declared.target.Target.{Target}
+use Rattle.request.specs.declared.target.Target.the-variants as P
+use Rattle.request.specs.declared.top.Top.{Top}
+use Rattle.request.specs.declared.top.Top.the-variants as T
+use Rattle.handler.specs.Answer.{Outcome, speech, done, leaves}
+use Rattle.handler.specs.Obey.{gotten, onReading, setOutcome, deed, onAim, aimed, onTop, obeyed}
+use Rattle.handler.specs.Call.{onAdmission, messageOutcome}
+use Rattle.handler.specs.declared.answer.Kind.{Kind}
+use Rattle.handler.specs.declared.answer.Kind.the-variants.{Done, Refused}
+use Rattle.demands.specs.Check.{Check, refuseIf, first}
+use Rattle.demands.specs.Check.Check.{skips}
+use Rattle.demands.specs.Bitset.{bitsetChecks}
+use Rattle.demands.specs.Request.{unlisted, isSet, setIn, noPort, namedOtherwise, skipIf, admissionChecks, topChecks, portChecks, headerChecks, levelChecks, commandChecks, messageChecks}
+use Rattle.demands.proofs.First.{step, stop-step, walk-step, pass, fault, skip, no-more}
+use Rattle.demands.proofs.Bitset.{kindOf, bitset-first}
+
+abbrev pub kind : Outcome → Kind
+kind o = o .said .kind
+
+module _ (roll debug flags ws m : List ℕ) (h : MessageHeader) (next : ℕ) where
+  reading-kind : (r : Reading) (position : ℕ) (set : Set) → kind (onReading r roll debug flags ws m h next position set) ≡ kindOf r
+  reading-kind (refused why) position set = refl
+  reading-kind (accepted b) position set = refl
+
+  -- the checks after the header level: in a SET those of the bitset
+  abbrev after : Bool → Set → Slot → List Check
+  after change set bitset = cond change (bitsetChecks (partOf m 0 (bitset .end)) (bitset .start) (ofSet set debug flags)) []
+
+  module _ (command : Command) (bitset : Slot) where
+    set-first : (position : ℕ) (set : Set)
+        → kind (setOutcome roll debug flags ws m h next position set bitset)
+        ≡ first Done (bitsetChecks (partOf m 0 (bitset .end)) (bitset .start) (ofSet set debug flags))
+    unfolding setOutcome
+    set-first position set =
+        let s = partOf m 0 (bitset .end) in
+        let names = ofSet set debug flags in
+        reading-kind (bitsetReading s (bitset .start) names) position set ∙ bitset-first s (bitset .start) names
+
+    deed-first : (position index name asked : ℕ)
+        → kind (deed roll debug flags ws m h next command bitset position index name asked) ≡ first Done (after (command .change) (command .set) bitset)
+    unfolding deed
+    deed-first position index name asked =
+        go (command .change) (leaves (speech done next (gotten roll debug flags ws m h command position index name asked)) ws) refl
+      where
+        go : (t : Bool) (got : Outcome) → kind got ≡ Done
+            → kind (cond t (setOutcome roll debug flags ws m h next position (command .set) bitset) got) ≡ first Done (after t (command .set) bitset)
+        go true got e = set-first position (command .set)
+        go false got e = e ∙ no-more Done
+
+    abbrev rest : List Check
+    rest = after (command .change) (command .set) bitset
+
+    -- 16 and 17
+    module _ (header index name : Slot) (asked : ℕ) where
+      abbrev targeted : Target → Kind
+      targeted target = kind (onAim (withFlags target asked) m next ws (deed roll debug flags ws m h next command bitset))
+
+      port-first : (p i n e : ℕ) → targeted (P.Port p i n e) ≡ first Done rest
+      unfolding withFlags
+      port-first p i n e = deed-first p i n asked
+
+      refused-by : (why : Refusal) → targeted (P.Refused why) ≡ Refused why
+      unfolding withFlags
+      refused-by why = refl
+
+      index-first : (found : Found)
+          → targeted
+          (onFound found (P.Refused (R.UnknownPort (index .start - 4)))
+          (λ k i n e. cond (otherName m name roll n) (P.Refused (R.OtherName (header .start - 4))) (P.Port k i n e)))
+          ≡ first Done
+          (refuseIf (noPort found) (R.UnknownPort (index .start - 4))
+          ∷ refuseIf false (R.UnknownPort (name .start - 4))
+          ∷ refuseIf (namedOtherwise m name roll found) (R.OtherName (header .start - 4))
+          ∷ rest)
+      unfolding noPort namedOtherwise
+      index-first F.Nothing = refused-by _ ∙ fault Done _ _
+      index-first (F.Port k i n e) =
+          pass Done _ _ _ (pass Done _ _ _ (step targeted Done (otherName m name roll n) _ _ _ _ (refused-by _) (port-first k i n e)))
+
+      name-first : (found : Found)
+          → targeted (onFound found (P.Refused (R.UnknownPort (name .start - 4))) P.Port)
+          ≡ first Done (refuseIf (noPort found) (R.UnknownPort (name .start - 4)) ∷ refuseIf false (R.OtherName (header .start - 4)) ∷ rest)
+      unfolding noPort
+      name-first F.Nothing = refused-by _ ∙ fault Done _ _
+      name-first (F.Port k i n e) = pass Done _ _ _ (pass Done _ _ _ (port-first k i n e))
+
+      target-first : (t : Bool)
+          → targeted (cond t (portByIndex m header index name roll) (portByName m name roll))
+          ≡ first Done
+          (refuseIf (t && noPort (byIndex roll (slotNumber m index))) (R.UnknownPort (index .start - 4))
+          ∷ refuseIf (not t && noPort (byName roll (partOf m (name .start) (name .end)))) (R.UnknownPort (name .start - 4))
+          ∷ refuseIf (t && namedOtherwise m name roll (byIndex roll (slotNumber m index))) (R.OtherName (header .start - 4))
+          ∷ rest)
+      unfolding portByIndex portByName
+      target-first true = index-first (byIndex roll (slotNumber m index))
+      target-first false = pass Done _ _ _ (name-first (byName roll (partOf m (name .start) (name .end))))
+
+    -- the header level
+    aimed-first : (header : Slot) → kind (aimed roll debug flags ws m h next command header bitset) ≡ first Done (headerChecks m roll header ++ rest)
+    unfolding aimed aimOf headerOf partsOf flagsJudged targetOf headerChecks portChecks
+    aimed-first header =
+        let p = partOf m 0 (header .end) in
+        let slots = walked headerPolicy p (header .start) .slots in
+        let index = getD slots 1 absent in
+        let name = getD slots 2 absent in
+        let asked = getD slots 3 absent in
+        walk-step headed Done (walked headerPolicy p (header .start) .stop) (λ stop. onStop stop H.Refused (partsOf m (header .start - 4) index name asked)) _
+        (λ fault at. refl)
+        (step headed Done _ _ _ _ _ refl
+        (step headed Done _ _ _ _ _ refl
+        (target-first header index name (slotNumber m asked) (index .present))))
+      where
+        headed : Header → Kind
+        headed hd =
+            kind
+            (onAim (onHeader hd (λ index name asked. withFlags (targetOf m header index name roll) asked)) m next ws
+            (deed roll debug flags ws m h next command bitset))
+
+  -- the top level
+  level-first : (command : Command)
+      → kind (obeyed roll debug flags ws m h next command)
+      ≡ first Done
+      (levelChecks m roll debug flags (command .change) (command .set)
+      (getD (walked (topPolicy (command .change)) m 20 .slots) 1 absent)
+      (getD (walked (topPolicy (command .change)) m 20 .slots) 2 absent))
+  unfolding obeyed topOf nestsOf levelChecks topChecks
+  level-first command =
+      let slots = walked (topPolicy (command .change)) m 20 .slots in
+      let header = getD slots 1 absent in
+      let bitset = getD slots 2 absent in
+      walk-step topped Done (walked (topPolicy (command .change)) m 20 .stop) (λ stop. onStop stop T.Refused (nestsOf (command .change) header bitset)) _
+      (λ fault at. refl)
+      (step topped Done _ _ _ _ _ refl (step topped Done _ _ _ _ _ refl (aimed-first command bitset header)))
+    where
+      topped : Top → Kind
+      topped top = kind (onTop top m next ws (aimed roll debug flags ws m h next command))
+
+  -- skipped, and 5 to 9
+  module _ (family admin : ℕ) where
+    abbrev admission : Admission → Kind
+    admission a = kind (onAdmission a m next ws (obeyed roll debug flags ws m h next))
+
+    permitted-first : (command : Command)
+        → admission (permitted h (eqb admin 1) command)
+        ≡ first Done
+        (refuseIf (eqb (h .flags / 256 % 4) 3) R.Dump
+        ∷ refuseIf (command .change && not (eqb admin 1)) R.Permission
+        ∷ levelChecks m roll debug flags (command .change) (command .set)
+        (getD (walked (topPolicy (command .change)) m 20 .slots) 1 absent)
+        (getD (walked (topPolicy (command .change)) m 20 .slots) 2 absent))
+    unfolding permitted barred
+    permitted-first command = step admission Done _ _ _ _ _ refl (step admission Done _ _ _ _ _ refl (level-first command))
+
+    command-first : (c : CommandRead)
+        → admission (onCommand c (permitted h (eqb admin 1)))
+        ≡ first Done
+        (refuseIf (unlisted c) R.Command
+        ∷ refuseIf (eqb (h .flags / 256 % 4) 3) R.Dump
+        ∷ refuseIf (isSet c && not (eqb admin 1)) R.Permission
+        ∷ levelChecks m roll debug flags (isSet c) (setIn c)
+        (getD (walked (topPolicy (isSet c)) m 20 .slots) 1 absent)
+        (getD (walked (topPolicy (isSet c)) m 20 .slots) 2 absent))
+    unfolding unlisted isSet setIn
+    command-first Unlisted = fault Done _ _
+    command-first (Listed command) = pass Done _ _ _ (permitted-first command)
+
+    admitted-first : admission (admitted m h family (eqb admin 1)) ≡ first Done (commandChecks family admin roll debug flags m h (commandOf (byteAt m 16)))
+    unfolding admitted commandChecks admissionChecks skipIf
+    admitted-first =
+        let skipped = ltb (h .kind) 16 || eqb (h .flags % 2) 0 in
+        let other = not (eqb (h .kind) family) in
+        let short = ltb (length m) 20 in
+        let rest = onCommand (commandOf (byteAt m 16)) (permitted h (eqb admin 1)) in
+        stop-step admission Done skipped skips A.Skipped (cond other (A.Refused R.Family) (cond short (A.Refused R.Short) rest)) _ (skip Done _)
+        (step admission Done other R.Family (A.Refused R.Family) (cond short (A.Refused R.Short) rest) _ refl
+        (step admission Done short R.Short (A.Refused R.Short) rest _ refl (command-first (commandOf (byteAt m 16)))))
+
+    pub message-first : kind (messageOutcome family admin roll debug flags ws m h next) ≡ first Done (messageChecks family admin roll debug flags m h)
+    unfolding messageOutcome messageChecks
+    message-first = admitted-first

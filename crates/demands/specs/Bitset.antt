@@ -1,0 +1,91 @@
+-- Document 01, "What a call says back" and "Bitsets": the checks of a bitset in their order. "Then the bitset is walked whole and judged: 18
+-- first, then 13, 19, 20 for a compact one. Then BITS is walked whole; then each BIT in order, walked whole and judged."
+use Prim.Native.Nat.{ℕ, _-_, _/_}
+use mathlib.Core.List.{List, [], _∷_, _++_}
+use mathlib.Core.Bool.{Bool, _&&_, not, cond}
+use lib.ListN.{length, getD}
+use lib.Dec.{leb, ltb}
+use Rattle.bits.specs.Set.{has, wordsFor, somePast}
+use Rattle.bits.specs.Bytes.{wordsIn}
+use Rattle.entries.specs.Entry.{count}
+use Rattle.names.specs.Search.{lookup}
+use Rattle.netlink.specs.Attributes.{Attributes, attributes, partOf}
+use Rattle.netlink.specs.Attributes.Attributes.{done, broken, attribute}
+use Rattle.netlink.specs.Walk.{absent, walked, slotNumber}
+use Rattle.netlink.specs.declared.walk.Slot.{Slot}
+use Rattle.refusal.specs.declared.Refusal.the-variants.{Mixed, MissingIn, ShortBitmap, PastLength, UnknownBit, NoBit}
+use Rattle.bitset.specs.Policies.{bitsetPolicy, bitsPolicy, bitPolicy}
+use Rattle.bitset.specs.Compact.{bitmap}
+use Rattle.demands.specs.Check.{Check, refuseIf, walks}
+
+-- "18, in order: BITS with VALUE; BITS with MASK; NOMASK with MASK"
+unfoldable pub mixedChecks : Slot → Slot → Slot → Slot → List Check
+mixedChecks nomask bits value mask =
+    refuseIf (bits .present && value .present) (Mixed (value .start - 4))
+    ∷ refuseIf (bits .present && mask .present) (Mixed (mask .start - 4))
+    ∷ refuseIf (nomask .present && mask .present) (Mixed (mask .start - 4))
+    ∷ []
+
+-- a bitmap holds fewer words than SIZE/32 rounded up
+unfoldable pub tooShort : List ℕ → ℕ → Slot → Bool
+tooShort s size slot = ltb (length (bitmap s slot) / 4) (wordsFor size)
+
+-- "a bit i with N <= i < SIZE stands" in a bitmap
+unfoldable pub pastEnd : List ℕ → ℕ → ℕ → Slot → Bool
+pastEnd s n size slot = somePast (has (wordsIn (bitmap s slot))) n size
+
+-- "SIZE, VALUE and, without NOMASK, MASK are required, missed in that order. VALUE, then MASK, hold at least SIZE/32 rounded up words. 20 if
+-- a bit i with N <= i < SIZE stands in MASK (in VALUE under NOMASK)"
+unfoldable pub compactChecks : List ℕ → ℕ → ℕ → Slot → Slot → Slot → Slot → List Check
+compactChecks s nest n nomask size value mask =
+    refuseIf (not (size .present)) (MissingIn 2 nest)
+    ∷ refuseIf (not (value .present)) (MissingIn 4 nest)
+    ∷ refuseIf (not (nomask .present) && not (mask .present)) (MissingIn 5 nest)
+    ∷ refuseIf (tooShort s (slotNumber s size) value) (ShortBitmap (value .start - 4))
+    ∷ refuseIf (not (nomask .present) && tooShort s (slotNumber s size) mask) (ShortBitmap (mask .start - 4))
+    ∷ refuseIf (not (nomask .present) && pastEnd s n (slotNumber s size) mask) (PastLength (mask .start - 4))
+    ∷ refuseIf (nomask .present && pastEnd s n (slotNumber s size) value) (PastLength (value .start - 4))
+    ∷ []
+
+-- the parts of the BIT at a place: 20 by INDEX, which decides; else 21 by NAME; else 22
+unfoldable pub partChecks : List ℕ → List ℕ → ℕ → Slot → Slot → List Check
+partChecks s names at index name =
+    refuseIf (index .present && leb (count names) (slotNumber s index)) (PastLength (index .start - 4))
+    ∷ refuseIf (not (index .present) && (name .present && not (lookup names (partOf s (name .start) (name .end)) .found))) (UnknownBit (name .start - 4))
+    ∷ refuseIf (not (index .present) && not (name .present)) (NoBit at)
+    ∷ []
+
+-- a BIT: walked whole, then judged
+unfoldable pub bitChecks : List ℕ → List ℕ → ℕ → List Check
+bitChecks s names from =
+    walks (walked bitPolicy s from .stop)
+    ∷ partChecks s names (from - 4) (getD (walked bitPolicy s from .slots) 1 absent) (getD (walked bitPolicy s from .slots) 2 absent)
+
+-- each BIT in order
+unfoldable pub eachBit : List ℕ → List ℕ → Attributes → List Check
+eachBit s names done = []
+eachBit s names (broken at) = []
+eachBit s names (attribute k b a e rest) = bitChecks (partOf s 0 e) names a ++ eachBit s names rest
+
+-- a bit list: BITS walked whole, then each BIT
+unfoldable pub listChecks : List ℕ → List ℕ → Slot → List Check
+listChecks s names bits =
+    walks (walked bitsPolicy (partOf s 0 (bits .end)) (bits .start) .stop)
+    ∷ eachBit (partOf s 0 (bits .end)) names (attributes (partOf s 0 (bits .end)) (bits .start))
+
+-- "With BITS present it is a bit list, else compact"
+unfoldable pub formChecks : List ℕ → ℕ → List ℕ → Slot → Slot → Slot → Slot → Slot → List Check
+formChecks s nest names nomask size bits value mask =
+    mixedChecks nomask bits value mask
+    ++ cond (bits .present) (listChecks s names bits) (compactChecks s nest (count names) nomask size value mask)
+
+-- the bitset whose contents are the bytes of s from a position on
+unfoldable pub bitsetChecks : List ℕ → ℕ → List ℕ → List Check
+bitsetChecks s from names =
+    walks (walked bitsetPolicy s from .stop)
+    ∷ formChecks s (from - 4) names
+    (getD (walked bitsetPolicy s from .slots) 1 absent)
+    (getD (walked bitsetPolicy s from .slots) 2 absent)
+    (getD (walked bitsetPolicy s from .slots) 3 absent)
+    (getD (walked bitsetPolicy s from .slots) 4 absent)
+    (getD (walked bitsetPolicy s from .slots) 5 absent)

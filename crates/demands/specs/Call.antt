@@ -1,0 +1,34 @@
+-- Document 01, "What a call says back": all checks of a call as one list, in their order.
+use Prim.Native.Nat.{ℕ, _+_}
+use mathlib.Core.List.{List, _∷_}
+use mathlib.Core.Bool.{Bool, _||_, not, cond}
+use lib.ListN.{length}
+use lib.Dec.{eqb, ltb}
+use Rattle.basics.specs.Numbers.{u32At}
+use Rattle.netlink.specs.Attributes.{partOf}
+use Rattle.netlink.specs.Headers.{messageHeader}
+use Rattle.refusal.specs.declared.Refusal.the-variants as R
+use Rattle.boxes.specs.Box.{boxRight}
+use Rattle.demands.specs.Check.{Check, refuseIf}
+use Rattle.demands.specs.Check.Check.{ends, passes}
+use Rattle.demands.specs.Request.{messageChecks}
+
+-- the message that stands at a position: as many bytes as its header states
+unfoldable pub messageOf : List ℕ → ℕ → List ℕ
+messageOf datagram position = partOf datagram position (position + u32At datagram position)
+
+-- "Position equal to the datagram's length: end"
+unfoldable pub endIf : List ℕ → ℕ → Check
+endIf datagram position = cond (eqb position (length datagram)) ends passes
+
+-- "End is decided after 1, 2 and the first two causes of 3; skipping after 4"
+unfoldable pub callChecks : ℕ → ℕ → List ℕ → List ℕ → List ℕ → List ℕ → List ℕ → ℕ → ℕ → List Check
+callChecks family admin roll debug flags ws datagram position room =
+    refuseIf (not (boxRight family admin roll debug flags ws)) R.Box
+    ∷ refuseIf (ltb room 32768) R.Page
+    ∷ refuseIf (ltb 32768 (length datagram)) R.Datagram
+    ∷ refuseIf (ltb (length datagram) position) R.Datagram
+    ∷ endIf datagram position
+    ∷ refuseIf (ltb (length datagram) (position + 16)) R.Datagram
+    ∷ refuseIf (ltb (u32At datagram position) 16 || ltb (length datagram) (position + u32At datagram position)) R.Length
+    ∷ messageChecks family admin roll debug flags (messageOf datagram position) (messageHeader datagram position)

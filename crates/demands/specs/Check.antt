@@ -1,0 +1,43 @@
+-- Document 01, "What a call says back": "Checks run in this order ..; the first fault answers".
+use mathlib.Core.List.{List, [], _∷_}
+use mathlib.Core.Bool.{Bool, cond}
+use Rattle.netlink.specs.declared.walk.Stop.{Stop}
+use Rattle.netlink.specs.declared.walk.Stop.the-variants.{Whole, At}
+use Rattle.refusal.specs.Refusal.{ofFault}
+use Rattle.refusal.specs.declared.Refusal.{Refusal}
+use Rattle.handler.specs.declared.answer.Kind.{Kind}
+use Rattle.handler.specs.declared.answer.Kind.the-variants.{End, Skipped, Done, Refused}
+
+-- what one check comes to: it passes, it refuses, or the call is over as the end or as skipped
+pub data Check : Type 0 where
+  passes : Check
+  refuses : Refusal → Check
+  ends : Check
+  skips : Check
+
+-- a row of the table: the refusal, where it applies
+unfoldable pub refuseIf : Bool → Refusal → Check
+refuseIf applies why = cond applies (refuses why) passes
+
+-- 10, 11 and 12: the first fault of a parent that is walked whole
+unfoldable pub walks : Stop → Check
+walks Whole = passes
+walks (At fault at) = refuses (ofFault fault at)
+
+-- the kind that the first check tells that does not pass, else the kind given
+unfoldable pub first : Kind → List Check → Kind
+first kind [] = kind
+first kind (passes ∷ checks) = first kind checks
+first kind (refuses why ∷ checks) = Refused why
+first kind (ends ∷ checks) = End
+first kind (skips ∷ checks) = Skipped
+
+-- no check refuses, ends or skips
+pub data AllPass : List Check → Type 0 where
+  none : AllPass []
+  next : {checks : List Check} → AllPass checks → AllPass (passes ∷ checks)
+
+-- a refusal is told by a check, and all checks before that one pass
+pub data FirstIs (why : Refusal) : List Check → Type 0 where
+  here : {checks : List Check} → FirstIs why (refuses why ∷ checks)
+  later : {checks : List Check} → FirstIs why checks → FirstIs why (passes ∷ checks)

@@ -1,0 +1,5 @@
+pub mod Check
+pub mod Bitset
+pub mod Request
+pub mod Call
+pub mod Answer

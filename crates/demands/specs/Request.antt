@@ -1,0 +1,114 @@
+-- Document 01, "What a call says back": the checks of a message in their order, from skipping to the header level. "Levels: top level is walked
+-- whole .., then header missing (13), then bitset missing in a SET (13). Then the header is walked whole, then 14 to 17. Then the bitset".
+use Prim.Native.Nat.{ℕ, _-_, _/_, _%_}
+use mathlib.Core.List.{List, [], _∷_, _++_}
+use mathlib.Core.Bool.{Bool, true, false, _&&_, _||_, not, cond}
+use lib.ListN.{length, getD}
+use lib.Dec.{eqb, ltb}
+use Rattle.basics.specs.Numbers.{byteAt}
+use Rattle.netlink.specs.Attributes.{partOf}
+use Rattle.netlink.specs.Walk.{absent, walked, slotNumber}
+use Rattle.netlink.specs.declared.headers.MessageHeader.{MessageHeader}
+use Rattle.netlink.specs.declared.walk.Slot.{Slot}
+use Rattle.refusal.specs.declared.Refusal.the-variants as R
+use Rattle.roll.specs.Find.{byIndex, byName}
+use Rattle.roll.specs.declared.find.Found.{Found}
+use Rattle.roll.specs.declared.find.Found.the-variants as F
+use Rattle.boxes.specs.Layout.{ofSet}
+use Rattle.boxes.specs.declared.layout.Set.{Set}
+use Rattle.boxes.specs.declared.layout.Set.the-variants.{Debug}
+use Rattle.request.specs.Commands.{commandOf}
+use Rattle.request.specs.Policies.{topPolicy, headerPolicy}
+use Rattle.request.specs.Target.{otherName}
+use Rattle.request.specs.declared.commands.Command.{Command}
+use Rattle.request.specs.declared.commands.CommandRead.{CommandRead}
+use Rattle.request.specs.declared.commands.CommandRead.the-variants.{Listed, Unlisted}
+use Rattle.demands.specs.Check.{Check, refuseIf, walks}
+use Rattle.demands.specs.Check.Check.{skips, passes}
+use Rattle.demands.specs.Bitset.{bitsetChecks}
+
+-- the command is not listed
+unfoldable pub unlisted : CommandRead → Bool
+unlisted Unlisted = true
+unlisted (Listed command) = false
+
+-- it is a SET
+unfoldable pub isSet : CommandRead → Bool
+isSet Unlisted = false
+isSet (Listed command) = command .change
+
+-- the set that it is about
+unfoldable pub setIn : CommandRead → Set
+setIn Unlisted = Debug
+setIn (Listed command) = command .set
+
+-- no port is found
+unfoldable pub noPort : Found → Bool
+noPort F.Nothing = true
+noPort (F.Port position index name end) = false
+
+-- a port is found, and the name that is given is not its name
+unfoldable pub namedOtherwise : List ℕ → Slot → List ℕ → Found → Bool
+namedOtherwise m name roll F.Nothing = false
+namedOtherwise m name roll (F.Port position index at end) = otherName m name roll at
+
+-- "Type below 16 or REQUEST absent: skipped"
+unfoldable pub skipIf : MessageHeader → Check
+skipIf h = cond (ltb (h .kind) 16 || eqb (h .flags % 2) 0) skips passes
+
+-- 5 to 9
+unfoldable pub admissionChecks : List ℕ → MessageHeader → ℕ → ℕ → CommandRead → List Check
+admissionChecks m h family admin command =
+    skipIf h
+    ∷ refuseIf (not (eqb (h .kind) family)) R.Family
+    ∷ refuseIf (ltb (length m) 20) R.Short
+    ∷ refuseIf (unlisted command) R.Command
+    ∷ refuseIf (eqb (h .flags / 256 % 4) 3) R.Dump
+    ∷ refuseIf (isSet command && not (eqb admin 1)) R.Permission
+    ∷ []
+
+-- the top level: 10 to 12, then 13
+unfoldable pub topChecks : List ℕ → Bool → Slot → Slot → List Check
+topChecks m change header bitset =
+    walks (walked (topPolicy change) m 20 .stop)
+    ∷ refuseIf (not (header .present)) (R.MissingTop 1)
+    ∷ refuseIf (change && not (bitset .present)) (R.MissingTop 2)
+    ∷ []
+
+-- 14 to 17 of the header nest, from its parts
+unfoldable pub portChecks : List ℕ → List ℕ → Slot → Slot → Slot → Slot → List Check
+portChecks m roll header index name flags =
+    refuseIf (not (index .present || name .present)) (R.NoPort (header .start - 4))
+    ∷ refuseIf (ltb 3 (slotNumber m flags)) (R.HeaderFlag (flags .start - 4))
+    ∷ refuseIf (index .present && noPort (byIndex roll (slotNumber m index))) (R.UnknownPort (index .start - 4))
+    ∷ refuseIf (not (index .present) && noPort (byName roll (partOf m (name .start) (name .end)))) (R.UnknownPort (name .start - 4))
+    ∷ refuseIf (index .present && namedOtherwise m name roll (byIndex roll (slotNumber m index))) (R.OtherName (header .start - 4))
+    ∷ []
+
+-- the header level: 10 to 12, then 14 to 17
+unfoldable pub headerChecks : List ℕ → List ℕ → Slot → List Check
+headerChecks m roll header =
+    walks (walked headerPolicy (partOf m 0 (header .end)) (header .start) .stop)
+    ∷ portChecks m roll header
+    (getD (walked headerPolicy (partOf m 0 (header .end)) (header .start) .slots) 1 absent)
+    (getD (walked headerPolicy (partOf m 0 (header .end)) (header .start) .slots) 2 absent)
+    (getD (walked headerPolicy (partOf m 0 (header .end)) (header .start) .slots) 3 absent)
+
+-- the levels of a listed command: top level, header, and in a SET the bitset
+unfoldable pub levelChecks : List ℕ → List ℕ → List ℕ → List ℕ → Bool → Set → Slot → Slot → List Check
+levelChecks m roll debug flags change set header bitset =
+    topChecks m change header bitset
+    ++ (headerChecks m roll header
+    ++ cond change (bitsetChecks (partOf m 0 (bitset .end)) (bitset .start) (ofSet set debug flags)) [])
+
+-- the message m with its header h, whose command is read
+unfoldable pub commandChecks : ℕ → ℕ → List ℕ → List ℕ → List ℕ → List ℕ → MessageHeader → CommandRead → List Check
+commandChecks family admin roll debug flags m h command =
+    admissionChecks m h family admin command
+    ++ levelChecks m roll debug flags (isSet command) (setIn command)
+    (getD (walked (topPolicy (isSet command)) m 20 .slots) 1 absent)
+    (getD (walked (topPolicy (isSet command)) m 20 .slots) 2 absent)
+
+-- the message m with its header h
+unfoldable pub messageChecks : ℕ → ℕ → List ℕ → List ℕ → List ℕ → List ℕ → MessageHeader → List Check
+messageChecks family admin roll debug flags m h = commandChecks family admin roll debug flags m h (commandOf (byteAt m 16))
