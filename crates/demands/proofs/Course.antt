@@ -1,0 +1,82 @@
+-- Every call comes to the end, to a refusal by 1 to 4, or to a message that is answered.
+use Prim.Native.Nat.{ℕ, _+_, _-_, _≤_, min}
+use mathlib.Core.Path.{_≡_, refl, sym, ap, _∙_}
+use mathlib.Core.List.{List}
+use mathlib.Core.Bool.{Bool, true, false, _||_, not, cond}
+use lib.ListN.{length, drop, length-drop}
+use lib.Dec.{eqb, ltb}
+use lib.Seq.{length-take-le}
+use native.Mathlib.Omega.{arith}
+use borrow.Author.Tests.{ltb-false}
+use Rattle.basics.specs.Numbers.{u32At}
+use Rattle.netlink.specs.Attributes.{partOf}
+use Rattle.netlink.specs.Headers.{messageHeader}
+use Rattle.netlink.specs.Lengths.{roundUp4}
+use Rattle.netlink.specs.Messages.{messageAt}
+use Rattle.netlink.specs.declared.messages.MessageRead.{MessageRead}
+use Rattle.netlink.specs.declared.messages.MessageRead.the-variants.{Message, Misstated, Cut, AtEnd, Outside}
+use Rattle.netlink.proofs.attributes.Laws.{part-in}
+use Rattle.refusal.specs.declared.Refusal.the-variants as R
+use Rattle.boxes.specs.Box.{boxRight}
+use Rattle.handler.specs.Answer.{Outcome}
+use Rattle.handler.specs.Call.{stays, onMessage, messageOutcome, outcome}
+use Rattle.demands.specs.Call.{messageOf}
+use Rattle.demands.specs.Course.{Course}
+use Rattle.demands.specs.Course.Course.{over, stayed, answered}
+use Rattle.demands.proofs.Request.{message-first}
+use Rattle.demands.proofs.Deed.{message-deed}
+
+module _ (family admin : ℕ) (roll debug flags ws datagram : List ℕ) (position : ℕ) where
+  abbrev stated : ℕ
+  stated = u32At datagram position
+
+  abbrev next : ℕ
+  next = min (position + roundUp4 stated) (length datagram)
+
+  long : 16 ≤ stated → position + stated ≤ length datagram → 16 ≤ length (messageOf datagram position)
+  unfolding messageOf
+  long lo hi =
+      let l : length (partOf datagram position (position + stated)) ≡ stated =
+      ap length (sym (part-in datagram position (position + stated) (omega arith) hi))
+      ∙ length-take-le (position + stated - position) (drop position datagram) (rw (length-drop position datagram) (omega arith))
+      ∙ (let e : position + stated - position ≡ stated = omega arith in e) in
+      omega arith
+
+  message : boxRight family admin roll debug flags ws ≡ true → 16 ≤ stated → position + stated ≤ length datagram
+      → Course family admin roll debug flags ws datagram position
+      (messageOutcome family admin roll debug flags ws (messageOf datagram position) (messageHeader datagram position) next)
+  message right lo hi =
+      let m = messageOf datagram position in
+      let h = messageHeader datagram position in
+      answered next right (omega arith) (omega arith) (long lo hi)
+      (message-first roll debug flags ws m h next family admin) (message-deed roll debug flags ws m h next family admin)
+
+  pub course : (room : ℕ) → Course family admin roll debug flags ws datagram position (outcome family admin roll debug flags ws datagram position room)
+  unfolding outcome messageAt messageOf
+  course room =
+      go (boxRight family admin roll debug flags ws) (ltb room 32768) (ltb 32768 (length datagram)) (ltb (length datagram) position)
+      (eqb position (length datagram)) (ltb (length datagram) (position + 16)) (ltb stated 16) (ltb (length datagram) (position + stated)) refl refl refl
+    where
+      go : (right page long past end cut low high : Bool) → boxRight family admin roll debug flags ws ≡ right → ltb stated 16 ≡ low
+          → ltb (length datagram) (position + stated) ≡ high
+          → Course family admin roll debug flags ws datagram position
+          (cond (not right) (stays R.Box position ws)
+          (cond page (stays R.Page position ws)
+          (cond long (stays R.Datagram position ws)
+          (onMessage
+          (cond past Outside
+          (cond end AtEnd
+          (cond cut Cut
+          (cond (low || high) Misstated (Message (messageHeader datagram position) (position + stated) next)))))
+          position ws
+          (λ h end next. messageOutcome family admin roll debug flags ws (partOf datagram position end) h next)))))
+      go false page long past end cut low high er el eh = stayed R.Box (omega arith) refl
+      go true true long past end cut low high er el eh = stayed R.Page (omega arith) refl
+      go true false true past end cut low high er el eh = stayed R.Datagram (omega arith) refl
+      go true false false true end cut low high er el eh = stayed R.Datagram (omega arith) refl
+      go true false false false true cut low high er el eh = over refl
+      go true false false false false true low high er el eh = stayed R.Datagram (omega arith) refl
+      go true false false false false false true high er el eh = stayed R.Length (omega arith) refl
+      go true false false false false false false true er el eh = stayed R.Length (omega arith) refl
+      go true false false false false false false false er el eh =
+          message er (ltb-false stated 16 el) (ltb-false (length datagram) (position + stated) eh)

@@ -1,0 +1,120 @@
+-- Every message comes to one of the four deeds.
+use Prim.Native.Nat.{ℕ, _/_, _%_}
+use mathlib.Core.Path.{_≡_, refl, sym, ap, _∙_}
+use mathlib.Core.List.{List}
+use mathlib.Core.Bool.{Bool, true, false, _||_, not, cond}
+use lib.ListN.{length}
+use lib.Dec.{eqb, ltb}
+use native.Mathlib.Omega.{arith}
+use Rattle.basics.specs.Numbers.{byteAt}
+use Rattle.netlink.specs.Attributes.{partOf}
+use Rattle.netlink.specs.declared.headers.MessageHeader.{MessageHeader}
+use Rattle.netlink.specs.declared.walk.Slot.{Slot}
+use Rattle.refusal.specs.declared.Refusal.the-variants as R
+use Rattle.bitset.specs.Bitset.{Bitset, Reading}
+use Rattle.bitset.specs.Bitset.Reading.{refused as turned-down, accepted}
+use Rattle.bitset.specs.Judge.{bitsetReading}
+use Rattle.boxes.specs.Layout.{ofSet}
+use Rattle.request.specs.Admission.{barred, permitted, onCommand, admitted}
+use Rattle.request.specs.Aim.{aimOf}
+use Rattle.request.specs.Commands.{commandOf}
+use Rattle.request.specs.Top.{topOf}
+use Rattle.request.specs.declared.admission.Admission.{Admission}
+use Rattle.request.specs.declared.admission.Admission.the-variants as A
+use Rattle.request.specs.declared.aim.Aim.{Aim}
+use Rattle.request.specs.declared.aim.Aim.the-variants as P
+use Rattle.request.specs.declared.commands.Command.{Command}
+use Rattle.request.specs.declared.commands.CommandRead.{CommandRead}
+use Rattle.request.specs.declared.commands.CommandRead.the-variants.{Listed, Unlisted}
+use Rattle.request.specs.declared.top.Top.{Top}
+use Rattle.request.specs.declared.top.Top.the-variants as T
+use Rattle.handler.specs.Answer.{Outcome, speech, done, leaves}
+use Rattle.handler.specs.Obey.{gotten, onReading, setOutcome, deed, onAim, aimed, onTop, obeyed}
+use Rattle.handler.specs.Call.{onAdmission, messageOutcome}
+use Rattle.demands.specs.Deed.{Named, Deed}
+use Rattle.demands.specs.Deed.Deed.{skipped, refused, got, set}
+
+-- a command that is admitted is listed
+go-listed : (m : List ℕ) (h : MessageHeader) (family : ℕ) (admin : Bool) (command : Command) → admitted m h family admin ≡ A.Go command
+    → commandOf (byteAt m 16) ≡ Listed command
+unfolding admitted permitted
+go-listed m h family admin command e =
+    by (ltb (h .kind) 16 || eqb (h .flags % 2) 0) (not (eqb (h .kind) family)) (ltb (length m) 20) (commandOf (byteAt m 16)) e
+  where
+    admits : (a b : Bool) (c : Command) → cond a (A.Refused R.Dump) (cond b (A.Refused R.Permission) (A.Go c)) ≡ A.Go command → c ≡ command
+    admits true b c e = absurd (let z : _≡_ {A = ℕ} 0 1 = cc in omega arith)
+    admits false true c e = absurd (let z : _≡_ {A = ℕ} 0 1 = cc in omega arith)
+    admits false false c e = cc
+
+    by : (a b c : Bool) (x : CommandRead)
+        → cond a A.Skipped (cond b (A.Refused R.Family) (cond c (A.Refused R.Short) (onCommand x (permitted h admin)))) ≡ A.Go command → x ≡ Listed command
+    by true b c x e = absurd (let z : _≡_ {A = ℕ} 0 1 = cc in omega arith)
+    by false true c x e = absurd (let z : _≡_ {A = ℕ} 0 1 = cc in omega arith)
+    by false false true x e = absurd (let z : _≡_ {A = ℕ} 0 1 = cc in omega arith)
+    by false false false Unlisted e = absurd (let z : _≡_ {A = ℕ} 0 1 = cc in omega arith)
+    by false false false (Listed c) e = ap Listed (admits (eqb (h .flags / 256 % 4) 3) (barred c admin) c e)
+
+module _ (roll debug flags ws m : List ℕ) (h : MessageHeader) (next : ℕ) where
+  module _ (n : Named roll m) where
+    set-deed : n .command .change ≡ true → Deed roll debug flags ws m h next (setOutcome roll debug flags ws m h next (n .position) (n .command .set) (n .bitset))
+    unfolding setOutcome
+    set-deed change = go (bitsetReading (partOf m 0 (n .bitset .end)) (n .bitset .start) (ofSet (n .command .set) debug flags)) refl
+      where
+        go : (x : Reading) → bitsetReading (partOf m 0 (n .bitset .end)) (n .bitset .start) (ofSet (n .command .set) debug flags) ≡ x
+            → Deed roll debug flags ws m h next (onReading x roll debug flags ws m h next (n .position) (n .command .set))
+        go (turned-down why) e = refused why refl
+        go (accepted b) e = set n change b e refl
+
+    deed-deed : Deed roll debug flags ws m h next (deed roll debug flags ws m h next (n .command) (n .bitset) (n .position) (n .index) (n .name) (n .asked))
+    unfolding deed
+    deed-deed = go (n .command .change) refl
+      where
+        shown : Outcome
+        shown = leaves (speech done next (gotten roll debug flags ws m h (n .command) (n .position) (n .index) (n .name) (n .asked))) ws
+
+        go : (t : Bool) → n .command .change ≡ t
+            → Deed roll debug flags ws m h next (cond t (setOutcome roll debug flags ws m h next (n .position) (n .command .set) (n .bitset)) shown)
+        go true e = set-deed e
+        go false e = got n e refl
+
+  module _ (command : Command) (listed : commandOf (byteAt m 16) ≡ Listed command) where
+    aimed-deed : (header bitset : Slot) → topOf m (command .change) ≡ T.Nests header bitset
+        → Deed roll debug flags ws m h next (aimed roll debug flags ws m h next command header bitset)
+    unfolding aimed
+    aimed-deed header bitset nests = go (aimOf m header roll) refl
+      where
+        go : (a : Aim) → aimOf m header roll ≡ a → Deed roll debug flags ws m h next (onAim a m next ws (deed roll debug flags ws m h next command bitset))
+        go (P.Refused why) e = refused why refl
+        go (P.Port position index name end asked) e =
+            deed-deed
+            (record {
+              command = command;
+              listed = listed;
+              header = header;
+              bitset = bitset;
+              nests = nests;
+              position = position;
+              index = index;
+              name = name;
+              end = end;
+              asked = asked;
+              port = e;
+            })
+
+    obeyed-deed : Deed roll debug flags ws m h next (obeyed roll debug flags ws m h next command)
+    unfolding obeyed
+    obeyed-deed = go (topOf m (command .change)) refl
+      where
+        go : (t : Top) → topOf m (command .change) ≡ t → Deed roll debug flags ws m h next (onTop t m next ws (aimed roll debug flags ws m h next command))
+        go (T.Refused why) e = refused why refl
+        go (T.Nests header bitset) e = aimed-deed header bitset e
+
+  pub message-deed : (family admin : ℕ) → Deed roll debug flags ws m h next (messageOutcome family admin roll debug flags ws m h next)
+  unfolding messageOutcome
+  message-deed family admin = go (admitted m h family (eqb admin 1)) refl
+    where
+      go : (a : Admission) → admitted m h family (eqb admin 1) ≡ a
+          → Deed roll debug flags ws m h next (onAdmission a m next ws (obeyed roll debug flags ws m h next))
+      go A.Skipped e = skipped refl
+      go (A.Refused why) e = refused why refl
+      go (A.Go command) e = obeyed-deed command (go-listed m h family (eqb admin 1) command e)

@@ -1,0 +1,27 @@
+-- What a call comes to. Document 01, "What a call says back": "Except for end and 1 to 4, which return the position given, the next position is
+-- past the message's step, capped at the datagram's end".
+use Prim.Native.Nat.{ℕ, _+_, _≤_}
+use mathlib.Core.Path.{_≡_}
+use mathlib.Core.List.{List}
+use mathlib.Core.Bool.{true}
+use lib.ListN.{length}
+use Rattle.netlink.specs.Headers.{messageHeader}
+use Rattle.refusal.specs.Refusal.{numberOf}
+use Rattle.refusal.specs.declared.Refusal.{Refusal}
+use Rattle.boxes.specs.Box.{boxRight}
+use Rattle.handler.specs.Answer.{Outcome, quiet, leaves}
+use Rattle.handler.specs.declared.answer.Kind.the-variants.{End, Done, Refused}
+use Rattle.demands.specs.Check.{first}
+use Rattle.demands.specs.Request.{messageChecks}
+use Rattle.demands.specs.Call.{messageOf}
+use Rattle.demands.specs.Deed.{Deed}
+
+-- the end or a refusal by 1 to 4, which change nothing, say nothing and give the position back; or a message of a right box, which moves on
+pub data Course (family admin : ℕ) (roll debug flags ws datagram : List ℕ) (position : ℕ) (o : Outcome) : Type 0 where
+  over : o ≡ leaves (quiet End position) ws → Course family admin roll debug flags ws datagram position o
+  stayed : (why : Refusal) → numberOf why ≤ 4 → o ≡ leaves (quiet (Refused why) position) ws → Course family admin roll debug flags ws datagram position o
+  answered : (next : ℕ) → boxRight family admin roll debug flags ws ≡ true → position + 16 ≤ next → next ≤ length datagram
+      → 16 ≤ length (messageOf datagram position)
+      → o .said .kind ≡ first Done (messageChecks family admin roll debug flags (messageOf datagram position) (messageHeader datagram position))
+      → Deed roll debug flags ws (messageOf datagram position) (messageHeader datagram position) next o
+      → Course family admin roll debug flags ws datagram position o

@@ -1,0 +1,26 @@
+-- A run over a datagram: calls one after the other, each from the next position and with the settings of the one before. Document 01, "What the box
+-- reads and writes": "in order, up to the end or a refusal 1 to 4".
+use Prim.Native.Nat.{ℕ, zero, suc}
+use mathlib.Core.List.{List}
+use mathlib.Core.Bool.{Bool, true, false, _||_}
+use lib.Dec.{ltb}
+use Rattle.refusal.specs.Refusal.{numberOf}
+use Rattle.handler.specs.Answer.{Outcome}
+use Rattle.handler.specs.Call.{outcome}
+use Rattle.handler.specs.declared.answer.Kind.{Kind}
+use Rattle.handler.specs.declared.answer.Kind.the-variants.{End, Skipped, Done, Refused}
+
+-- the end, or a refusal by 1 to 4
+abbrev pub isOver : Kind → Bool
+isOver End = true
+isOver Skipped = false
+isOver Done = false
+isOver (Refused why) = ltb (numberOf why) 5
+
+-- a run of at most so many calls comes to the end or to a refusal by 1 to 4
+unfoldable pub endsWithin : ℕ → ℕ → ℕ → List ℕ → List ℕ → List ℕ → List ℕ → List ℕ → ℕ → ℕ → Bool
+endsWithin zero family admin roll debug flags ws datagram position room = false
+endsWithin (suc calls) family admin roll debug flags ws datagram position room =
+    isOver (outcome family admin roll debug flags ws datagram position room .said .kind)
+    || endsWithin calls family admin roll debug flags (outcome family admin roll debug flags ws datagram position room .words) datagram
+    (outcome family admin roll debug flags ws datagram position room .said .next) room
