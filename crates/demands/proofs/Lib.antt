@@ -6,3 +6,4 @@ pub mod Late
 pub mod Deed
 pub mod Course
 pub mod Demand1
+pub mod Effect

@@ -6,3 +6,4 @@ pub mod Answer
 pub mod Deed
 pub mod Course
 pub mod Run
+pub mod Done

@@ -29,14 +29,14 @@ module _ (ws ys : List ℕ) (at : ℕ) (h : at + length ys ≤ length ws) where
   splice-own =
       ap (take (length ys)) (drop-at (take at ws) (put (drop at ws) ys) at front) ∙ take-at ys (drop (length ys) (drop at ws)) (length ys) refl
 
-  below : (k : ℕ) → k < at → getD (splice at ws ys) k 0 ≡ getD ws k 0
+  pub splice-below : (k : ℕ) → k < at → getD (splice at ws ys) k 0 ≡ getD ws k 0
   unfolding splice
-  below k l =
+  splice-below k l =
       List·getD-append (take at ws) (put (drop at ws) ys) 0 k (let f = front in omega arith) ∙ getD-take at ws k 0 l
 
-  above : (k : ℕ) → at + length ys ≤ k → getD (splice at ws ys) k 0 ≡ getD ws k 0
+  pub splice-above : (k : ℕ) → at + length ys ≤ k → getD (splice at ws ys) k 0 ≡ getD ws k 0
   unfolding splice
-  above k l =
+  splice-above k l =
       let e : k ≡ length (take at ws) + (k - at) = let f = front in omega arith in
       let b : at + (k - at) ≡ k = omega arith in
       ap (λ (n : ℕ). getD (take at ws ++ put (drop at ws) ys) n 0) e ∙ getD-append-add (take at ws) (put (drop at ws) ys) (k - at) 0
@@ -54,7 +54,7 @@ module _ (ws ys : List ℕ) (at : ℕ) (h : at + length ys ≤ length ws) where
       part s j v = getD-take w (drop b s) j 0 v ∙ getD-drop b s j 0
 
       each : (j : ℕ) → j < w → getD (splice at ws ys) (b + j) 0 ≡ getD ws (b + j) 0
-      each j v = ⊎-elim (λ (q : at + length ys ≤ b). above (b + j) (omega arith)) (λ (q : b + w ≤ at). below (b + j) (omega arith)) apart
+      each j v = ⊎-elim (λ (q : at + length ys ≤ b). splice-above (b + j) (omega arith)) (λ (q : b + w ≤ at). splice-below (b + j) (omega arith)) apart
 
 -- a new set in the settings
 module _ (settings : List ℕ) (ports wd wf : ℕ) (exact : length settings ≡ words ports wd wf) (position : ℕ) (h : position < ports) (set : Set)

@@ -1,6 +1,6 @@
 -- Laws of places: how they are computed, and that a set lies inside the settings.
 use Prim.Native.Nat.{ℕ, _+_, _-_, _*_, _≤_, _<_}
-use mathlib.Core.Path.{_≡_, sym, ap, _∙_}
+use mathlib.Core.Path.{_≡_, refl, sym, ap, _∙_}
 use mathlib.Core.List.{List}
 use native.Mathlib.Nat.{mul-le-mul, mul-le-mul-right, add-mul}
 use native.Mathlib.Omega.{arith}
@@ -21,6 +21,11 @@ module _ {A : Type 0} (set : Set) (debug flags : A) where
   of-flags e = sym (rw e)
 
 pub ruleset of-laws = (of-debug, of-flags)
+
+pub of-map : {A B : Type 0} (f : A → B) (set : Set) (debug flags : A) → f (ofSet set debug flags) ≡ ofSet set (f debug) (f flags)
+unfolding ofSet
+of-map f Debug debug flags = refl
+of-map f Flags debug flags = refl
 
 -- the words of some ports
 pub words-room : (ports wd wf : ℕ) → ports ≤ 64 → wd ≤ 16 → wf ≤ 16 → ports * (wd + wf) ≤ 2048

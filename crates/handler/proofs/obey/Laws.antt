@@ -31,7 +31,7 @@ use Rattle.roll.specs.Name.{nameAt}
 use Rattle.boxes.specs.Layout.{ofSet, words, place, setAt}
 use Rattle.boxes.specs.declared.layout.Set.{Set}
 use Rattle.boxes.specs.declared.layout.Set.the-variants.{Debug, Flags}
-use Rattle.boxes.proofs.layout.Laws.{place-inside, set-length}
+use Rattle.boxes.proofs.layout.Laws.{of-map, place-inside, set-length}
 use Rattle.reply.specs.declared.message.Heading.{Heading}
 use Rattle.request.specs.Top.{topOf}
 use Rattle.request.specs.Aim.{aimOf}
@@ -45,31 +45,11 @@ use Rattle.handler.specs.Answer.{Speech, Outcome, speech, done, refusal,
 use Rattle.handler.specs.Obey.{Fit, heading, placeIn, widthIn, setOf, changedBy, gotten, onReading, setOutcome, deed, onAim, aimed, onTop, obeyed}
 use Rattle.handler.specs.declared.answer.Answer.{Answer}
 
--- what is the set's, of lists and of numbers
-pub names-debug : (set : Set) (debug flags : List ℕ) → set ≡ Debug → debug ≡ ofSet set debug flags
-unfolding ofSet
-names-debug set debug flags e = rw e
-
-pub names-flags : (set : Set) (debug flags : List ℕ) → set ≡ Flags → flags ≡ ofSet set debug flags
-unfolding ofSet
-names-flags set debug flags e = rw e
-
-pub ruleset names-laws = (names-debug, names-flags)
-
+-- what is the set's
 of-few : (set : Set) (a b n : ℕ) → a ≤ n → b ≤ n → ofSet set a b ≤ n
 unfolding ofSet
 of-few Debug a b n h g = h
 of-few Flags a b n h g = g
-
-of-words : (set : Set) (a b : ℕ) → wordsFor (ofSet set a b) ≡ ofSet set (wordsFor a) (wordsFor b)
-unfolding ofSet
-of-words Debug a b = refl
-of-words Flags a b = refl
-
-of-count : (set : Set) (a b : List ℕ) → count (ofSet set a b) ≡ ofSet set (count a) (count b)
-unfolding ofSet
-of-count Debug a b = refl
-of-count Flags a b = refl
 
 -- a stage that leaves the settings
 pub leaves-did : (s : Speech) (P Q ws : List ℕ) (r : Answer) → Said s P Q r → Did (leaves s ws) P Q ws r
@@ -117,7 +97,7 @@ module _ (roll debug flags ws : List ℕ) (fit : Fit roll debug flags ws) (posit
       → length held ≡ wordsFor n
   unfolding widthIn
   show-words held nd nf n eh end enf en =
-      ap length eh ∙ held-length ∙ sym (of-words set (count debug) (count flags)) ∙ ap wordsFor (sym (en ∙ ap₂ (ofSet set) end enf))
+      ap length eh ∙ held-length ∙ sym (of-map wordsFor set (count debug) (count flags)) ∙ ap wordsFor (sym (en ∙ ap₂ (ofSet set) end enf))
 
 pub show-few : (roll debug flags ws : List ℕ) (set : Set) (nd nf n : ℕ) → Fit roll debug flags ws → nd ≡ count debug → nf ≡ count flags → n ≡ ofSet set nd nf → n ≤ 512
 show-few roll debug flags ws set nd nf n fit end enf en = rw (en, end, enf) (of-few set (count debug) (count flags) 512 (fit .debug-few) (fit .flags-few))
@@ -192,7 +172,7 @@ module _ (roll debug flags ws m : List ℕ) (h : MessageHeader) (next position :
 
     below : Below (count ns) (has held)
     unfolding held setOf
-    below = rw (ens, of-count set debug flags) (none-below held (ofSet set (count debug) (count flags)) (fit .clear position here set))
+    below = rw (ens, of-map count set debug flags) (none-below held (ofSet set (count debug) (count flags)) (fit .clear position here set))
 
     few : widthIn debug flags set ≤ 16
     few = apply-width roll debug flags ws (widthIn debug flags set) set fit refl

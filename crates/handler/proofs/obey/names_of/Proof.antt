@@ -1,4 +1,4 @@
-use Rattle.handler.proofs.obey.Laws.{names-laws}
+use Rattle.boxes.proofs.layout.Laws.{of-laws}
 use borrow.Author.Needs.{needs}
 use Rattle.handler.proofs.obey.names_of.Statement.{statement}
 use Rattle.handler.proofs.obey.names_of.Tie as tie
@@ -7,13 +7,13 @@ enum-told : tie.Need-enum-told
 enum-told c = search needs
 
 returns : tie.Need-returns
-returns c = search (needs, names-laws)
+returns c = search (needs, of-laws)
 
 enum-told-2 : tie.Need-enum-told-2
 enum-told-2 c = search needs
 
 returns-2 : tie.Need-returns-2
-returns-2 c = search (needs, names-laws)
+returns-2 c = search (needs, of-laws)
 
 pub names-of-spec : {M : Type 1} → statement M
 names-of-spec = tie.close (tie.spec enum-told returns enum-told-2 returns-2)

@@ -1,0 +1,45 @@
+-- What a done message has brought about: demand 2, "An accepted bitset gives every masked bit its value and keeps the rest" and "Replies are the
+-- stated bytes, and read back give the stored set".
+use Prim.Native.Nat.{ℕ, _+_, _-_, _%_, _≤_, _<_}
+use mathlib.Core.Path.{_≡_}
+use mathlib.Core.List.{List, _++_}
+use mathlib.Core.Bool.{true}
+use mathlib.Core.Logic.{_⊎_}
+use lib.ListN.{length, getD}
+use lib.Dec.{eqb}
+use Rattle.basics.specs.Numbers.{u32At}
+use Rattle.bits.specs.Set.{has}
+use Rattle.bits.specs.Change.{Same}
+use Rattle.entries.specs.Entry.{count}
+use Rattle.netlink.specs.Attributes.{attributes}
+use Rattle.netlink.specs.Attributes.Attributes.{done, attribute}
+use Rattle.netlink.specs.declared.headers.MessageHeader.{MessageHeader}
+use Rattle.bitset.specs.Bitset.{Bitset, effect}
+use Rattle.roll.specs.Name.{nameAt}
+use Rattle.roll.specs.Record.{portCount}
+use Rattle.boxes.specs.Box.{boxRight}
+use Rattle.boxes.specs.Layout.{ofSet}
+use Rattle.boxes.specs.declared.layout.Set.{Set}
+use Rattle.reply.specs.Claims.{ReadsBack}
+use Rattle.reply.specs.Message.{replyBytes}
+use Rattle.handler.specs.Answer.{Outcome, ackBytes}
+use Rattle.handler.specs.Obey.{heading, placeIn, widthIn, setOf}
+use Rattle.demands.specs.Deed.{Named, Carries}
+
+-- a done SET: the named set of the named port is what the bitset makes of it, every other set and every other word is as before, and the box
+-- stays right; an ACK is written if asked
+pub record DoneSet (family admin : ℕ) (roll debug flags ws m : List ℕ) (h : MessageHeader) (o : Outcome) : Type 0 where
+  pub named : Named roll m
+  pub is-set : named .command .change ≡ true
+  pub bits : Bitset
+  pub carries : Carries roll debug flags m named bits
+  pub own : Same (has (setOf roll debug flags (o .words) (named .position) (named .command .set)))
+      (effect bits (has (setOf roll debug flags ws (named .position) (named .command .set))))
+  pub others : (position : ℕ) (set : Set) → position < portCount roll → (named .position ≡ position → named .command .set ≡ set → ⊥)
+      → setOf roll debug flags (o .words) position set ≡ setOf roll debug flags ws position set
+  pub elsewhere : (k : ℕ)
+      → (k < placeIn roll debug flags (named .position) (named .command .set))
+      ⊎ (placeIn roll debug flags (named .position) (named .command .set) + widthIn debug flags (named .command .set) ≤ k)
+      → getD (o .words) k 0 ≡ getD ws k 0
+  pub right : boxRight family admin roll debug flags (o .words) ≡ true
+  pub bytes : o .said .bytes ≡ ackBytes m h
