@@ -7,30 +7,27 @@ use lib.ListN.{getD}
 use lib.Dec.{leb}
 use Rattle.entries.specs.Entry.{count}
 use Rattle.names.specs.Search.{lookup}
-use Rattle.names.specs.declared.Lookup.{Lookup}
 use Rattle.netlink.specs.Attributes.{Attributes, attributes, partOf}
 use Rattle.netlink.specs.Attributes.Attributes.{done, broken, attribute}
 use Rattle.netlink.specs.Walk.{absent, walked, slotNumber}
 use Rattle.netlink.specs.declared.walk.Slot.{Slot}
 use Rattle.refusal.specs.declared.Refusal.{Refusal}
-use Rattle.refusal.specs.declared.Refusal.the-variants.{Mixed, MissingIn, ShortBitmap, PastLength, UnknownBit, NoBit}
+use Rattle.refusal.specs.declared.Refusal.the-variants.{MissingIn, ShortBitmap, PastLength, UnknownBit, NoBit}
 use Rattle.bitset.specs.Policies.{bitsetPolicy, bitsPolicy, bitPolicy}
-use Rattle.bitset.specs.Bitset.{Bitset, Reading}
+use Rattle.bitset.specs.Bitset.{Reading}
 use Rattle.bitset.specs.Bitset.Reading.{refused, accepted}
-use Rattle.bitset.specs.Compact.{bitmap, wholeReading, maskedReading, compactReading}
-use Rattle.bitset.specs.BitList.{byIndex, onLookup, byName, identified, onIdentity, onLooked, onStop, partsReading, bitReading, ListReading, onBit, bitsReading, asBitset, listReading}
+use Rattle.bitset.specs.Compact.{wholeReading, maskedReading, compactReading}
+use Rattle.bitset.specs.BitList.{byIndex, byName, identified, onLooked, onStop, partsReading, bitReading, ListReading, onBit, bitsReading, asBitset, listReading}
 use Rattle.bitset.specs.BitList.ListReading.{stopped, entries}
 use Rattle.bitset.specs.Judge as J
 use Rattle.bitset.specs.declared.judge.Mixing.{Mixing}
-use Rattle.bitset.specs.declared.judge.Mixing.the-variants.{Pure, At}
 use Rattle.bitset.specs.declared.list.Identity.the-variants.{Number, Neither}
 use Rattle.bitset.specs.declared.list.Looked.{Looked}
 use Rattle.bitset.specs.declared.list.Looked.the-variants as L
-use Rattle.bitset.specs.declared.list.BitRead.{BitRead}
 use Rattle.bitset.specs.declared.list.BitRead.the-variants as B
 use Rattle.handler.specs.declared.answer.Kind.{Kind}
 use Rattle.handler.specs.declared.answer.Kind.the-variants.{Done, Refused}
-use Rattle.demands.specs.Check.{Check, refuseIf, walks, first}
+use Rattle.demands.specs.Check.{Check, refuseIf, first}
 use Rattle.demands.specs.Bitset.{mixedChecks, tooShort, pastEnd, compactChecks, partChecks, bitChecks, eachBit, listChecks, formChecks, bitsetChecks}
 use Rattle.demands.proofs.First.{step, walk-step, pass, fault, no-more, first-append}
 

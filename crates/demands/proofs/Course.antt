@@ -13,12 +13,10 @@ use Rattle.netlink.specs.Attributes.{partOf}
 use Rattle.netlink.specs.Headers.{messageHeader}
 use Rattle.netlink.specs.Lengths.{roundUp4}
 use Rattle.netlink.specs.Messages.{messageAt}
-use Rattle.netlink.specs.declared.messages.MessageRead.{MessageRead}
 use Rattle.netlink.specs.declared.messages.MessageRead.the-variants.{Message, Misstated, Cut, AtEnd, Outside}
 use Rattle.netlink.proofs.attributes.Laws.{part-in}
 use Rattle.refusal.specs.declared.Refusal.the-variants as R
 use Rattle.boxes.specs.Box.{boxRight}
-use Rattle.handler.specs.Answer.{Outcome}
 use Rattle.handler.specs.Call.{stays, onMessage, messageOutcome, outcome}
 use Rattle.demands.specs.Call.{messageOf}
 use Rattle.demands.specs.Course.{Course}

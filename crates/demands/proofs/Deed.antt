@@ -1,6 +1,6 @@
 -- Every message comes to one of the four deeds.
 use Prim.Native.Nat.{ℕ, _/_, _%_}
-use mathlib.Core.Path.{_≡_, refl, sym, ap, _∙_}
+use mathlib.Core.Path.{_≡_, refl, ap}
 use mathlib.Core.List.{List}
 use mathlib.Core.Bool.{Bool, true, false, _||_, not, cond}
 use lib.ListN.{length}
@@ -11,7 +11,7 @@ use Rattle.netlink.specs.Attributes.{partOf}
 use Rattle.netlink.specs.declared.headers.MessageHeader.{MessageHeader}
 use Rattle.netlink.specs.declared.walk.Slot.{Slot}
 use Rattle.refusal.specs.declared.Refusal.the-variants as R
-use Rattle.bitset.specs.Bitset.{Bitset, Reading}
+use Rattle.bitset.specs.Bitset.{Reading}
 use Rattle.bitset.specs.Bitset.Reading.{refused as turned-down, accepted}
 use Rattle.bitset.specs.Judge.{bitsetReading}
 use Rattle.boxes.specs.Layout.{ofSet}

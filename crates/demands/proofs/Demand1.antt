@@ -11,7 +11,6 @@ use mathlib.Core.List.{List, []}
 use mathlib.Core.Bool.{Bool, true, false, _||_}
 use mathlib.Core.Logic.{_⊎_, inl, inr}
 use lib.ListN.{length}
-use lib.Dec.{ltb}
 use native.Mathlib.Omega.{arith}
 use borrow.Author.Tests.{lt-ltb, le-ltb}
 use Rattle.basics.proofs.Truth.{clash}
@@ -21,11 +20,9 @@ use Rattle.refusal.specs.Refusal.{numberOf, errnoOf, detailOf}
 use Rattle.refusal.specs.declared.Refusal.{Refusal}
 use Rattle.handler.specs.Answer.{Outcome}
 use Rattle.handler.specs.Call.{outcome}
-use Rattle.handler.specs.declared.answer.Kind.{Kind}
 use Rattle.handler.specs.declared.answer.Kind.the-variants.{End, Skipped, Done, Refused}
 use Rattle.demands.specs.Answer.{refusalBytes}
 use Rattle.demands.specs.Call.{messageOf}
-use Rattle.demands.specs.Deed.{Deed}
 use Rattle.demands.specs.Deed.Deed.{skipped, refused, got, set}
 use Rattle.demands.specs.Course.{Course}
 use Rattle.demands.specs.Course.Course.{over, stayed, answered}

@@ -1,8 +1,8 @@
 -- What a done SET makes of the settings.
 use Prim.Native.Nat.{ℕ, _+_, _*_, _≤_, _<_}
-use mathlib.Core.Path.{_≡_, refl, sym, ap, _∙_}
+use mathlib.Core.Path.{_≡_, sym, ap, _∙_}
 use mathlib.Core.List.{List}
-use mathlib.Core.Bool.{Bool, true, false, cond}
+use mathlib.Core.Bool.{Bool, true, cond}
 use mathlib.Core.Logic.{_⊎_, ⊎-elim}
 use lib.ListN.{length, getD}
 use native.Mathlib.Omega.{arith}
@@ -12,14 +12,12 @@ use Rattle.bits.specs.Change.{Same, Below}
 use Rattle.bits.proofs.Words.{length-wordsOf, has-all}
 use Rattle.bits.proofs.Cut.{none-below, below-none}
 use Rattle.entries.specs.Entry.{count}
-use Rattle.bitset.specs.Bitset.{Bitset, effect, maskOf, valueOf}
+use Rattle.bitset.specs.Bitset.{Bitset, effect, valueOf}
 use Rattle.normal.specs.Claims.{Fits}
 use Rattle.normal.proofs.Effect.{form-keeps-effect, mask-below}
-use Rattle.normal.proofs.Fits.{accepted-fits}
 use Rattle.roll.specs.Record.{portCount}
 use Rattle.boxes.specs.Box.{boxRight}
-use Rattle.boxes.specs.Layout.{ofSet, words, place, setAt}
-use Rattle.boxes.specs.Settings.{settingsRight}
+use Rattle.boxes.specs.Layout.{ofSet}
 use Rattle.boxes.specs.declared.layout.Set.{Set}
 use Rattle.boxes.proofs.layout.Laws.{of-map, place-inside}
 use Rattle.boxes.proofs.layout.Change.{splice-below, splice-above, change-own, change-other}
@@ -41,13 +39,13 @@ module _ (family admin : ℕ) (roll debug flags ws : List ℕ) (box : boxRight f
   abbrev n : ℕ
   n = ofSet set (count debug) (count flags)
 
-  abbrev held : List ℕ
+  abbrev pub held : List ℕ
   held = setOf roll debug flags ws position set
 
-  abbrev new : List ℕ
+  abbrev pub new : List ℕ
   new = wordsOf (widthIn debug flags set) (effect b (has held))
 
-  abbrev after : List ℕ
+  abbrev pub after : List ℕ
   after = splice (placeIn roll debug flags position set) ws new
 
   rules : Right family admin roll debug flags ws

@@ -5,7 +5,7 @@
 use Prim.Native.Nat.{ℕ, _+_, min}
 use mathlib.Core.Path.{_≡_, refl, sym, _∙_}
 use mathlib.Core.List.{List, _∷_}
-use mathlib.Core.Bool.{Bool, _||_, not, cond}
+use mathlib.Core.Bool.{_||_, not, cond}
 use lib.ListN.{length}
 use lib.Dec.{eqb, ltb}
 use Rattle.basics.specs.Numbers.{u32At}

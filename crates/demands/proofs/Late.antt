@@ -1,11 +1,10 @@
 -- The rows that a message can meet have numbers from 5 on.
 use Prim.Native.Nat.{ℕ, _-_, _%_, _≤_}
-use mathlib.Core.Path.{_≡_, refl}
 use mathlib.Core.List.{List, [], _∷_, _++_}
 use mathlib.Core.Bool.{Bool, true, false, _||_, cond}
 use lib.Dec.{eqb, ltb}
 use native.Mathlib.Omega.{arith}
-use Rattle.netlink.specs.Attributes.{Attributes, partOf}
+use Rattle.netlink.specs.Attributes.{Attributes}
 use Rattle.netlink.specs.Attributes.Attributes.{done, broken, attribute}
 use Rattle.netlink.specs.declared.headers.MessageHeader.{MessageHeader}
 use Rattle.netlink.specs.declared.policy.Fault.the-variants as W
@@ -15,7 +14,6 @@ use Rattle.netlink.specs.declared.walk.Stop.the-variants.{Whole, At}
 use Rattle.refusal.specs.Refusal.{numberOf, ofFault}
 use Rattle.refusal.specs.declared.Refusal.{Refusal}
 use Rattle.boxes.specs.declared.layout.Set.{Set}
-use Rattle.request.specs.declared.commands.CommandRead.{CommandRead}
 use Rattle.demands.specs.Check.{Check, refuseIf, walks, FirstIs}
 use Rattle.demands.specs.Check.Check.{passes, refuses, ends, skips}
 use Rattle.demands.specs.Check.FirstIs.{here, later}

@@ -7,3 +7,6 @@ pub mod Deed
 pub mod Course
 pub mod Demand1
 pub mod Effect
+pub mod Port
+pub mod Count
+pub mod Demand2

@@ -1,8 +1,11 @@
 -- Document 01, "What a call says back": what stands in the page after each kind of answer.
-use Prim.Native.Nat.{ℕ}
-use mathlib.Core.List.{List, []}
+use Prim.Native.Nat.{ℕ, _%_, _≤_}
+use mathlib.Core.Path.{_≡_}
+use mathlib.Core.List.{List, [], _++_}
 use mathlib.Core.Bool.{cond}
+use lib.ListN.{length}
 use lib.Dec.{ltb}
+use Rattle.basics.specs.Numbers.{u32At}
 use Rattle.netlink_write.specs.Error.{errorMessage}
 use Rattle.refusal.specs.Refusal.{numberOf, errnoOf, detailOf}
 use Rattle.refusal.specs.declared.Refusal.{Refusal}
@@ -10,3 +13,14 @@ use Rattle.refusal.specs.declared.Refusal.{Refusal}
 -- "1 to 4 write nothing. 5 to 22 write one error message", with the errno and the detail of the table
 unfoldable pub refusalBytes : List ℕ → Refusal → List ℕ
 refusalBytes message why = cond (ltb (numberOf why) 5) [] (errorMessage message (errnoOf why) (detailOf why))
+
+-- messages one after the other, each as long as its header states
+pub data Messages : List ℕ → Type 0 where
+  none : Messages []
+  next : (message rest : List ℕ) → u32At message 0 ≡ length message → Messages rest → Messages (message ++ rest)
+
+-- "the count being the stated messages' summed lengths": whole messages, whole words, and never more than the longest reply with its ACK
+pub record Counted (bytes : List ℕ) : Type 0 where
+  pub messages : Messages bytes
+  pub words : length bytes % 4 ≡ 0
+  pub most : length bytes ≤ 24684

@@ -1,7 +1,7 @@
 -- Document 01, "What a call says back": all checks of a call as one list, in their order.
 use Prim.Native.Nat.{ℕ, _+_}
 use mathlib.Core.List.{List, _∷_}
-use mathlib.Core.Bool.{Bool, _||_, not, cond}
+use mathlib.Core.Bool.{_||_, not, cond}
 use lib.ListN.{length}
 use lib.Dec.{eqb, ltb}
 use Rattle.basics.specs.Numbers.{u32At}

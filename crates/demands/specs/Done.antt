@@ -3,7 +3,7 @@
 use Prim.Native.Nat.{ℕ, _+_, _-_, _%_, _≤_, _<_}
 use mathlib.Core.Path.{_≡_}
 use mathlib.Core.List.{List, _++_}
-use mathlib.Core.Bool.{true}
+use mathlib.Core.Bool.{true, false}
 use mathlib.Core.Logic.{_⊎_}
 use lib.ListN.{length, getD}
 use lib.Dec.{eqb}
@@ -43,3 +43,22 @@ pub record DoneSet (family admin : ℕ) (roll debug flags ws m : List ℕ) (h : 
       → getD (o .words) k 0 ≡ getD ws k 0
   pub right : boxRight family admin roll debug flags (o .words) ≡ true
   pub bytes : o .said .bytes ≡ ackBytes m h
+
+-- the reply to a GET: the named set of the named port, compact with header flag 1
+abbrev pub replyTo : (roll debug flags ws m : List ℕ) → MessageHeader → Named roll m → List ℕ
+replyTo roll debug flags ws m h n =
+    replyBytes (heading h (n .command)) (u32At roll (n .index)) (nameAt roll (n .name)) (eqb (n .asked % 2) 1) (ofSet (n .command .set) debug flags)
+    (setOf roll debug flags ws (n .position) (n .command .set)) (ofSet (n .command .set) (count debug) (count flags))
+
+-- a done GET: the settings stay; the reply is written, then the ACK if asked; the reply's two attributes are the port's nest and the set's,
+-- and the set's contents, which our own reader accepts, make the stored set of every starting set
+pub record DoneGet (roll debug flags ws m : List ℕ) (h : MessageHeader) (o : Outcome) : Type 0 where
+  pub named : Named roll m
+  pub is-get : named .command .change ≡ false
+  pub keeps : o .words ≡ ws
+  pub bytes : o .said .bytes ≡ replyTo roll debug flags ws m h named ++ ackBytes m h
+  pub contents : ℕ
+  pub parts : attributes (replyTo roll debug flags ws m h named) 20
+      ≡ attribute 1 2 24 (contents - 4) (attribute 2 2 contents (length (replyTo roll debug flags ws m h named)) done)
+  pub reads-back : ReadsBack (replyTo roll debug flags ws m h named) contents (ofSet (named .command .set) debug flags)
+      (has (setOf roll debug flags ws (named .position) (named .command .set)))

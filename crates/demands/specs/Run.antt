@@ -5,7 +5,6 @@ use mathlib.Core.List.{List}
 use mathlib.Core.Bool.{Bool, true, false, _||_}
 use lib.Dec.{ltb}
 use Rattle.refusal.specs.Refusal.{numberOf}
-use Rattle.handler.specs.Answer.{Outcome}
 use Rattle.handler.specs.Call.{outcome}
 use Rattle.handler.specs.declared.answer.Kind.{Kind}
 use Rattle.handler.specs.declared.answer.Kind.the-variants.{End, Skipped, Done, Refused}
