@@ -17,7 +17,7 @@ use Rattle.netlink.specs.declared.messages.MessageRead.the-variants.{Message, M
 use Rattle.netlink.proofs.attributes.Laws.{part-in}
 use Rattle.refusal.specs.declared.Refusal.the-variants as R
 use Rattle.boxes.specs.Box.{boxRight}
-use Rattle.handler.specs.Call.{stays, onMessage, messageOutcome, outcome}
+use Rattle.handler.specs.Call.{stays, onMessage, messageOutcome, positionOutcome, outcome}
 use Rattle.demands.specs.Call.{messageOf}
 use Rattle.demands.specs.Course.{Course}
 use Rattle.demands.specs.Course.Course.{over, stayed, answered}
@@ -50,7 +50,7 @@ module _ (family admin : ℕ) (roll debug flags ws datagram : List ℕ) (positio
       (message-first roll debug flags ws m h next family admin) (message-deed roll debug flags ws m h next family admin)
 
   pub course : (room : ℕ) → Course family admin roll debug flags ws datagram position (outcome family admin roll debug flags ws datagram position room)
-  unfolding outcome messageAt messageOf
+  unfolding outcome positionOutcome messageAt messageOf
   course room =
       go (boxRight family admin roll debug flags ws) (ltb room 32768) (ltb 32768 (length datagram)) (ltb (length datagram) position)
       (eqb position (length datagram)) (ltb (length datagram) (position + 16)) (ltb stated 16) (ltb (length datagram) (position + stated)) refl refl refl

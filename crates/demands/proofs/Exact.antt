@@ -19,7 +19,7 @@ use Rattle.refusal.specs.declared.Refusal.{Refusal}
 use Rattle.refusal.specs.declared.Refusal.the-variants as R
 use Rattle.boxes.specs.Box.{boxRight}
 use Rattle.handler.specs.Answer.{Outcome}
-use Rattle.handler.specs.Call.{stays, onMessage, messageOutcome, outcome}
+use Rattle.handler.specs.Call.{stays, onMessage, messageOutcome, positionOutcome, outcome}
 use Rattle.handler.specs.declared.answer.Kind.{Kind}
 use Rattle.handler.specs.declared.answer.Kind.the-variants.{Done, Refused}
 use Rattle.demands.specs.Check.{Check, refuseIf, first, AllPass, FirstIs}
@@ -65,7 +65,7 @@ module _ (family admin : ℕ) (roll debug flags ws datagram : List ℕ) (positio
       (message-first roll debug flags ws (partOf datagram position (position + u32At datagram position)) (messageHeader datagram position) _ family admin))))
 
   pub exact : answered .said .kind ≡ first Done checks
-  unfolding outcome callChecks
+  unfolding outcome positionOutcome callChecks
   exact =
       let rest = called (messageAt datagram position) in
       let long = ltb 32768 (length datagram) in

@@ -1,7 +1,7 @@
 -- Document 01, "What a call says back": one call, from the box to the answer.
 use Prim.Native.Nat.{ℕ}
 use mathlib.Core.List.{List}
-use mathlib.Core.Bool.{Bool, cond, not}
+use mathlib.Core.Bool.{cond, not}
 use lib.ListN.{length}
 use lib.Dec.{eqb, ltb}
 use Rattle.netlink.specs.Messages.{messageAt}
@@ -43,11 +43,16 @@ onMessage Cut position ws f = stays R.Datagram position ws
 onMessage Misstated position ws f = stays R.Length position ws
 onMessage (Message h end next) position ws f = f h end next
 
+-- the message that stands at the position of the datagram
+unfoldable pub positionOutcome : ℕ → ℕ → List ℕ → List ℕ → List ℕ → List ℕ → List ℕ → ℕ → Outcome
+positionOutcome family admin roll debug flags ws datagram position =
+    onMessage (messageAt datagram position) position ws
+    (λ h end next. messageOutcome family admin roll debug flags ws (partOf datagram position end) h next)
+
 -- what one call does: box (1), page (2), datagram (3), then the message at the position
 unfoldable pub outcome : ℕ → ℕ → List ℕ → List ℕ → List ℕ → List ℕ → List ℕ → ℕ → ℕ → Outcome
 outcome family admin roll debug flags ws datagram position room =
     cond (not (boxRight family admin roll debug flags ws)) (stays R.Box position ws)
     (cond (ltb room 32768) (stays R.Page position ws)
     (cond (ltb 32768 (length datagram)) (stays R.Datagram position ws)
-    (onMessage (messageAt datagram position) position ws
-    (λ h end next. messageOutcome family admin roll debug flags ws (partOf datagram position end) h next))))
+    (positionOutcome family admin roll debug flags ws datagram position)))

@@ -2,7 +2,7 @@
 use Prim.Native.Nat.{ℕ, _≤_, _<_, _%_}
 use mathlib.Core.Path.{_≡_}
 use mathlib.Core.List.{List}
-use mathlib.Core.Bool.{Bool, true, cond}
+use mathlib.Core.Bool.{true, cond}
 use lib.ListN.{length, take, drop}
 use lib.Dec.{eqb}
 use Rattle.basics.specs.Numbers.{u32At}
@@ -13,8 +13,7 @@ use Rattle.entries.specs.Entry.{count}
 use Rattle.netlink.specs.Attributes.{partOf}
 use Rattle.netlink.specs.declared.headers.MessageHeader.{MessageHeader}
 use Rattle.netlink.specs.declared.walk.Slot.{Slot}
-use Rattle.refusal.specs.declared.Refusal.{Refusal}
-use Rattle.bitset.specs.Bitset.{Bitset, Reading, effect}
+use Rattle.bitset.specs.Bitset.{Reading, effect}
 use Rattle.bitset.specs.Bitset.Reading.{refused, accepted}
 use Rattle.bitset.specs.Judge.{bitsetReading}
 use Rattle.roll.specs.Record.{portCount}

@@ -3,10 +3,11 @@ ghost use mathlib.Core.Path.{_≡_};
 ghost use Prim.Native.Nat.{_≤_};
 ghost use lib.ListN.{length};
 ghost use Rattle.handler.specs.Answer.{Did};
-ghost use Rattle.handler.specs.Obey.{Fit};
-ghost use Rattle.handler.specs.Call.{messageOutcome, outcome};
+ghost use Rattle.handler.specs.Obey.{Fit, obeyed};
+ghost use Rattle.handler.specs.Call.{onAdmission, positionOutcome, outcome};
 use crate::answer::Answer;
 use crate::answer::Kind;
+use crate::obey::Asked;
 use crate::obey::obey;
 use crate::speak::refuse;
 use boxes::rule::box_right;
@@ -34,10 +35,8 @@ fn quiet(kind: Kind, next: usize) -> Answer
     }
 }
 
-// Answers the message m, whose header is h.
+// Answers the message m, whose header is h: skipped, refused by 5 to 9, or obeyed.
 fn answer_message<'a>(
-    family: u32,
-    admin: u32,
     page: &mut [u8],
     settings: &mut [u32],
     roll: &[u8],
@@ -46,12 +45,13 @@ fn answer_message<'a>(
     m: &[u8],
     h: MessageHeader,
     next: usize,
+    admission: Admission,
 ) -> Answer
     requires { ⌜ (32768 ≤ length (now page)) × (16 ≤ length (now m)) ⌝ }
     requires { ⌜ Fit (now roll) (now debug) (now flags) (now settings) ⌝ }
-    ensures { λ r. ⌜ Did (messageOutcome family admin (now (roll .entry)) (now (debug .entry)) (now (flags .entry)) (now (settings .entry)) (now (m .entry)) h next) (now (page .entry)) (now (page .exit)) (now (settings .exit)) r ⌝ }
+    ensures { λ r. ⌜ Did (onAdmission admission (now (m .entry)) next (now (settings .entry)) (obeyed (now (roll .entry)) (now (debug .entry)) (now (flags .entry)) (now (settings .entry)) (now (m .entry)) h next)) (now (page .entry)) (now (page .exit)) (now (settings .exit)) r ⌝ }
 {
-    match admit(m, h, family, admin == 1) {
+    match admission {
         Admission::Skipped => {
             return quiet(Kind::Skipped, next);
         }
@@ -59,7 +59,53 @@ fn answer_message<'a>(
             return refuse(page, m, why, next);
         }
         Admission::Go(command) => {
-            return obey(page, settings, roll, debug, flags, m, h, next, command);
+            let asked = Asked {
+                header: h,
+                next,
+                command,
+            };
+            return obey(page, settings, roll, debug, flags, m, asked);
+        }
+    }
+}
+
+// Answers the message at a position: the end, a message that is not whole (3 and 4), or one that is answered.
+fn answer_at<'a>(
+    family: u32,
+    admin: u32,
+    roll: &[u8],
+    debug: &'a [u8],
+    flags: &'a [u8],
+    settings: &mut [u32],
+    datagram: &[u8],
+    position: usize,
+    page: &mut [u8],
+) -> Answer
+    requires { ⌜ 32768 ≤ length (now page) ⌝ }
+    requires { ⌜ Fit (now roll) (now debug) (now flags) (now settings) ⌝ }
+    ensures { λ r. ⌜ Did (positionOutcome family admin (now (roll .entry)) (now (debug .entry)) (now (flags .entry)) (now (settings .entry)) (now (datagram .entry)) position) (now (page .entry)) (now (page .exit)) (now (settings .exit)) r ⌝ }
+{
+    match read_message(datagram, position) {
+        MessageRead::Outside => {
+            return quiet(Kind::Refused(Refusal::Datagram), position);
+        }
+        MessageRead::AtEnd => {
+            return quiet(Kind::End, position);
+        }
+        MessageRead::Cut => {
+            return quiet(Kind::Refused(Refusal::Datagram), position);
+        }
+        MessageRead::Misstated => {
+            return quiet(Kind::Refused(Refusal::Length), position);
+        }
+        MessageRead::Message {
+            header: h,
+            end,
+            next,
+        } => {
+            let m = payload(datagram, position, end);
+            let admission = admit(m, h, family, admin == 1);
+            return answer_message(page, settings, roll, debug, flags, m, h, next, admission);
         }
     }
 }
@@ -87,32 +133,15 @@ pub fn handle<'a>(
     if DATAGRAM < datagram.len() {
         return quiet(Kind::Refused(Refusal::Datagram), position);
     }
-    match read_message(datagram, position) {
-        MessageRead::Outside => {
-            return quiet(Kind::Refused(Refusal::Datagram), position);
-        }
-        MessageRead::AtEnd => {
-            return quiet(Kind::End, position);
-        }
-        MessageRead::Cut => {
-            return quiet(Kind::Refused(Refusal::Datagram), position);
-        }
-        MessageRead::Misstated => {
-            return quiet(Kind::Refused(Refusal::Length), position);
-        }
-        MessageRead::Message { header, end, next } => {
-            return answer_message(
-                family,
-                admin,
-                page,
-                settings,
-                roll,
-                debug,
-                flags,
-                payload(datagram, position, end),
-                header,
-                next,
-            );
-        }
-    }
+    answer_at(
+        family,
+        admin,
+        roll,
+        debug,
+        flags,
+        settings,
+        datagram,
+        position,
+        page,
+    )
 }

@@ -29,6 +29,21 @@ use request::commands::Command;
 use request::top::Top;
 use request::top::read_top;
 
+// An admitted request: its header, the position after it, and its command.
+pub struct Asked {
+    pub header: MessageHeader,
+    pub next: usize,
+    pub command: Command,
+}
+
+// The port that a request names: which it is, where its index and its name stand in the roll, and the flags of the request's header.
+pub struct Port {
+    pub position: usize,
+    pub index: usize,
+    pub name: usize,
+    pub flags: u32,
+}
+
 // The names of a set.
 fn names_of<'a>(set: Set, debug: &'a [u8], flags: &'a [u8]) -> &'a [u8]
     ensures { λ r. ⌜ now r ≡ ofSet set (now (debug .entry)) (now (flags .entry)) ⌝ }
@@ -100,31 +115,28 @@ fn get<'a>(
     debug: &'a [u8],
     flags: &'a [u8],
     m: &[u8],
-    h: MessageHeader,
-    next: usize,
-    command: Command,
-    position: usize,
-    index: usize,
-    name: usize,
-    asked: u32,
+    asked: Asked,
+    port: Port,
 ) -> Answer
-    requires { ⌜ (32768 ≤ length (now page)) × (16 ≤ length (now m)) × (position < portCount (now roll)) ⌝ }
+    requires { ⌜ (32768 ≤ length (now page)) × (16 ≤ length (now m)) × (port .position < portCount (now roll)) ⌝ }
     requires { ⌜ Fit (now roll) (now debug) (now flags) (now settings) ⌝ }
-    ensures { λ r. ⌜ Said (speech done next (gotten (now (roll .entry)) (now (debug .entry)) (now (flags .entry)) (now (settings .entry)) (now (m .entry)) h command position index name asked)) (now (page .entry)) (now (page .exit)) r ⌝ }
+    ensures { λ r. ⌜ Said (speech done (asked .next) (gotten (now (roll .entry)) (now (debug .entry)) (now (flags .entry)) (now (settings .entry)) (now (m .entry)) (asked .header) (asked .command) (port .position) (port .index) (port .name) (port .flags))) (now (page .entry)) (now (page .exit)) r ⌝ }
 {
+    let h = asked.header;
+    let command = asked.command;
     let set = command.set;
-    let words = held(settings, roll, debug, flags, position, set);
+    let words = held(settings, roll, debug, flags, port.position, set);
     let n = number_of(set, entries::count(debug), entries::count(flags));
     let names = names_of(set, debug, flags);
     show(
         page,
         m,
         h,
-        next,
+        asked.next,
         heading(h, command),
-        u32_at(roll, index),
-        roll::name::name_at(roll, name),
-        asked % 2 == 1,
+        u32_at(roll, port.index),
+        roll::name::name_at(roll, port.name),
+        port.flags % 2 == 1,
         names,
         words,
         n,
@@ -139,22 +151,23 @@ fn change(
     debug: &[u8],
     flags: &[u8],
     m: &[u8],
-    h: MessageHeader,
-    next: usize,
-    set: Set,
+    asked: Asked,
     position: usize,
     mask: [u32; 16],
     value: [u32; 16],
 ) -> Answer
     requires { ⌜ (32768 ≤ length (now page)) × (16 ≤ length (now m)) × (position < portCount (now roll)) ⌝ }
     requires { ⌜ Fit (now roll) (now debug) (now flags) (now settings) ⌝ }
-    ensures { λ r. ⌜ Said (speech done next (ackBytes (now (m .entry)) h)) (now (page .entry)) (now (page .exit)) r ⌝ }
-    ensures { λ _. ⌜ now (settings .exit) ≡ changedBy (now (roll .entry)) (now (debug .entry)) (now (flags .entry)) (now (settings .entry)) position set mask value ⌝ }
+    ensures { λ r. ⌜ Said (speech done (asked .next) (ackBytes (now (m .entry)) (asked .header))) (now (page .entry)) (now (page .exit)) r ⌝ }
+    ensures { λ _. ⌜ now (settings .exit) ≡ changedBy (now (roll .entry)) (now (debug .entry)) (now (flags .entry)) (now (settings .entry)) position (asked .command .set) mask value ⌝ }
 {
+    let h = asked.header;
+    let command = asked.command;
+    let set = command.set;
     let at = place_of(roll, debug, flags, position, set);
     let w = width_of(debug, flags, set);
     apply(settings, at, w, mask, value);
-    acknowledge(page, m, h, next)
+    acknowledge(page, m, h, asked.next)
 }
 
 // A SET: judged, then applied word by word, and acknowledged.
@@ -165,22 +178,22 @@ fn set<'a>(
     debug: &'a [u8],
     flags: &'a [u8],
     m: &[u8],
-    h: MessageHeader,
-    next: usize,
-    which: Set,
+    asked: Asked,
     position: usize,
     bitset: Slot,
 ) -> Answer
     requires { ⌜ (32768 ≤ length (now page)) × (16 ≤ length (now m)) × (position < portCount (now roll)) ⌝ }
     requires { ⌜ Fit (now roll) (now debug) (now flags) (now settings) ⌝ }
-    ensures { λ r. ⌜ Did (setOutcome (now (roll .entry)) (now (debug .entry)) (now (flags .entry)) (now (settings .entry)) (now (m .entry)) h next position which bitset) (now (page .entry)) (now (page .exit)) (now (settings .exit)) r ⌝ }
+    ensures { λ r. ⌜ Did (setOutcome (now (roll .entry)) (now (debug .entry)) (now (flags .entry)) (now (settings .entry)) (now (m .entry)) (asked .header) (asked .next) position (asked .command .set) bitset) (now (page .entry)) (now (page .exit)) (now (settings .exit)) r ⌝ }
 {
+    let command = asked.command;
+    let which = command.set;
     let start = bitset.start;
     let end = bitset.end;
     let judged = judge(payload(m, 0, end), start, names_of(which, debug, flags));
     let judgement = judged.judgement;
     if let Judgement::Refused(why) = judgement {
-        return refuse(page, m, why, next);
+        return refuse(page, m, why, asked.next);
     }
     let form = judged.form;
     let mask = form.mask;
@@ -192,16 +205,14 @@ fn set<'a>(
         debug,
         flags,
         m,
-        h,
-        next,
-        which,
+        asked,
         position,
         mask,
         value,
     )
 }
 
-// GET or SET of the port that is aimed at.
+// GET or SET of the port that is named.
 fn carry_out<'a>(
     page: &mut [u8],
     settings: &mut [u32],
@@ -209,21 +220,17 @@ fn carry_out<'a>(
     debug: &'a [u8],
     flags: &'a [u8],
     m: &[u8],
-    h: MessageHeader,
-    next: usize,
-    command: Command,
+    asked: Asked,
     bitset: Slot,
-    position: usize,
-    index: usize,
-    name: usize,
-    asked: u32,
+    port: Port,
 ) -> Answer
-    requires { ⌜ (32768 ≤ length (now page)) × (16 ≤ length (now m)) × (position < portCount (now roll)) ⌝ }
+    requires { ⌜ (32768 ≤ length (now page)) × (16 ≤ length (now m)) × (port .position < portCount (now roll)) ⌝ }
     requires { ⌜ Fit (now roll) (now debug) (now flags) (now settings) ⌝ }
-    ensures { λ r. ⌜ Did (deed (now (roll .entry)) (now (debug .entry)) (now (flags .entry)) (now (settings .entry)) (now (m .entry)) h next command bitset position index name asked) (now (page .entry)) (now (page .exit)) (now (settings .exit)) r ⌝ }
+    ensures { λ r. ⌜ Did (deed (now (roll .entry)) (now (debug .entry)) (now (flags .entry)) (now (settings .entry)) (now (m .entry)) (asked .header) (asked .next) (asked .command) bitset (port .position) (port .index) (port .name) (port .flags)) (now (page .entry)) (now (page .exit)) (now (settings .exit)) r ⌝ }
 {
+    let command = asked.command;
     if command.change {
-        let which = command.set;
+        let position = port.position;
         return set(
             page,
             settings,
@@ -231,28 +238,12 @@ fn carry_out<'a>(
             debug,
             flags,
             m,
-            h,
-            next,
-            which,
+            asked,
             position,
             bitset,
         );
     }
-    get(
-        page,
-        settings,
-        roll,
-        debug,
-        flags,
-        m,
-        h,
-        next,
-        command,
-        position,
-        index,
-        name,
-        asked,
-    )
+    get(page, settings, roll, debug, flags, m, asked, port)
 }
 
 // The header level.
@@ -263,43 +254,32 @@ fn aim<'a>(
     debug: &'a [u8],
     flags: &'a [u8],
     m: &[u8],
-    h: MessageHeader,
-    next: usize,
-    command: Command,
+    asked: Asked,
     header: Slot,
     bitset: Slot,
 ) -> Answer
     requires { ⌜ (32768 ≤ length (now page)) × (16 ≤ length (now m)) ⌝ }
     requires { ⌜ Fit (now roll) (now debug) (now flags) (now settings) ⌝ }
-    ensures { λ r. ⌜ Did (aimed (now (roll .entry)) (now (debug .entry)) (now (flags .entry)) (now (settings .entry)) (now (m .entry)) h next command header bitset) (now (page .entry)) (now (page .exit)) (now (settings .exit)) r ⌝ }
+    ensures { λ r. ⌜ Did (aimed (now (roll .entry)) (now (debug .entry)) (now (flags .entry)) (now (settings .entry)) (now (m .entry)) (asked .header) (asked .next) (asked .command) header bitset) (now (page .entry)) (now (page .exit)) (now (settings .exit)) r ⌝ }
 {
     match read_aim(m, header, roll) {
         Aim::Refused(why) => {
-            return refuse(page, m, why, next);
+            return refuse(page, m, why, asked.next);
         }
         Aim::Port {
             position,
             index,
             name,
             end: _,
-            flags: asked,
+            flags: flag_bits,
         } => {
-            return carry_out(
-                page,
-                settings,
-                roll,
-                debug,
-                flags,
-                m,
-                h,
-                next,
-                command,
-                bitset,
+            let port = Port {
                 position,
                 index,
                 name,
-                asked,
-            );
+                flags: flag_bits,
+            };
+            return carry_out(page, settings, roll, debug, flags, m, asked, bitset, port);
         }
     }
 }
@@ -312,32 +292,19 @@ pub fn obey<'a>(
     debug: &'a [u8],
     flags: &'a [u8],
     m: &[u8],
-    h: MessageHeader,
-    next: usize,
-    command: Command,
+    asked: Asked,
 ) -> Answer
     requires { ⌜ (32768 ≤ length (now page)) × (16 ≤ length (now m)) ⌝ }
     requires { ⌜ Fit (now roll) (now debug) (now flags) (now settings) ⌝ }
-    ensures { λ r. ⌜ Did (obeyed (now (roll .entry)) (now (debug .entry)) (now (flags .entry)) (now (settings .entry)) (now (m .entry)) h next command) (now (page .entry)) (now (page .exit)) (now (settings .exit)) r ⌝ }
+    ensures { λ r. ⌜ Did (obeyed (now (roll .entry)) (now (debug .entry)) (now (flags .entry)) (now (settings .entry)) (now (m .entry)) (asked .header) (asked .next) (asked .command)) (now (page .entry)) (now (page .exit)) (now (settings .exit)) r ⌝ }
 {
+    let command = asked.command;
     match read_top(m, command.change) {
         Top::Refused(why) => {
-            return refuse(page, m, why, next);
+            return refuse(page, m, why, asked.next);
         }
         Top::Nests { header, bitset } => {
-            return aim(
-                page,
-                settings,
-                roll,
-                debug,
-                flags,
-                m,
-                h,
-                next,
-                command,
-                header,
-                bitset,
-            );
+            return aim(page, settings, roll, debug, flags, m, asked, header, bitset);
         }
     }
 }

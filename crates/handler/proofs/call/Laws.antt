@@ -1,7 +1,7 @@
 -- Laws of one call: one for each return.
 use Prim.Native.Nat.{ℕ, _+_, _-_, _≤_, _<_, min}
 use mathlib.Core.Path.{_≡_, refl, sym, ap, _∙_}
-use mathlib.Core.List.{List, []}
+use mathlib.Core.List.{List}
 use mathlib.Core.Bool.{Bool, true, false, cond, not, _||_}
 use lib.ListN.{length, drop, length-drop}
 use lib.Seq.{length-take-le}
@@ -9,7 +9,6 @@ use lib.Dec.{eqb, ltb}
 use native.Mathlib.Omega.{arith}
 use borrow.Author.Tests.{lt-ltb, le-ltb, ltb-false, not-false}
 use Rattle.basics.specs.Numbers.{u32At}
-use Rattle.basics.specs.Put.{put}
 use Rattle.basics.proofs.Put.{put-nil}
 use Rattle.entries.specs.Entry.{count}
 use Rattle.netlink.specs.Lengths.{roundUp4}
@@ -30,9 +29,9 @@ use Rattle.request.specs.Admission.{admitted}
 use Rattle.request.specs.declared.commands.Command.{Command}
 use Rattle.request.specs.declared.admission.Admission.{Admission}
 use Rattle.request.specs.declared.admission.Admission.the-variants as A
-use Rattle.handler.specs.Answer.{Speech, Outcome, quiet, refusal, leaves, returned, Said, Did}
+use Rattle.handler.specs.Answer.{Outcome, quiet, refusal, leaves, Said, Did}
 use Rattle.handler.specs.Obey.{Fit, obeyed}
-use Rattle.handler.specs.Call.{onAdmission, messageOutcome, stays, onMessage, outcome}
+use Rattle.handler.specs.Call.{onAdmission, messageOutcome, onMessage, positionOutcome, outcome}
 use Rattle.handler.specs.declared.answer.Kind.{Kind}
 use Rattle.handler.specs.declared.answer.Kind.the-variants.{End, Skipped, Refused}
 use Rattle.handler.specs.declared.answer.Answer.{Answer}
@@ -43,20 +42,19 @@ pub quiet-did : (o : Outcome) (k : Kind) (next : ℕ) (P ws : List ℕ) (r : Ans
     → Did o P P ws r
 quiet-did o k next P ws r e q = rw q (record { said = record { result = e; page = sym (put-nil P) }; settings = refl })
 
-module _ (family admin : ℕ) (roll debug flags ws m : List ℕ) (h : MessageHeader) (next : ℕ) (a : Admission) (e : a ≡ admitted m h family (eqb admin 1)) (P : List ℕ) (r : Answer) where
-  pub message-skipped : a ≡ A.Skipped → r ≡ record { kind = Skipped; next = next; written = 0 } → Did (messageOutcome family admin roll debug flags ws m h next) P P ws r
-  unfolding messageOutcome
-  message-skipped q er = quiet-did _ Skipped next P ws r er (rw (← e, q))
+module _ (roll debug flags ws m : List ℕ) (h : MessageHeader) (next : ℕ) (a : Admission) (P : List ℕ) (r : Answer) where
+  pub message-skipped : a ≡ A.Skipped → r ≡ record { kind = Skipped; next = next; written = 0 }
+      → Did (onAdmission a m next ws (obeyed roll debug flags ws m h next)) P P ws r
+  message-skipped q er = quiet-did _ Skipped next P ws r er (rw q)
 
   module _ (Q : List ℕ) where
-    pub message-refused : (why : Refusal) → a ≡ A.Refused why → Said (refusal m next why) P Q r → Did (messageOutcome family admin roll debug flags ws m h next) P Q ws r
-    unfolding messageOutcome
-    message-refused why q s = rw (← e, q) (leaves-did (refusal m next why) P Q ws r s)
+    pub message-refused : (why : Refusal) → a ≡ A.Refused why → Said (refusal m next why) P Q r
+        → Did (onAdmission a m next ws (obeyed roll debug flags ws m h next)) P Q ws r
+    message-refused why q s = rw q (leaves-did (refusal m next why) P Q ws r s)
 
     pub message-go : (c : Command) (new : List ℕ) → a ≡ A.Go c → Did (obeyed roll debug flags ws m h next c) P Q new r
-        → Did (messageOutcome family admin roll debug flags ws m h next) P Q new r
-    unfolding messageOutcome
-    message-go c new q d = rw (← e, q) d
+        → Did (onAdmission a m next ws (obeyed roll debug flags ws m h next)) P Q new r
+    message-go c new q d = rw q d
 
 pub ruleset message-laws = (message-skipped, message-refused, message-go)
 
@@ -72,6 +70,39 @@ box-fit family admin roll debug flags ws b e n =
       clear = S.right-means ws (portCount roll) (count debug) (count flags) (right .settings-right) .clear;
     }
 
+-- the message at the position
+module _ (family admin : ℕ) (roll debug flags ws datagram : List ℕ) (position : ℕ) (P : List ℕ) (x : MessageRead) (ex : x ≡ messageAt datagram position) where
+  by-message : positionOutcome family admin roll debug flags ws datagram position
+      ≡ onMessage x position ws (λ h end next. messageOutcome family admin roll debug flags ws (partOf datagram position end) h next)
+  unfolding positionOutcome
+  by-message = rw (← ex)
+
+  module _ (r : Answer) where
+    pub at-outside : x ≡ Outside → r ≡ record { kind = Refused R.Datagram; next = position; written = 0 }
+        → Did (positionOutcome family admin roll debug flags ws datagram position) P P ws r
+    at-outside q er = quiet-did _ (Refused R.Datagram) position P ws r er (by-message ∙ rw q)
+
+    pub at-end : x ≡ AtEnd → r ≡ record { kind = End; next = position; written = 0 }
+        → Did (positionOutcome family admin roll debug flags ws datagram position) P P ws r
+    at-end q er = quiet-did _ End position P ws r er (by-message ∙ rw q)
+
+    pub at-cut : x ≡ Cut → r ≡ record { kind = Refused R.Datagram; next = position; written = 0 }
+        → Did (positionOutcome family admin roll debug flags ws datagram position) P P ws r
+    at-cut q er = quiet-did _ (Refused R.Datagram) position P ws r er (by-message ∙ rw q)
+
+    pub at-misstated : x ≡ Misstated → r ≡ record { kind = Refused R.Length; next = position; written = 0 }
+        → Did (positionOutcome family admin roll debug flags ws datagram position) P P ws r
+    at-misstated q er = quiet-did _ (Refused R.Length) position P ws r er (by-message ∙ rw q)
+
+    pub at-message : (h : MessageHeader) (end next : ℕ) (m Q new : List ℕ) (a : Admission) → x ≡ Message h end next → m ≡ partOf datagram position end
+        → a ≡ admitted m h family (eqb admin 1) → Did (onAdmission a m next ws (obeyed roll debug flags ws m h next)) P Q new r
+        → Did (positionOutcome family admin roll debug flags ws datagram position) P Q new r
+    unfolding messageOutcome
+    at-message h end next m Q new a q em ea d = rw (by-message, q, ← em, ← ea) d
+
+pub ruleset at-laws = (at-outside, at-end, at-cut, at-misstated, at-message)
+
+-- the box, the page, the datagram
 module _ (family admin : ℕ) (roll debug flags ws datagram : List ℕ) (position : ℕ) (P : List ℕ) (b : Bool) (e : b ≡ boxRight family admin roll debug flags ws) where
   pub call-box : (r : Answer) → not b ≡ true → r ≡ record { kind = Refused R.Box; next = position; written = 0 }
       → Did (outcome family admin roll debug flags ws datagram position (length P)) P P ws r
@@ -90,34 +121,12 @@ module _ (family admin : ℕ) (roll debug flags ws datagram : List ℕ) (positio
       unfolding outcome
       call-long r l er = quiet-did _ (Refused R.Datagram) position P ws r er (rw (← e, right, le-ltb _ _ room, lt-ltb _ _ l))
 
-      module _ (short : length datagram ≤ 32768) (x : MessageRead) (ex : x ≡ messageAt datagram position) where
-        by-message : outcome family admin roll debug flags ws datagram position (length P)
-            ≡ onMessage x position ws (λ h end next. messageOutcome family admin roll debug flags ws (partOf datagram position end) h next)
-        unfolding outcome
-        by-message = rw (← e, right, le-ltb _ _ room, le-ltb _ _ short, ← ex)
+      pub call-at : length datagram ≤ 32768 → (Q new : List ℕ) (r : Answer) → Did (positionOutcome family admin roll debug flags ws datagram position) P Q new r
+          → Did (outcome family admin roll debug flags ws datagram position (length P)) P Q new r
+      unfolding outcome
+      call-at short Q new r d = rw (← e, right, le-ltb _ _ room, le-ltb _ _ short) d
 
-        pub call-outside : (r : Answer) → x ≡ Outside → r ≡ record { kind = Refused R.Datagram; next = position; written = 0 }
-            → Did (outcome family admin roll debug flags ws datagram position (length P)) P P ws r
-        call-outside r q er = quiet-did _ (Refused R.Datagram) position P ws r er (by-message ∙ rw q)
-
-        pub call-end : (r : Answer) → x ≡ AtEnd → r ≡ record { kind = End; next = position; written = 0 }
-            → Did (outcome family admin roll debug flags ws datagram position (length P)) P P ws r
-        call-end r q er = quiet-did _ End position P ws r er (by-message ∙ rw q)
-
-        pub call-cut : (r : Answer) → x ≡ Cut → r ≡ record { kind = Refused R.Datagram; next = position; written = 0 }
-            → Did (outcome family admin roll debug flags ws datagram position (length P)) P P ws r
-        call-cut r q er = quiet-did _ (Refused R.Datagram) position P ws r er (by-message ∙ rw q)
-
-        pub call-misstated : (r : Answer) → x ≡ Misstated → r ≡ record { kind = Refused R.Length; next = position; written = 0 }
-            → Did (outcome family admin roll debug flags ws datagram position (length P)) P P ws r
-        call-misstated r q er = quiet-did _ (Refused R.Length) position P ws r er (by-message ∙ rw q)
-
-        pub call-message : (h : MessageHeader) (end next : ℕ) (m Q new : List ℕ) (r : Answer) → x ≡ Message h end next → m ≡ partOf datagram position end
-            → Did (messageOutcome family admin roll debug flags ws m h next) P Q new r
-            → Did (outcome family admin roll debug flags ws datagram position (length P)) P Q new r
-        call-message h end next m Q new r q em d = rw (by-message, q, ← em) d
-
-pub ruleset call-laws = (call-box, call-page, call-long, call-outside, call-end, call-cut, call-misstated, call-message)
+pub ruleset call-laws = (call-box, call-page, call-long, call-at)
 
 -- a message that was read has its 16 header bytes
 message-bounds : (d : List ℕ) (at : ℕ) (h : MessageHeader) (e n : ℕ) → messageAt d at ≡ Message h e n → (at + 16 ≤ e) × (e ≤ length d)

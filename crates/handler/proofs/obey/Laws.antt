@@ -9,7 +9,7 @@ use native.Mathlib.Omega.{arith}
 use Rattle.basics.specs.Numbers.{u32At}
 use Rattle.basics.specs.Put.{splice}
 use Rattle.basics.proofs.Truth.{cond-true, cond-false}
-use Rattle.bits.specs.Set.{has, wordsOf, wordsFor, noneFrom}
+use Rattle.bits.specs.Set.{has, wordsOf, wordsFor}
 use Rattle.bits.specs.Change.{merge, Below}
 use Rattle.bits.proofs.Words.{has-wordsOf, wordsOf-cong, take-wordsOf}
 use Rattle.bits.proofs.Cut.{none-below}
@@ -21,7 +21,6 @@ use Rattle.refusal.specs.declared.Refusal.{Refusal}
 use Rattle.bitset.specs.Bitset.{Bitset, Reading, effect, maskOf, valueOf, judgedAs}
 use Rattle.bitset.specs.Bitset.Reading.{refused, accepted}
 use Rattle.bitset.specs.Judge.{bitsetReading}
-use Rattle.bitset.specs.declared.form.Judgement.{Judgement}
 use Rattle.bitset.specs.declared.form.Judgement.the-variants as J
 use Rattle.bitset.specs.declared.form.Judged.{Judged}
 use Rattle.normal.proofs.Effect.{form-keeps-effect}
@@ -41,8 +40,8 @@ use Rattle.request.specs.declared.top.Top.the-variants as T
 use Rattle.request.specs.declared.aim.Aim.{Aim}
 use Rattle.request.specs.declared.aim.Aim.the-variants as A
 use Rattle.request.proofs.aim.Place.{aimed-in}
-use Rattle.handler.specs.Answer.{Speech, Outcome, speech, done, refusal, ackBytes, shown, leaves, Said, Did}
-use Rattle.handler.specs.Obey.{Fit, heading, placeIn, widthIn, setOf, changedBy, gotten, onReading, setOutcome, deed, onAim, aimed, onTop, obeyed}
+use Rattle.handler.specs.Answer.{Speech, speech, done, refusal, ackBytes, shown, leaves, Said, Did}
+use Rattle.handler.specs.Obey.{Fit, heading, placeIn, widthIn, setOf, changedBy, gotten, onReading, setOutcome, deed, aimed, obeyed}
 use Rattle.handler.specs.declared.answer.Answer.{Answer}
 
 -- what is the set's

@@ -29,14 +29,14 @@ name-at-requires c κs = search needs
 
 show-requires : tie.Need-show-requires
 show-requires c κs =
-    let s = c .before .before .before .before .before .before .before .before .before .before .before .before .before .before .before in
-    let held = c .before .before .before .before .before .before .before .before .held .ensures in
-    let debug = c .before .before .before .before .before .before .before .count .ensures in
-    let flags = c .before .before .before .before .before .before .count2 .ensures in
-    let bits = c .before .before .before .before .before .number-of .ensures in (
+    let s = c .before .before .before .before .before .before .before .before .before .before .before .before .before .before .before .before .before .before in
+    let held = c .before .before .before .before .before .before .before .before .before .held .ensures in
+    let debug = c .before .before .before .before .before .before .before .before .count .ensures in
+    let flags = c .before .before .before .before .before .before .before .count2 .ensures in
+    let bits = c .before .before .before .before .before .before .number-of .ensures in (
       s .pre .0 .0,
       s .pre .0 .1,
-      show-name _ _ _ (c .name-at .ensures),
+      show-name _ _ _ (c .before .name-at .ensures),
       show-words _ _ _ _ (s .pre .1) _ (s .pre .0 .2) _ _ _ _ _ held debug flags bits,
       show-few _ _ _ _ _ _ _ _ (s .pre .1) debug flags bits,
     )
@@ -45,7 +45,7 @@ same-length : tie.Need-same-length
 same-length c = search needs
 
 returns : tie.Need-returns
-returns c = search (needs, get-said, show-words, show-few, show-name)
+returns c = search (needs, get-said)
 
 pub get-spec : {M : Type 1} → statement M
 get-spec =

@@ -38,7 +38,7 @@ same-length-3 c = search needs
 
 returns-2 : tie.Need-returns-2
 returns-2 c =
-    let s = c .before .before .before .before .before .before .before .before .before .before .before .before .before .before .before .before .before .before .before .before .before in
+    let s = c .before .before .before .before .before .before .before .before .before .before .before .before .before .before .before .before .before .before .before .before .before .before in
     let change = c .before .before .before .before .change .ensures in
     set-done _ _ _ _ _ _ _ _ _ _ _ _ (c .before .before .before .before .before .before .before .before .before .before .before .before .before .before .payload .ensures) (c .before .before .before .before .before .before .before .before .before .before .before .before .before .names-of .ensures) _ (c .before .before .before .before .before .before .before .before .before .before .before .before .judge .ensures) (s .pre .1) (s .pre .0 .2) _ _ _ _
     (c .before .before .before .before .before .before .before .before .before .before .enum-told .given .1) (change .0) (change .1)
