@@ -28,6 +28,7 @@ abbrev pub onward : Bool → Outcome → (List ℕ → ℕ → List (List ℕ)) 
 onward true o rest = o .said .bytes ∷ rest (o .words) (o .said .next)
 onward false o rest = []
 
+-- what a call adds to the answers that follow it
 abbrev pub onCall : Outcome → (List ℕ → ℕ → List (List ℕ)) → List (List ℕ)
 onCall o rest = onward (goesOn (o .said .kind)) o rest
 

@@ -1,4 +1,4 @@
-//! The ways in which a run ends: at the datagram's end, or by 3 or 4. Box and page are the program's own, so 1 and 2 cannot be met.
+//! The ways in which a run ends: at the datagram's end, or by 3 or 4. 1 and 2 are not met: box and page are the program's own.
 
 use super::making::*;
 use cases::requests::Request;
