@@ -1,6 +1,6 @@
 //! The program (document 01, "What the box reads and writes"): standard input as one datagram for one fixed box.
 
-use super::handler::{handle, END};
+use super::handler::{handle, Answer, END};
 use super::page::ANSWER_PAGE;
 
 /// The box of document 01's whole reply, with an empty debug set.
@@ -24,8 +24,8 @@ impl Fixed {
     }
 }
 
-/// All answers to a datagram in order, up to the end or a refusal 1 to 4.
-pub fn run(datagram: &[u8]) -> Vec<u8> {
+/// All answers to a datagram in order, up to the end or a refusal 1 to 4, each with its bytes.
+pub fn answers(datagram: &[u8]) -> Vec<(Answer, Vec<u8>)> {
     let mut fixed = Fixed::new();
     let mut page = vec![0; ANSWER_PAGE];
     let mut answers = Vec::new();
@@ -36,7 +36,12 @@ pub fn run(datagram: &[u8]) -> Vec<u8> {
         if answer.kind == END || (1..=4).contains(&answer.refusal) {
             return answers;
         }
-        answers.extend_from_slice(&page[..answer.written as usize]);
+        answers.push((answer, page[..answer.written as usize].to_vec()));
         position = answer.next;
     }
+}
+
+/// What the program writes.
+pub fn run(datagram: &[u8]) -> Vec<u8> {
+    answers(datagram).into_iter().flat_map(|(_, bytes)| bytes).collect()
 }

@@ -1,0 +1,32 @@
+-- Where the program goes on, the position moves, within the datagram: demand 1's law of every call.
+use Prim.Native.Nat.{ℕ, _≤_, _<_}
+use mathlib.Core.Path.{_≡_, refl}
+use mathlib.Core.List.{List}
+use mathlib.Core.Bool.{true, false}
+use lib.ListN.{length}
+use native.Mathlib.Omega.{arith}
+use borrow.Author.Tests.{ltb-true, le-ltb}
+use Rattle.basics.proofs.Truth.{clash}
+use Rattle.refusal.specs.Refusal.{numberOf}
+use Rattle.handler.specs.Answer.{Outcome}
+use Rattle.handler.specs.declared.answer.Kind.{Kind}
+use Rattle.handler.specs.declared.answer.Kind.the-variants.{End, Skipped, Done, Refused}
+use Rattle.demands.specs.Run.{isOver}
+use Rattle.demands.proofs.Demand1.{moves}
+use Rattle.answer.specs.Box.{portRoll, debugNames, flagNames}
+use Rattle.answer.specs.Run.{call, goesOn}
+
+goes-not-over : (kind : Kind) → goesOn kind ≡ true → isOver kind ≡ false
+goes-not-over End e = absurd (clash e refl)
+goes-not-over Skipped e = refl
+goes-not-over Done e = refl
+goes-not-over (Refused why) e = le-ltb (numberOf why) 5 (let l = ltb-true 4 (numberOf why) e in omega arith)
+
+abbrev pub Moves : List ℕ → ℕ → Outcome → Type 0
+Moves d at o = goesOn (o .said .kind) ≡ true → (at < o .said .next) × (o .said .next ≤ length d)
+
+pub call-moves : (d ws : List ℕ) (at : ℕ) → Moves d at (call d ws at)
+unfolding call
+call-moves d ws at e =
+    let on = moves 25 1 portRoll debugNames flagNames ws d at 32768 (goes-not-over (call d ws at .said .kind) e) in
+    (let a = on .0 in omega arith, on .1)

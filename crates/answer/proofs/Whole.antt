@@ -1,0 +1,71 @@
+-- Document 01, "Replies": what the program writes for the request of the whole reply, and for a datagram that is too long.
+use Prim.Native.Nat.{ℕ, _<_}
+use mathlib.Core.Path.{_≡_, refl, ap, _∙_}
+use mathlib.Core.List.{List, [], _∷_}
+use lib.ListN.{length}
+use borrow.Author.Tests.{lt-ltb}
+use Rattle.basics.specs.Numbers.{byteAt, u16At, u32At}
+use Rattle.basics.specs.Scan.{all, first}
+use Rattle.bits.specs.Bytes.{bytesOf}
+use Rattle.netlink.specs.Attributes as T
+use Rattle.netlink.specs.Headers as H
+use Rattle.netlink.specs.Messages.{messageAt}
+use Rattle.netlink.specs.Policy as Y
+use Rattle.netlink.specs.Walk as W
+use Rattle.netlink_write.specs.Headers as HW
+use Rattle.netlink_write.specs.Attributes as TW
+use Rattle.refusal.specs.declared.Refusal.the-variants.{Datagram}
+use Rattle.roll.specs.Record as P
+use Rattle.roll.specs.Name as M
+use Rattle.roll.specs.Find as F
+use Rattle.boxes.specs.Layout as L
+use Rattle.request.specs.Admission as Q
+use Rattle.request.specs.Commands as C
+use Rattle.request.specs.Policies.{topPolicy}
+use Rattle.request.specs.Top as O
+use Rattle.request.specs.Header as HR
+use Rattle.request.specs.Target as G
+use Rattle.request.specs.Aim as I
+use Rattle.reply.proofs.Whole.{wholeReply}
+use Rattle.reply.specs.Set as RS
+use Rattle.reply.specs.Message as RM
+use Rattle.handler.specs.Answer as A
+use Rattle.handler.specs.Obey as OB
+use Rattle.handler.specs.Call as K
+use Rattle.answer.specs.Box.{portRoll, debugNames, flagNames, firstWords}
+use Rattle.answer.specs.Run.{call, onCall, answersFrom, answers}
+use Rattle.handler.specs.declared.answer.Kind.the-variants.{Done, End}
+use Rattle.answer.proofs.Laws.{answers-step}
+use Rattle.answer.proofs.Right.{box-right}
+
+-- PRIVFLAGS_GET of port 3 with header flag 1, sequence 7, port id 9
+abbrev pub request : List ℕ
+request =
+    0x28 ∷ 0x00 ∷ 0x00 ∷ 0x00 ∷ 0x19 ∷ 0x00 ∷ 0x01 ∷ 0x00 ∷ 0x07 ∷ 0x00 ∷ 0x00 ∷ 0x00 ∷ 0x09 ∷ 0x00 ∷ 0x00 ∷ 0x00
+    ∷ 0x0D ∷ 0x01 ∷ 0x00 ∷ 0x00 ∷ 0x14 ∷ 0x00 ∷ 0x01 ∷ 0x80 ∷ 0x08 ∷ 0x00 ∷ 0x01 ∷ 0x00 ∷ 0x03 ∷ 0x00 ∷ 0x00 ∷ 0x00
+    ∷ 0x08 ∷ 0x00 ∷ 0x03 ∷ 0x00 ∷ 0x01 ∷ 0x00 ∷ 0x00 ∷ 0x00 ∷ []
+
+first-call : call request firstWords 0 ≡ A.leaves (A.speech Done 40 wholeReply) firstWords
+unfolding call K.outcome K.positionOutcome K.messageOutcome OB.obeyed OB.aimed OB.deed OB.gotten OB.setOf A.shown A.ackBytes portRoll debugNames flagNames firstWords messageAt H.messageHeaderAt H.genericHeaderAt H.attributeHeaderAt T.attributeAt T.partOf T.attributesUpTo T.attributes Y.ruleOf Y.nulAt Y.isName Y.plain Y.nested Y.judged W.firstFault W.lastOf W.walked W.slotNumber Q.barred Q.permitted Q.admitted C.rowOf C.commandOf topPolicy O.nestsOf O.topOf HR.flagsJudged HR.partsOf HR.headerOf G.otherName G.portByIndex G.portByName G.targetOf I.withFlags I.aimOf F.find F.isIndex F.byIndex P.portCount P.portsIn P.records P.recordsUpTo P.recordAt M.nameAt L.ofSet L.words L.place L.setAt byteAt u16At u32At all first RM.replyBytes RM.headersBytes RM.attributesBytes RS.setBytes RS.contentsBytes RS.compactBytes RS.openingBytes TW.numbered TW.identity TW.named TW.nameBytes TW.nest TW.attr TW.padding HW.messageHeaderBytes HW.genericHeaderBytes HW.attributeHeaderBytes bytesOf
+first-call = rw box-right refl
+
+last-call : call request firstWords 40 ≡ A.leaves (A.quiet End 40) firstWords
+unfolding call K.outcome K.positionOutcome messageAt
+last-call = rw box-right refl
+
+-- the whole reply, and nothing else
+pub whole-run : answers request ≡ wholeReply ∷ []
+unfolding answers
+whole-run =
+    answers-step request firstWords 0 ∙ ap (λ (o : A.Outcome). onCall o (answersFrom request)) first-call
+    ∙ ap (λ (l : List (List ℕ)). wholeReply ∷ l)
+    (answers-step request firstWords 40 ∙ ap (λ (o : A.Outcome). onCall o (answersFrom request)) last-call)
+
+long-stops : (d : List ℕ) → 32768 < length d → call d firstWords 0 ≡ K.stays Datagram 0 firstWords
+unfolding call K.outcome
+long-stops d h = rw (box-right, lt-ltb _ _ h) refl
+
+-- more than 32,768 bytes: nothing is written
+pub too-long : (d : List ℕ) → 32768 < length d → answers d ≡ []
+unfolding answers
+too-long d h = answers-step d firstWords 0 ∙ ap (λ (o : A.Outcome). onCall o (answersFrom d)) (long-stops d h)

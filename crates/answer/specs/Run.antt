@@ -1,0 +1,52 @@
+-- Document 01, "What the box reads and writes": the program's answers to one datagram.
+use Prim.Native.Nat.{ℕ, zero, suc, _<_}
+use mathlib.Core.Path.{_≡_}
+use mathlib.Core.List.{List, [], _∷_}
+use mathlib.Core.Bool.{Bool, true, false}
+use lib.ListN.{length, getD}
+use lib.Dec.{ltb}
+use Rattle.refusal.specs.Refusal.{numberOf}
+use Rattle.handler.specs.Answer.{Speech, Outcome}
+use Rattle.handler.specs.Call.{outcome}
+use Rattle.handler.specs.declared.answer.Kind.{Kind}
+use Rattle.handler.specs.declared.answer.Kind.the-variants.{End, Skipped, Done, Refused}
+use Rattle.answer.specs.Box.{portRoll, debugNames, flagNames, firstWords}
+
+-- one call for the program's box, as admin, with these settings, at this position of the datagram
+unfoldable pub call : List ℕ → List ℕ → ℕ → Outcome
+call datagram words at = outcome 25 1 portRoll debugNames flagNames words datagram at 32768
+
+-- "up to the end or a refusal 1 to 4"
+abbrev pub goesOn : Kind → Bool
+goesOn End = false
+goesOn Skipped = true
+goesOn Done = true
+goesOn (Refused r) = ltb 4 (numberOf r)
+
+-- the answer's bytes, then the answers with the settings and from the position that it leaves; none where the program stops
+abbrev pub onward : Bool → Outcome → (List ℕ → ℕ → List (List ℕ)) → List (List ℕ)
+onward true o rest = o .said .bytes ∷ rest (o .words) (o .said .next)
+onward false o rest = []
+
+-- what a call adds to the answers that follow it
+abbrev pub onCall : Outcome → (List ℕ → ℕ → List (List ℕ)) → List (List ℕ)
+onCall o rest = onward (goesOn (o .said .kind)) o rest
+
+-- the answers to at most so many messages
+unfoldable pub answersUpTo : ℕ → List ℕ → List ℕ → ℕ → List (List ℕ)
+answersUpTo zero datagram words at = []
+answersUpTo (suc n) datagram words at = onCall (call datagram words at) (answersUpTo n datagram)
+
+-- the answers from a position on; no datagram has more messages than bytes (law `answers-step`)
+unfoldable pub answersFrom : List ℕ → List ℕ → ℕ → List (List ℕ)
+unfolding answersUpTo
+answersFrom datagram words at = answersUpTo (suc (length datagram)) datagram words at
+
+-- "writes the answers in order": what the program writes for a datagram, answer by answer
+unfoldable pub answers : List ℕ → List (List ℕ)
+answers datagram = answersFrom datagram firstWords 0
+
+-- the bytes are the answer after the first k
+pub record IsNext (datagram : List ℕ) (k : ℕ) (bytes : List ℕ) : Type 0 where
+  pub more : k < length (answers datagram)
+  pub here : bytes ≡ getD (answers datagram) k []

@@ -1,0 +1,94 @@
+// The program of document 01: standard input is one datagram, the answers go to standard output.
+ghost use mathlib.Core.Path.{_≡_};
+ghost use lib.ListN.{length};
+ghost use Rattle.handler.specs.Answer.{Did};
+ghost use Rattle.answer.specs.Box.{IsBox, firstWords};
+ghost use Rattle.answer.specs.Run.{call, goesOn, answers};
+
+mod output;
+
+use crate::output::Written;
+use handler::answer::Answer;
+use handler::answer::Kind;
+use handler::call::handle;
+
+// One byte more than the longest datagram, so that a longer one is seen to be too long.
+const INPUT: usize = 32769;
+
+const PAGE: usize = 32768;
+
+// Whether the program goes on after an answer of this kind.
+fn goes_on(kind: Kind) -> bool
+    ensures { λ r. ⌜ r ≡ goesOn kind ⌝ }
+{
+    match kind {
+        Kind::End => false,
+        Kind::Skipped => true,
+        Kind::Done => true,
+        Kind::Refused(why) => 4 < why.number(),
+    }
+}
+
+// Answers the message at a position, for the program's box.
+fn answer_one<'a>(
+    roll: &[u8],
+    debug: &'a [u8],
+    flags: &'a [u8],
+    settings: &mut [u32],
+    datagram: &[u8],
+    at: usize,
+    page: &mut [u8],
+) -> Answer
+    requires { ⌜ IsBox (now roll) (now debug) (now flags) × (length (now page) ≡ 32768) ⌝ }
+    ensures { λ r. ⌜ Did (call (now (datagram .entry)) (now (settings .entry)) at) (now (page .entry)) (now (page .exit)) (now (settings .exit)) r ⌝ }
+{
+    handle(25, 1, roll, debug, flags, settings, datagram, at, page)
+}
+
+// Writes the answers to a datagram in order.
+fn answer_all<'a>(
+    roll: &[u8],
+    debug: &'a [u8],
+    flags: &'a [u8],
+    settings: &mut [u32],
+    datagram: &[u8],
+    page: &mut [u8],
+) -> Written
+    requires { ⌜ IsBox (now roll) (now debug) (now flags) × (now settings ≡ firstWords) × (length (now page) ≡ 32768) ⌝ }
+    ensures { λ r. ⌜ r .count ≡ length (answers (now (datagram .entry))) ⌝ }
+{
+    let mut at: usize = 0;
+    let mut written = Written::nothing();
+    loop {
+        let a = answer_one(roll, debug, flags, settings, datagram, at, page);
+        let kind = a.kind;
+        if !goes_on(kind) {
+            return written;
+        }
+        let n = a.written;
+        written = written.send(datagram, &page[..n]);
+        at = a.next;
+    }
+}
+
+// The same for the box of document 01's whole reply: port 3 "sw0", 40 bits in each set, bit 3 of the flags named "lldp", flags 0 and 33 set.
+fn answer_datagram(datagram: &[u8], page: &mut [u8; 32768]) -> Written
+    ensures { λ r. ⌜ r .count ≡ length (answers (now (datagram .entry))) ⌝ }
+{
+    let roll = b"\x01\x03\0\0\0sw0\0\0\0\0\0\0\0\0\0\0\0\0\0";
+    let debug = [0u8; 1280];
+    let mut flags = [0u8; 1280];
+    flags[96] = b'l';
+    flags[97] = b'l';
+    flags[98] = b'd';
+    flags[99] = b'p';
+    let mut settings = [0u32, 0, 1, 2];
+    answer_all(roll, &debug, &flags, &mut settings, datagram, page)
+}
+
+fn main() {
+    let mut datagram = [0u8; INPUT];
+    let mut page = [0u8; PAGE];
+    let n = io::read_full(0, &mut datagram);
+    answer_datagram(&datagram[..n], &mut page);
+}

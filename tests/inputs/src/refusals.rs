@@ -1,0 +1,83 @@
+//! Each refusal from 5 to 22 but 9, in the ways in which document 01 tells them apart.
+
+use super::making::*;
+use cases::bitsets::{BIT, BITS, NOMASK, SIZE};
+use cases::requests::{Request, ACK, BITSET, DUMP, HEADER, PORT_FLAGS, PORT_INDEX, PORT_NAME};
+use cases::tree::{Attribute, Body};
+
+fn refused(number: u32, what: &'static str, request: Request) -> Message {
+    message(what, Outcome::Refused(number), request)
+}
+
+fn get(attributes: Vec<Attribute>) -> Request {
+    request(PRIVFLAGS_GET, ACK, attributes)
+}
+
+/// 5 to 8, and the top level's 10 to 13.
+pub fn of_message() -> Vec<Message> {
+    let whole = || get(vec![port()]);
+    let short = Attribute { stated: Some(3), ..port() };
+    let long = Attribute { stated: Some(13), ..port() };
+    vec![
+        refused(5, "another family", Request { kind: 26, ..whole() }),
+        refused(6, "no generic header", Request { generic: vec![], ..get(vec![]) }),
+        refused(6, "half a generic header", Request { generic: vec![13, 1], ..get(vec![]) }),
+        refused(7, "a command that is not listed", request(1, ACK, vec![port()])),
+        refused(8, "both DUMP bits", Request { flags: 1 | DUMP, ..whole() }),
+        refused(10, "three bytes at the end", Request { stray: vec![4, 0, 1], ..whole() }),
+        refused(10, "an attribute length of 3", get(vec![short])),
+        refused(10, "an attribute longer than the message", get(vec![long])),
+        refused(11, "type 3 at the top level", get(vec![port(), Attribute::leaf(3, &[])])),
+        refused(11, "a bitset in a GET", get(vec![port(), Attribute::nest(BITSET, vec![])])),
+        refused(12, "a header that is no nest", get(vec![Attribute::leaf(HEADER, &[])])),
+        refused(12, "network byte order", get(vec![Attribute { kind: 0xC001, ..port() }])),
+        refused(13, "no header", get(vec![])),
+        refused(13, "no bitset", request(PRIVFLAGS_SET, 0, vec![port()])),
+    ]
+}
+
+/// The header's 10 to 12, and 14 to 17.
+pub fn of_header() -> Vec<Message> {
+    let number = Attribute::number;
+    let of = |parts| get(vec![header(parts)]);
+    let stray = Attribute { body: Body::Nest(vec![number(PORT_INDEX, 3)], vec![0, 0]), ..port() };
+    vec![
+        refused(10, "two bytes at the header's end", get(vec![stray])),
+        refused(11, "type 4 in the header", of(vec![number(PORT_INDEX, 3), number(4, 0)])),
+        refused(12, "a name without its NUL", of(vec![Attribute::leaf(PORT_NAME, b"sw0")])),
+        refused(14, "an empty header", of(vec![])),
+        refused(14, "header flags alone", of(vec![number(PORT_FLAGS, 1)])),
+        refused(15, "header flag 4", of(vec![number(PORT_INDEX, 3), number(PORT_FLAGS, 4)])),
+        refused(16, "an unknown index", of(vec![number(PORT_INDEX, 4)])),
+        refused(16, "an unknown name", of(vec![Attribute::name(PORT_NAME, b"sw1")])),
+        refused(17, "another name", of(vec![number(PORT_INDEX, 3), Attribute::name(PORT_NAME, b"sw1")])),
+    ]
+}
+
+/// The bitset's 10 to 13, and 18 to 22.
+pub fn of_bitset() -> Vec<Message> {
+    let of = |contents| set(PRIVFLAGS_SET, ACK, contents);
+    let list = |listed| set(PRIVFLAGS_SET, 0, vec![bits(listed)]);
+    let odd = Attribute::nest(BIT, vec![Attribute::number(4, 0)]);
+    let word = || value(&[1]);
+    vec![
+        refused(10, "a bitset that is broken off", of(vec![size(3), Attribute { stated: Some(9), ..word() }])),
+        refused(11, "type 6 in the bitset", of(vec![Attribute::leaf(6, &[])])),
+        refused(11, "type 2 in BITS", of(vec![Attribute::nest(BITS, vec![Attribute::nest(2, vec![])])])),
+        refused(11, "type 4 in a BIT", list(vec![bit_at(3, true), odd])),
+        refused(12, "NOMASK with a payload", of(vec![Attribute::number(NOMASK, 1)])),
+        refused(12, "SIZE of two bytes", of(vec![Attribute::leaf(SIZE, &[3, 0])])),
+        refused(13, "no SIZE", of(vec![word()])),
+        refused(13, "no VALUE", of(vec![nomask(), size(3)])),
+        refused(13, "no MASK", of(vec![size(3), word()])),
+        refused(18, "BITS with VALUE", of(vec![bits(vec![]), word()])),
+        refused(18, "BITS with MASK", of(vec![bits(vec![]), mask(&[1])])),
+        refused(18, "NOMASK with MASK", of(vec![nomask(), size(3), word(), mask(&[1])])),
+        refused(19, "a mask of one word for 33 bits", of(vec![size(33), value(&[0, 0]), mask(&[0])])),
+        refused(20, "bit 40 in VALUE under NOMASK", of(vec![nomask(), size(41), value(&[0, 256])])),
+        refused(20, "index 40 after a good one", list(vec![bit_at(5, true), bit_at(40, true)])),
+        refused(21, "an unknown bit name", list(vec![bit_called(b"lldp", true), bit_called(b"eee", true)])),
+        refused(21, "an empty bit name", list(vec![bit_called(b"", true)])),
+        refused(22, "a BIT with neither", list(vec![bit_at(6, true), bit_of_nothing()])),
+    ]
+}

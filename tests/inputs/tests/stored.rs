@@ -1,0 +1,85 @@
+//! The stored input of the program `answer` meets what it is there for, and the stored output is the reader's.
+
+use inputs::Outcome;
+use std::fs;
+use std::path::Path;
+
+/// A file of the program's crate.
+fn stored(name: &str) -> Vec<u8> {
+    fs::read(Path::new(env!("CARGO_MANIFEST_DIR")).join("../../crates/answer").join(name)).unwrap()
+}
+
+fn outcome(answer: &reader::Answer) -> Outcome {
+    match (answer.kind, answer.refusal) {
+        (reader::SKIPPED, 0) => Outcome::Skipped,
+        (reader::DONE, 0) => Outcome::Done,
+        (reader::REFUSED, number) => Outcome::Refused(number),
+        other => panic!("no answer of a run: {other:?}"),
+    }
+}
+
+#[test]
+fn stored_input_is_the_one_made_here() {
+    assert!(stored("stdin") == inputs::stored(), "see inputs/README.md for how it is written");
+}
+
+#[test]
+fn stored_output_is_the_readers() {
+    assert!(stored("stdout") == reader::run(&stored("stdin")), "see inputs/README.md for how it is written");
+}
+
+#[test]
+fn every_message_meets_what_it_is_there_for() {
+    let messages = inputs::messages();
+    let answers = reader::answers(&stored("stdin"));
+    assert_eq!(answers.len(), messages.len());
+    for (message, (answer, _)) in messages.iter().zip(&answers) {
+        assert_eq!(outcome(answer), message.outcome, "{}", message.what);
+    }
+    assert_eq!(answers.last().unwrap().0.next, stored("stdin").len() as u64);
+}
+
+#[test]
+fn every_refusal_but_9_is_met() {
+    let met: Vec<u32> = reader::answers(&stored("stdin")).iter().map(|(answer, _)| answer.refusal).collect();
+    for number in (5..=22).filter(|number| *number != 9) {
+        assert!(met.contains(&number), "refusal {number}");
+    }
+}
+
+/// The type of the attribute behind SIZE in a reply: BITS (3) if verbose, VALUE (4) if compact.
+fn form(reply: &[u8]) -> Option<u8> {
+    (reply.len() > 58 && reply[4..6] == [25, 0]).then(|| reply[58])
+}
+
+#[test]
+fn both_reply_forms_are_met_with_and_without_ack() {
+    let answers = reader::answers(&stored("stdin"));
+    for form_number in [3, 4] {
+        let replies: Vec<_> = answers.iter().filter(|(_, bytes)| form(bytes) == Some(form_number)).collect();
+        let acked = |bytes: &[u8]| bytes.len() > u32::from_le_bytes(bytes[..4].try_into().unwrap()) as usize;
+        assert!(replies.iter().any(|(_, bytes)| acked(bytes)));
+        assert!(replies.iter().any(|(_, bytes)| !acked(bytes)));
+    }
+    let sets: Vec<usize> = answers
+        .iter()
+        .filter(|(answer, bytes)| answer.kind == reader::DONE && form(bytes).is_none())
+        .map(|(_, bytes)| bytes.len())
+        .collect();
+    assert!(sets.contains(&0) && sets.contains(&36));
+}
+
+#[test]
+fn other_inputs_end_as_they_are_called() {
+    let written = |name: &str| {
+        let (_, input) = inputs::ends().into_iter().find(|(known, _)| *known == name).unwrap();
+        (input.len(), reader::answers(&input).len())
+    };
+    for name in ["empty", "too-long", "far-too-long"] {
+        assert_eq!(written(name).1, 0, "{name}");
+    }
+    for name in ["cut", "length-15", "length-past-the-end", "last-padding-absent"] {
+        assert_eq!(written(name).1, 1, "{name}");
+    }
+    assert_eq!(written("longest"), (32_768, 1023));
+}
