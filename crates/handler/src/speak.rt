@@ -19,7 +19,10 @@ pub fn refuse(page: &mut [u8], message: &[u8], why: Refusal, next: usize) -> Ans
     requires { ⌜ (32768 ≤ length (now page)) × (16 ≤ length (now message)) ⌝ }
     ensures { λ r. ⌜ Said (refusal (now (message .entry)) next why) (now (page .entry)) (now (page .exit)) r ⌝ }
 {
-    let written = put_error(page, message, why.errno(), why.detail());
+    let row = why.row();
+    let errno = row.errno;
+    let detail = row.detail;
+    let written = put_error(page, message, errno, detail);
     Answer {
         kind: Kind::Refused(why),
         next,

@@ -1,6 +1,6 @@
 // The refusals of document 01's table, with its number, errno and detail for each.
 ghost use mathlib.Core.Path.{_≡_};
-ghost use Rattle.refusal.specs.Refusal.{numberOf, errnoOf, detailOf, ofFault};
+ghost use Rattle.refusal.specs.Refusal.{rowOf, numberOf, ofFault};
 use netlink::policy::Fault;
 use netlink_write::error::Detail;
 
@@ -54,98 +54,60 @@ pub enum Refusal {
     NoBit(usize),
 }
 
+// A row of the table: the number, the errno of the error message (0 where none is written), and what the message says beside it.
+pub struct Row {
+    pub number: u32,
+    pub errno: u32,
+    pub detail: Detail,
+}
+
+fn as_row(number: u32, errno: u32, detail: Detail) -> Row
+    ensures { λ r. ⌜ r ≡ record { number = number; errno = errno; detail = detail } ⌝ }
+{
+    Row {
+        number,
+        errno,
+        detail,
+    }
+}
+
 impl Refusal {
-    // Document 01's number.
+    // Document 01's table.
+    pub fn row(self) -> Row
+        ensures { λ r. ⌜ r ≡ rowOf self ⌝ }
+    {
+        match self {
+            Refusal::Box => as_row(1, 0, Detail::Nothing),
+            Refusal::Page => as_row(2, 0, Detail::Nothing),
+            Refusal::Datagram => as_row(3, 0, Detail::Nothing),
+            Refusal::Length => as_row(4, 0, Detail::Nothing),
+            Refusal::Family => as_row(5, 2, Detail::Nothing),
+            Refusal::Short => as_row(6, 22, Detail::Nothing),
+            Refusal::Command => as_row(7, 95, Detail::Nothing),
+            Refusal::Dump => as_row(8, 95, Detail::Nothing),
+            Refusal::Permission => as_row(9, 1, Detail::Nothing),
+            Refusal::Broken(at) => as_row(10, 22, Detail::Offset(at)),
+            Refusal::Unlisted(at) => as_row(11, 22, Detail::Offset(at)),
+            Refusal::Payload(at) => as_row(12, 22, Detail::Offset(at)),
+            Refusal::MissingTop(kind) => as_row(13, 22, Detail::MissTop(kind)),
+            Refusal::MissingIn(kind, nest) => as_row(13, 22, Detail::MissIn(kind, nest)),
+            Refusal::NoPort(at) => as_row(14, 22, Detail::Offset(at)),
+            Refusal::HeaderFlag(at) => as_row(15, 95, Detail::Offset(at)),
+            Refusal::UnknownPort(at) => as_row(16, 19, Detail::Offset(at)),
+            Refusal::OtherName(at) => as_row(17, 19, Detail::Offset(at)),
+            Refusal::Mixed(at) => as_row(18, 22, Detail::Offset(at)),
+            Refusal::ShortBitmap(at) => as_row(19, 22, Detail::Offset(at)),
+            Refusal::PastLength(at) => as_row(20, 95, Detail::Offset(at)),
+            Refusal::UnknownBit(at) => as_row(21, 95, Detail::Offset(at)),
+            Refusal::NoBit(at) => as_row(22, 22, Detail::Offset(at)),
+        }
+    }
+
     pub fn number(self) -> u32
         ensures { λ r. ⌜ r ≡ numberOf self ⌝ }
     {
-        match self {
-            Refusal::Box => 1,
-            Refusal::Page => 2,
-            Refusal::Datagram => 3,
-            Refusal::Length => 4,
-            Refusal::Family => 5,
-            Refusal::Short => 6,
-            Refusal::Command => 7,
-            Refusal::Dump => 8,
-            Refusal::Permission => 9,
-            Refusal::Broken(_) => 10,
-            Refusal::Unlisted(_) => 11,
-            Refusal::Payload(_) => 12,
-            Refusal::MissingTop(_) => 13,
-            Refusal::MissingIn(_, _) => 13,
-            Refusal::NoPort(_) => 14,
-            Refusal::HeaderFlag(_) => 15,
-            Refusal::UnknownPort(_) => 16,
-            Refusal::OtherName(_) => 17,
-            Refusal::Mixed(_) => 18,
-            Refusal::ShortBitmap(_) => 19,
-            Refusal::PastLength(_) => 20,
-            Refusal::UnknownBit(_) => 21,
-            Refusal::NoBit(_) => 22,
-        }
-    }
-
-    // The errno of its error message, 0 where it writes none.
-    pub fn errno(self) -> u32
-        ensures { λ r. ⌜ r ≡ errnoOf self ⌝ }
-    {
-        match self {
-            Refusal::Box => 0,
-            Refusal::Page => 0,
-            Refusal::Datagram => 0,
-            Refusal::Length => 0,
-            Refusal::Family => 2,
-            Refusal::Short => 22,
-            Refusal::Command => 95,
-            Refusal::Dump => 95,
-            Refusal::Permission => 1,
-            Refusal::Broken(_) => 22,
-            Refusal::Unlisted(_) => 22,
-            Refusal::Payload(_) => 22,
-            Refusal::MissingTop(_) => 22,
-            Refusal::MissingIn(_, _) => 22,
-            Refusal::NoPort(_) => 22,
-            Refusal::HeaderFlag(_) => 95,
-            Refusal::UnknownPort(_) => 19,
-            Refusal::OtherName(_) => 19,
-            Refusal::Mixed(_) => 22,
-            Refusal::ShortBitmap(_) => 22,
-            Refusal::PastLength(_) => 95,
-            Refusal::UnknownBit(_) => 95,
-            Refusal::NoBit(_) => 22,
-        }
-    }
-
-    // What its error message says beside the errno.
-    pub fn detail(self) -> Detail
-        ensures { λ r. ⌜ r ≡ detailOf self ⌝ }
-    {
-        match self {
-            Refusal::Box => Detail::Nothing,
-            Refusal::Page => Detail::Nothing,
-            Refusal::Datagram => Detail::Nothing,
-            Refusal::Length => Detail::Nothing,
-            Refusal::Family => Detail::Nothing,
-            Refusal::Short => Detail::Nothing,
-            Refusal::Command => Detail::Nothing,
-            Refusal::Dump => Detail::Nothing,
-            Refusal::Permission => Detail::Nothing,
-            Refusal::Broken(at) => Detail::Offset(at),
-            Refusal::Unlisted(at) => Detail::Offset(at),
-            Refusal::Payload(at) => Detail::Offset(at),
-            Refusal::MissingTop(kind) => Detail::MissTop(kind),
-            Refusal::MissingIn(kind, nest) => Detail::MissIn(kind, nest),
-            Refusal::NoPort(at) => Detail::Offset(at),
-            Refusal::HeaderFlag(at) => Detail::Offset(at),
-            Refusal::UnknownPort(at) => Detail::Offset(at),
-            Refusal::OtherName(at) => Detail::Offset(at),
-            Refusal::Mixed(at) => Detail::Offset(at),
-            Refusal::ShortBitmap(at) => Detail::Offset(at),
-            Refusal::PastLength(at) => Detail::Offset(at),
-            Refusal::UnknownBit(at) => Detail::Offset(at),
-            Refusal::NoBit(at) => Detail::Offset(at),
-        }
+        let row = self.row();
+        row.number
     }
 }
 

@@ -1,39 +1,39 @@
 -- Laws of the answers that write.
 use Prim.Native.Nat.{ℕ, _+_, _-_, _/_, _%_, _≤_}
-use mathlib.Core.Path.{_≡_, refl, sym, ap, _∙_}
-use mathlib.Core.List.{List, [], _++_}
-use mathlib.Core.Bool.{Bool, cond}
+use mathlib.Core.Path.{_≡_, subst, refl, sym, ap, _∙_}
+use mathlib.Core.List.{List}
+use mathlib.Core.Bool.{Bool}
 use lib.ListN.{length, take, drop}
 use native.Mathlib.Omega.{arith}
 use borrow.Author.Tests.{eq-eqb, ne-eqb}
 use borrow.Rule.Slice.PartMut.{putMid}
-use Rattle.basics.specs.Put.{put, splice}
+use Rattle.basics.specs.Put.{splice}
 use Rattle.bits.specs.Set.{has, wordsOf}
 use Rattle.bits.specs.Change.{merge}
 use Rattle.basics.proofs.Put.{put-nil}
 use Rattle.netlink.specs.declared.headers.MessageHeader.{MessageHeader}
 use Rattle.netlink_write.specs.Page.{Wrote}
 use Rattle.netlink_write.specs.Error.{errorMessage}
-use Rattle.netlink_write.specs.declared.error.Detail.{Detail}
 use Rattle.netlink_write.specs.declared.error.Detail.the-variants.{Nothing}
 use Rattle.netlink_write.proofs.Page.{wrote-then}
-use Rattle.refusal.specs.Refusal.{errnoOf, detailOf}
+use Rattle.refusal.specs.Refusal.{rowOf, errnoOf, detailOf}
 use Rattle.refusal.specs.declared.Refusal.{Refusal}
+use Rattle.refusal.specs.declared.Row.{Row}
 use Rattle.reply.specs.Message.{replyBytes}
 use Rattle.reply.specs.declared.message.Heading.{Heading}
-use Rattle.handler.specs.Answer.{Speech, speech, refusal, ackBytes, shown, returned, Said}
+use Rattle.handler.specs.Answer.{speech, refusal, ackBytes, shown, Said}
 use Rattle.handler.specs.declared.answer.Kind.{Kind}
 use Rattle.handler.specs.declared.answer.Kind.the-variants.{Done, Refused}
-use Rattle.handler.specs.declared.answer.Answer.{Answer}
 
 -- bytes that were written are said
 pub wrote-said : (k : Kind) (next : ℕ) (bs P Q : List ℕ) (w : ℕ) → Wrote bs P Q w → Said (speech k next bs) P Q (record { kind = k; next = next; written = w })
 wrote-said k next bs P Q w h = record { result = ap (λ (n : ℕ). record { kind = k; next = next; written = n }) (h .count); page = h .page }
 
-pub refuse-said : (m : List ℕ) (next : ℕ) (why : Refusal) (P Q : List ℕ) (e : ℕ) (d : Detail) (w : ℕ) → e ≡ errnoOf why → d ≡ detailOf why
-    → Wrote (errorMessage m e d) P Q w → Said (refusal m next why) P Q (record { kind = Refused why; next = next; written = w })
-refuse-said m next why P Q e d w ee ed h =
-    wrote-said (Refused why) next (errorMessage m (errnoOf why) (detailOf why)) P Q w (rw (← ee, ← ed) h)
+pub refuse-said : (m : List ℕ) (next : ℕ) (why : Refusal) (P Q : List ℕ) (row : Row) (w : ℕ) → row ≡ rowOf why
+    → Wrote (errorMessage m (row .errno) (row .detail)) P Q w → Said (refusal m next why) P Q (record { kind = Refused why; next = next; written = w })
+refuse-said m next why P Q row w e h =
+    wrote-said (Refused why) next (errorMessage m (errnoOf why) (detailOf why)) P Q w
+    (subst (λ (x : Row). Wrote (errorMessage m (x .errno) (x .detail)) P Q w) e h)
 
 module _ (m : List ℕ) (h : MessageHeader) (P : List ℕ) where
   pub ack-asked : (Q : List ℕ) (r : ℕ) → h .flags / 4 % 2 ≡ 1 → Wrote (errorMessage m 0 Nothing) P Q r → Wrote (ackBytes m h) P Q r

@@ -3,11 +3,8 @@ use borrow.Author.Needs.{needs}
 use Rattle.handler.proofs.speak.refuse.Statement.{statement}
 use Rattle.handler.proofs.speak.refuse.Tie as tie
 
-errno-requires : tie.Need-errno-requires
-errno-requires c κs = search needs
-
-detail-requires : tie.Need-detail-requires
-detail-requires c κs = search needs
+row-requires : tie.Need-row-requires
+row-requires c κs = search needs
 
 put-error-requires : tie.Need-put-error-requires
 put-error-requires c κs = search needs
@@ -19,5 +16,4 @@ returns : tie.Need-returns
 returns c = search (needs, refuse-said)
 
 pub refuse-spec : {M : Type 1} → statement M
-refuse-spec =
-    tie.close (tie.spec errno-requires detail-requires put-error-requires same-length returns)
+refuse-spec = tie.close (tie.spec row-requires put-error-requires same-length returns)
