@@ -1,6 +1,7 @@
 -- Demand 2: what a done request has brought about.
 --     effect           a done SET: the named set of the named port is what `effect` makes of it, every other word is as before
 --     read-back        a done GET: the settings stay, and the reply's bitset, read by our own reader, makes the stored set of every starting set
+--     box-kept         a right box stays right, whatever is asked
 --     count-told       what is written is whole messages, each as long as it states, and never more than 24,684 bytes
 use Prim.Native.Nat.{ℕ, _+_, _-_, _%_, _≤_, _<_}
 use mathlib.Core.Path.{_≡_, refl, sym, ap, _∙_}
@@ -219,6 +220,21 @@ module _ (family admin : ℕ) (roll debug flags ws datagram : List ℕ) (positio
       by (answered next box lo hi long first (refused w e)) = absurd (let q = kind-is e ∙ told in let z : _≡_ {A = ℕ} 0 1 = cc in omega arith)
       by (answered next box lo hi long first (got n g e)) = rw e (did-get box n small g refl refl)
       by (answered next box lo hi long first (set n g b c e)) = absurd (clash (named-set roll m n ∙ g) asked)
+
+  pub box-kept : boxRight family admin roll debug flags ws ≡ true → boxRight family admin roll debug flags (o .words) ≡ true
+  box-kept right = by (course family admin roll debug flags ws datagram position room)
+    where
+      same : {p : Outcome} → o ≡ p → p .words ≡ ws → boxRight family admin roll debug flags (o .words) ≡ true
+      same e q = rw (ap (λ (x : Outcome). x .words) e ∙ q) right
+
+      by : Course family admin roll debug flags ws datagram position o → boxRight family admin roll debug flags (o .words) ≡ true
+      by (over e) = same e refl
+      by (stayed w l e) = same e refl
+      by (answered next box lo hi long first (skipped e)) = same e refl
+      by (answered next box lo hi long first (refused w e)) = same e refl
+      by (answered next box lo hi long first (got n g e)) = same e refl
+      by (answered next box lo hi long first (set n g b c e)) =
+          rw e (set-right family admin roll debug flags ws box (n .position) (here roll m n) (n .command .set) b (fits box n g b c))
 
   pub count-told : Counted (o .said .bytes)
   count-told = by (course family admin roll debug flags ws datagram position room)
