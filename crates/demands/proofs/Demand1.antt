@@ -23,13 +23,13 @@ use Rattle.handler.specs.Call.{outcome}
 use Rattle.handler.specs.declared.answer.Kind.the-variants.{End, Skipped, Done, Refused}
 use Rattle.demands.specs.Answer.{refusalBytes}
 use Rattle.demands.specs.Call.{messageOf}
-use Rattle.demands.specs.Deed.Deed.{skipped, refused, got, set}
-use Rattle.demands.specs.Course.{Course}
-use Rattle.demands.specs.Course.Course.{over, stayed, answered}
+use Rattle.demands.specs.Message.MessageCase.{skipped, refused, got, set}
+use Rattle.demands.specs.CallCase.{CallCase}
+use Rattle.demands.specs.CallCase.CallCase.{over, stayed, answered}
 use Rattle.demands.specs.Run.{isOver, endsWithin}
 use Rattle.demands.proofs.First.{first-refused}
 use Rattle.demands.proofs.Late.{message-number}
-use Rattle.demands.proofs.Course.{course}
+use Rattle.demands.proofs.CallCase.{call-case}
 
 -- the bytes of a refusal, by its number
 quiet-bytes : (m : List ℕ) (why : Refusal) → numberOf why ≤ 4 → [] ≡ refusalBytes m why
@@ -75,9 +75,9 @@ module _ (family admin : ℕ) (roll debug flags ws datagram : List ℕ) (positio
   -- a refusal
   module _ (why : Refusal) (told : o .said .kind ≡ Refused why) where
     pub refused-keeps : (o .words ≡ ws) × (o .said .bytes ≡ refusalBytes m why)
-    refused-keeps = by (course family admin roll debug flags ws datagram position room)
+    refused-keeps = by (call-case family admin roll debug flags ws datagram position room)
       where
-        by : Course family admin roll debug flags ws datagram position o → (o .words ≡ ws) × (o .said .bytes ≡ refusalBytes m why)
+        by : CallCase family admin roll debug flags ws datagram position o → (o .words ≡ ws) × (o .said .bytes ≡ refusalBytes m why)
         by (over e) = absurd (end-not why (said e ∙ told))
         by (stayed w l e) =
             let same = same-why w why (said e ∙ told) in
@@ -92,7 +92,7 @@ module _ (family admin : ℕ) (roll debug flags ws datagram : List ℕ) (positio
 
   -- the end, and a skipped message
   pub idle-keeps : (o .said .kind ≡ End) ⊎ (o .said .kind ≡ Skipped) → (o .words ≡ ws) × (o .said .bytes ≡ [])
-  idle-keeps told = by (course family admin roll debug flags ws datagram position room) told
+  idle-keeps told = by (call-case family admin roll debug flags ws datagram position room) told
     where
       not-done : (o .said .kind ≡ End) ⊎ (o .said .kind ≡ Skipped) → Done ≡ o .said .kind → ⊥
       not-done (inl t) e = let q = e ∙ t in let z : _≡_ {A = ℕ} 0 1 = cc in omega arith
@@ -102,7 +102,7 @@ module _ (family admin : ℕ) (roll debug flags ws datagram : List ℕ) (positio
       not-refused w (inl t) e = end-not w (sym (e ∙ t))
       not-refused w (inr t) e = skipped-not w (sym (e ∙ t))
 
-      by : Course family admin roll debug flags ws datagram position o → (o .said .kind ≡ End) ⊎ (o .said .kind ≡ Skipped)
+      by : CallCase family admin roll debug flags ws datagram position o → (o .said .kind ≡ End) ⊎ (o .said .kind ≡ Skipped)
           → (o .words ≡ ws) × (o .said .bytes ≡ [])
       by (over e) t = (words e, bytes e)
       by (stayed w l e) t = absurd (not-refused w t (said e))
@@ -116,9 +116,9 @@ module _ (family admin : ℕ) (roll debug flags ws datagram : List ℕ) (positio
   over-clash e f t = clash (ap isOver (said e) ∙ t) f
 
   pub over-stays : isOver (o .said .kind) ≡ true → o .said .next ≡ position
-  over-stays is = by (course family admin roll debug flags ws datagram position room)
+  over-stays is = by (call-case family admin roll debug flags ws datagram position room)
     where
-      by : Course family admin roll debug flags ws datagram position o → o .said .next ≡ position
+      by : CallCase family admin roll debug flags ws datagram position o → o .said .next ≡ position
       by (over e) = next e
       by (stayed w l e) = next e
       by (answered n right lo hi long first (skipped e)) = absurd (over-clash e refl is)
@@ -129,13 +129,13 @@ module _ (family admin : ℕ) (roll debug flags ws datagram : List ℕ) (positio
           absurd (over-clash e (le-ltb (numberOf w) 5 late) is)
 
   pub moves : isOver (o .said .kind) ≡ false → (position + 16 ≤ o .said .next) × (o .said .next ≤ length datagram)
-  moves not = by (course family admin roll debug flags ws datagram position room)
+  moves not = by (call-case family admin roll debug flags ws datagram position room)
     where
       past : {p : Outcome} (n : ℕ) → o ≡ p → p .said .next ≡ n → position + 16 ≤ n → n ≤ length datagram
           → (position + 16 ≤ o .said .next) × (o .said .next ≤ length datagram)
       past n e q lo hi = let r = next e ∙ q in (omega arith, omega arith)
 
-      by : Course family admin roll debug flags ws datagram position o → (position + 16 ≤ o .said .next) × (o .said .next ≤ length datagram)
+      by : CallCase family admin roll debug flags ws datagram position o → (position + 16 ≤ o .said .next) × (o .said .next ≤ length datagram)
       by (over e) = absurd (clash (sym (ap isOver (said e))) not)
       by (stayed w l e) = absurd (clash (sym (ap isOver (said e)) ∙ lt-ltb (numberOf w) 5 (omega arith)) not)
       by (answered n right lo hi long first (skipped e)) = past n e refl lo hi

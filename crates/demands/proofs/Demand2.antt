@@ -45,14 +45,14 @@ use Rattle.handler.specs.Obey.{heading, setOf, gotten}
 use Rattle.handler.specs.declared.answer.Kind.the-variants.{Done}
 use Rattle.demands.specs.Answer.{Counted}
 use Rattle.demands.specs.Call.{messageOf}
-use Rattle.demands.specs.Course.{Course}
-use Rattle.demands.specs.Course.Course.{over, stayed, answered}
-use Rattle.demands.specs.Deed.{Named, Carries}
-use Rattle.demands.specs.Deed.Deed.{skipped, refused, got, set}
+use Rattle.demands.specs.CallCase.{CallCase}
+use Rattle.demands.specs.CallCase.CallCase.{over, stayed, answered}
+use Rattle.demands.specs.Message.{Named, Carries}
+use Rattle.demands.specs.Message.MessageCase.{skipped, refused, got, set}
 use Rattle.demands.specs.Done.{DoneSet, DoneGet, replyTo}
 use Rattle.demands.specs.Request.{isSet}
 use Rattle.demands.proofs.Count.{none-counted, error-counted, ack-counted, reply-counted}
-use Rattle.demands.proofs.Course.{course}
+use Rattle.demands.proofs.CallCase.{call-case}
 use Rattle.demands.proofs.Effect.{after, set-own, set-others, set-elsewhere, set-right}
 use Rattle.demands.proofs.Port.{port-short}
 
@@ -200,9 +200,9 @@ module _ (family admin : ℕ) (roll debug flags ws datagram : List ℕ) (positio
   is-set = isSet (commandOf (byteAt m 16))
 
   pub effect : o .said .kind ≡ Done → is-set ≡ true → DoneSet family admin roll debug flags ws m h o
-  effect told asked = by (course family admin roll debug flags ws datagram position room)
+  effect told asked = by (call-case family admin roll debug flags ws datagram position room)
     where
-      by : Course family admin roll debug flags ws datagram position o → DoneSet family admin roll debug flags ws m h o
+      by : CallCase family admin roll debug flags ws datagram position o → DoneSet family admin roll debug flags ws m h o
       by (over e) = absurd (let q = kind-is e ∙ told in let z : _≡_ {A = ℕ} 0 1 = cc in omega arith)
       by (stayed w l e) = absurd (let q = kind-is e ∙ told in let z : _≡_ {A = ℕ} 0 1 = cc in omega arith)
       by (answered next box lo hi long first (skipped e)) = absurd (let q = kind-is e ∙ told in let z : _≡_ {A = ℕ} 0 1 = cc in omega arith)
@@ -211,9 +211,9 @@ module _ (family admin : ℕ) (roll debug flags ws datagram : List ℕ) (positio
       by (answered next box lo hi long first (set n g b c e)) = rw e (did-set box n g b c refl refl)
 
   pub read-back : Small ws → o .said .kind ≡ Done → is-set ≡ false → DoneGet roll debug flags ws m h o
-  read-back small told asked = by (course family admin roll debug flags ws datagram position room)
+  read-back small told asked = by (call-case family admin roll debug flags ws datagram position room)
     where
-      by : Course family admin roll debug flags ws datagram position o → DoneGet roll debug flags ws m h o
+      by : CallCase family admin roll debug flags ws datagram position o → DoneGet roll debug flags ws m h o
       by (over e) = absurd (let q = kind-is e ∙ told in let z : _≡_ {A = ℕ} 0 1 = cc in omega arith)
       by (stayed w l e) = absurd (let q = kind-is e ∙ told in let z : _≡_ {A = ℕ} 0 1 = cc in omega arith)
       by (answered next box lo hi long first (skipped e)) = absurd (let q = kind-is e ∙ told in let z : _≡_ {A = ℕ} 0 1 = cc in omega arith)
@@ -222,12 +222,12 @@ module _ (family admin : ℕ) (roll debug flags ws datagram : List ℕ) (positio
       by (answered next box lo hi long first (set n g b c e)) = absurd (clash (named-set roll m n ∙ g) asked)
 
   pub box-kept : boxRight family admin roll debug flags ws ≡ true → boxRight family admin roll debug flags (o .words) ≡ true
-  box-kept right = by (course family admin roll debug flags ws datagram position room)
+  box-kept right = by (call-case family admin roll debug flags ws datagram position room)
     where
       same : {p : Outcome} → o ≡ p → p .words ≡ ws → boxRight family admin roll debug flags (o .words) ≡ true
       same e q = rw (ap (λ (x : Outcome). x .words) e ∙ q) right
 
-      by : Course family admin roll debug flags ws datagram position o → boxRight family admin roll debug flags (o .words) ≡ true
+      by : CallCase family admin roll debug flags ws datagram position o → boxRight family admin roll debug flags (o .words) ≡ true
       by (over e) = same e refl
       by (stayed w l e) = same e refl
       by (answered next box lo hi long first (skipped e)) = same e refl
@@ -237,9 +237,9 @@ module _ (family admin : ℕ) (roll debug flags ws datagram : List ℕ) (positio
           rw e (set-right family admin roll debug flags ws box (n .position) (here roll m n) (n .command .set) b (fits box n g b c))
 
   pub count-told : Counted (o .said .bytes)
-  count-told = by (course family admin roll debug flags ws datagram position room)
+  count-told = by (call-case family admin roll debug flags ws datagram position room)
     where
-      by : Course family admin roll debug flags ws datagram position o → Counted (o .said .bytes)
+      by : CallCase family admin roll debug flags ws datagram position o → Counted (o .said .bytes)
       by (over e) = rw (bytes-are e) none-counted
       by (stayed w l e) = rw (bytes-are e) none-counted
       by (answered next box lo hi long first (skipped e)) = rw (bytes-are e) none-counted

@@ -3,8 +3,8 @@ pub mod Bitset
 pub mod Request
 pub mod Exact
 pub mod Late
-pub mod Deed
-pub mod Course
+pub mod Message
+pub mod CallCase
 pub mod Demand1
 pub mod Effect
 pub mod Port

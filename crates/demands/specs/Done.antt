@@ -24,7 +24,7 @@ use Rattle.reply.specs.Claims.{ReadsBack}
 use Rattle.reply.specs.Message.{replyBytes}
 use Rattle.handler.specs.Answer.{Outcome, ackBytes}
 use Rattle.handler.specs.Obey.{heading, placeIn, widthIn, setOf}
-use Rattle.demands.specs.Deed.{Named, Carries}
+use Rattle.demands.specs.Message.{Named, Carries}
 
 -- a done SET: the named set of the named port is what the bitset makes of it, every other set and every other word is as before, and the box
 -- stays right; an ACK is written if asked

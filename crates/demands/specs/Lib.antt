@@ -3,7 +3,7 @@ pub mod Bitset
 pub mod Request
 pub mod Call
 pub mod Answer
-pub mod Deed
-pub mod Course
+pub mod Message
+pub mod CallCase
 pub mod Run
 pub mod Done

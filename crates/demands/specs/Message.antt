@@ -45,12 +45,12 @@ Carries roll debug flags m n b =
     bitsetReading (partOf m 0 (n .bitset .end)) (n .bitset .start) (ofSet (n .command .set) debug flags) ≡ accepted b
 
 -- what is said and done of a message: nothing for a skipped one, an error message, a reply, or a change of one set of one port
-pub data Deed (roll debug flags ws m : List ℕ) (h : MessageHeader) (next : ℕ) (o : Outcome) : Type 0 where
-  skipped : o ≡ leaves (quiet Skipped next) ws → Deed roll debug flags ws m h next o
-  refused : (why : Refusal) → o ≡ leaves (refusal m next why) ws → Deed roll debug flags ws m h next o
+pub data MessageCase (roll debug flags ws m : List ℕ) (h : MessageHeader) (next : ℕ) (o : Outcome) : Type 0 where
+  skipped : o ≡ leaves (quiet Skipped next) ws → MessageCase roll debug flags ws m h next o
+  refused : (why : Refusal) → o ≡ leaves (refusal m next why) ws → MessageCase roll debug flags ws m h next o
   got : (n : Named roll m) → n .command .change ≡ false
       → o ≡ leaves (speech done next (gotten roll debug flags ws m h (n .command) (n .position) (n .index) (n .name) (n .asked))) ws
-      → Deed roll debug flags ws m h next o
+      → MessageCase roll debug flags ws m h next o
   set : (n : Named roll m) → n .command .change ≡ true → (b : Bitset) → Carries roll debug flags m n b
       → o
       ≡ record {
@@ -59,4 +59,4 @@ pub data Deed (roll debug flags ws m : List ℕ) (h : MessageHeader) (next : ℕ
             splice (placeIn roll debug flags (n .position) (n .command .set)) ws
             (wordsOf (widthIn debug flags (n .command .set)) (effect b (has (setOf roll debug flags ws (n .position) (n .command .set)))));
       }
-      → Deed roll debug flags ws m h next o
+      → MessageCase roll debug flags ws m h next o

@@ -19,10 +19,10 @@ use Rattle.refusal.specs.declared.Refusal.the-variants as R
 use Rattle.boxes.specs.Box.{boxRight}
 use Rattle.handler.specs.Call.{stays, onMessage, messageOutcome, positionOutcome, outcome}
 use Rattle.demands.specs.Call.{messageOf}
-use Rattle.demands.specs.Course.{Course}
-use Rattle.demands.specs.Course.Course.{over, stayed, answered}
+use Rattle.demands.specs.CallCase.{CallCase}
+use Rattle.demands.specs.CallCase.CallCase.{over, stayed, answered}
 use Rattle.demands.proofs.Request.{message-first}
-use Rattle.demands.proofs.Deed.{message-deed}
+use Rattle.demands.proofs.Message.{message-case}
 
 module _ (family admin : ℕ) (roll debug flags ws datagram : List ℕ) (position : ℕ) where
   abbrev stated : ℕ
@@ -41,23 +41,23 @@ module _ (family admin : ℕ) (roll debug flags ws datagram : List ℕ) (positio
       omega arith
 
   message : boxRight family admin roll debug flags ws ≡ true → 16 ≤ stated → position + stated ≤ length datagram
-      → Course family admin roll debug flags ws datagram position
+      → CallCase family admin roll debug flags ws datagram position
       (messageOutcome family admin roll debug flags ws (messageOf datagram position) (messageHeader datagram position) next)
   message right lo hi =
       let m = messageOf datagram position in
       let h = messageHeader datagram position in
       answered next right (omega arith) (omega arith) (long lo hi)
-      (message-first roll debug flags ws m h next family admin) (message-deed roll debug flags ws m h next family admin)
+      (message-first roll debug flags ws m h next family admin) (message-case roll debug flags ws m h next family admin)
 
-  pub course : (room : ℕ) → Course family admin roll debug flags ws datagram position (outcome family admin roll debug flags ws datagram position room)
+  pub call-case : (room : ℕ) → CallCase family admin roll debug flags ws datagram position (outcome family admin roll debug flags ws datagram position room)
   unfolding outcome positionOutcome messageAt messageOf
-  course room =
+  call-case room =
       go (boxRight family admin roll debug flags ws) (ltb room 32768) (ltb 32768 (length datagram)) (ltb (length datagram) position)
       (eqb position (length datagram)) (ltb (length datagram) (position + 16)) (ltb stated 16) (ltb (length datagram) (position + stated)) refl refl refl
     where
       go : (right page long past end cut low high : Bool) → boxRight family admin roll debug flags ws ≡ right → ltb stated 16 ≡ low
           → ltb (length datagram) (position + stated) ≡ high
-          → Course family admin roll debug flags ws datagram position
+          → CallCase family admin roll debug flags ws datagram position
           (cond (not right) (stays R.Box position ws)
           (cond page (stays R.Page position ws)
           (cond long (stays R.Datagram position ws)

@@ -1,4 +1,4 @@
--- Every message comes to one of the four deeds.
+-- Every message comes to one of the four cases.
 use Prim.Native.Nat.{ℕ, _/_, _%_}
 use mathlib.Core.Path.{_≡_, refl, ap}
 use mathlib.Core.List.{List}
@@ -31,8 +31,8 @@ use Rattle.request.specs.declared.top.Top.the-variants as T
 use Rattle.handler.specs.Answer.{Outcome, speech, done, leaves}
 use Rattle.handler.specs.Obey.{gotten, onReading, setOutcome, deed, onAim, aimed, onTop, obeyed}
 use Rattle.handler.specs.Call.{onAdmission, messageOutcome}
-use Rattle.demands.specs.Deed.{Named, Deed}
-use Rattle.demands.specs.Deed.Deed.{skipped, refused, got, set}
+use Rattle.demands.specs.Message.{Named, MessageCase}
+use Rattle.demands.specs.Message.MessageCase.{skipped, refused, got, set}
 
 -- a command that is admitted is listed
 go-listed : (m : List ℕ) (h : MessageHeader) (family : ℕ) (admin : Bool) (command : Command) → admitted m h family admin ≡ A.Go command
@@ -56,37 +56,37 @@ go-listed m h family admin command e =
 
 module _ (roll debug flags ws m : List ℕ) (h : MessageHeader) (next : ℕ) where
   module _ (n : Named roll m) where
-    set-deed : n .command .change ≡ true → Deed roll debug flags ws m h next (setOutcome roll debug flags ws m h next (n .position) (n .command .set) (n .bitset))
+    set-case : n .command .change ≡ true → MessageCase roll debug flags ws m h next (setOutcome roll debug flags ws m h next (n .position) (n .command .set) (n .bitset))
     unfolding setOutcome
-    set-deed change = go (bitsetReading (partOf m 0 (n .bitset .end)) (n .bitset .start) (ofSet (n .command .set) debug flags)) refl
+    set-case change = go (bitsetReading (partOf m 0 (n .bitset .end)) (n .bitset .start) (ofSet (n .command .set) debug flags)) refl
       where
         go : (x : Reading) → bitsetReading (partOf m 0 (n .bitset .end)) (n .bitset .start) (ofSet (n .command .set) debug flags) ≡ x
-            → Deed roll debug flags ws m h next (onReading x roll debug flags ws m h next (n .position) (n .command .set))
+            → MessageCase roll debug flags ws m h next (onReading x roll debug flags ws m h next (n .position) (n .command .set))
         go (turned-down why) e = refused why refl
         go (accepted b) e = set n change b e refl
 
-    deed-deed : Deed roll debug flags ws m h next (deed roll debug flags ws m h next (n .command) (n .bitset) (n .position) (n .index) (n .name) (n .asked))
+    deed-case : MessageCase roll debug flags ws m h next (deed roll debug flags ws m h next (n .command) (n .bitset) (n .position) (n .index) (n .name) (n .asked))
     unfolding deed
-    deed-deed = go (n .command .change) refl
+    deed-case = go (n .command .change) refl
       where
         shown : Outcome
         shown = leaves (speech done next (gotten roll debug flags ws m h (n .command) (n .position) (n .index) (n .name) (n .asked))) ws
 
         go : (t : Bool) → n .command .change ≡ t
-            → Deed roll debug flags ws m h next (cond t (setOutcome roll debug flags ws m h next (n .position) (n .command .set) (n .bitset)) shown)
-        go true e = set-deed e
+            → MessageCase roll debug flags ws m h next (cond t (setOutcome roll debug flags ws m h next (n .position) (n .command .set) (n .bitset)) shown)
+        go true e = set-case e
         go false e = got n e refl
 
   module _ (command : Command) (listed : commandOf (byteAt m 16) ≡ Listed command) where
-    aimed-deed : (header bitset : Slot) → topOf m (command .change) ≡ T.Nests header bitset
-        → Deed roll debug flags ws m h next (aimed roll debug flags ws m h next command header bitset)
+    aimed-case : (header bitset : Slot) → topOf m (command .change) ≡ T.Nests header bitset
+        → MessageCase roll debug flags ws m h next (aimed roll debug flags ws m h next command header bitset)
     unfolding aimed
-    aimed-deed header bitset nests = go (aimOf m header roll) refl
+    aimed-case header bitset nests = go (aimOf m header roll) refl
       where
-        go : (a : Aim) → aimOf m header roll ≡ a → Deed roll debug flags ws m h next (onAim a m next ws (deed roll debug flags ws m h next command bitset))
+        go : (a : Aim) → aimOf m header roll ≡ a → MessageCase roll debug flags ws m h next (onAim a m next ws (deed roll debug flags ws m h next command bitset))
         go (P.Refused why) e = refused why refl
         go (P.Port position index name end asked) e =
-            deed-deed
+            deed-case
             (record {
               command = command;
               listed = listed;
@@ -101,20 +101,20 @@ module _ (roll debug flags ws m : List ℕ) (h : MessageHeader) (next : ℕ) whe
               port = e;
             })
 
-    obeyed-deed : Deed roll debug flags ws m h next (obeyed roll debug flags ws m h next command)
+    obeyed-case : MessageCase roll debug flags ws m h next (obeyed roll debug flags ws m h next command)
     unfolding obeyed
-    obeyed-deed = go (topOf m (command .change)) refl
+    obeyed-case = go (topOf m (command .change)) refl
       where
-        go : (t : Top) → topOf m (command .change) ≡ t → Deed roll debug flags ws m h next (onTop t m next ws (aimed roll debug flags ws m h next command))
+        go : (t : Top) → topOf m (command .change) ≡ t → MessageCase roll debug flags ws m h next (onTop t m next ws (aimed roll debug flags ws m h next command))
         go (T.Refused why) e = refused why refl
-        go (T.Nests header bitset) e = aimed-deed header bitset e
+        go (T.Nests header bitset) e = aimed-case header bitset e
 
-  pub message-deed : (family admin : ℕ) → Deed roll debug flags ws m h next (messageOutcome family admin roll debug flags ws m h next)
+  pub message-case : (family admin : ℕ) → MessageCase roll debug flags ws m h next (messageOutcome family admin roll debug flags ws m h next)
   unfolding messageOutcome
-  message-deed family admin = go (admitted m h family (eqb admin 1)) refl
+  message-case family admin = go (admitted m h family (eqb admin 1)) refl
     where
       go : (a : Admission) → admitted m h family (eqb admin 1) ≡ a
-          → Deed roll debug flags ws m h next (onAdmission a m next ws (obeyed roll debug flags ws m h next))
+          → MessageCase roll debug flags ws m h next (onAdmission a m next ws (obeyed roll debug flags ws m h next))
       go A.Skipped e = skipped refl
       go (A.Refused why) e = refused why refl
-      go (A.Go command) e = obeyed-deed command (go-listed m h family (eqb admin 1) command e)
+      go (A.Go command) e = obeyed-case command (go-listed m h family (eqb admin 1) command e)

@@ -14,14 +14,14 @@ use Rattle.handler.specs.declared.answer.Kind.the-variants.{End, Done, Refused}
 use Rattle.demands.specs.Check.{first}
 use Rattle.demands.specs.Request.{messageChecks}
 use Rattle.demands.specs.Call.{messageOf}
-use Rattle.demands.specs.Deed.{Deed}
+use Rattle.demands.specs.Message.{MessageCase}
 
 -- the end or a refusal by 1 to 4, which change nothing, say nothing and give the position back; or a message of a right box, which moves on
-pub data Course (family admin : ℕ) (roll debug flags ws datagram : List ℕ) (position : ℕ) (o : Outcome) : Type 0 where
-  over : o ≡ leaves (quiet End position) ws → Course family admin roll debug flags ws datagram position o
-  stayed : (why : Refusal) → numberOf why ≤ 4 → o ≡ leaves (quiet (Refused why) position) ws → Course family admin roll debug flags ws datagram position o
+pub data CallCase (family admin : ℕ) (roll debug flags ws datagram : List ℕ) (position : ℕ) (o : Outcome) : Type 0 where
+  over : o ≡ leaves (quiet End position) ws → CallCase family admin roll debug flags ws datagram position o
+  stayed : (why : Refusal) → numberOf why ≤ 4 → o ≡ leaves (quiet (Refused why) position) ws → CallCase family admin roll debug flags ws datagram position o
   answered : (next : ℕ) → boxRight family admin roll debug flags ws ≡ true → position + 16 ≤ next → next ≤ length datagram
       → 16 ≤ length (messageOf datagram position)
       → o .said .kind ≡ first Done (messageChecks family admin roll debug flags (messageOf datagram position) (messageHeader datagram position))
-      → Deed roll debug flags ws (messageOf datagram position) (messageHeader datagram position) next o
-      → Course family admin roll debug flags ws datagram position o
+      → MessageCase roll debug flags ws (messageOf datagram position) (messageHeader datagram position) next o
+      → CallCase family admin roll debug flags ws datagram position o
