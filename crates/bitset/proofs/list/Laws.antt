@@ -233,9 +233,10 @@ module _ (s names : List ℕ) (from : ℕ) (f : Form) (at : ℕ) (inv : BitsFrom
       unfolding judgedAfter
       bits-refused why y h ey = ey ∙ sym (rw h at one)
 
-      pub bits-more : (i : ℕ) (on : Bool) (g : Form) → v ≡ B.Bit i on → g ≡ listedIn f i on → BitsFrom s names from g n
-      unfolding judgedAfter formAfter
-      bits-more i on g h eg = rw (h) at one ∙ go (bitsReading s names (attributes s n)) ∙ ap (λ (x : Form). judgedAfter x (bitsReading s names (attributes s n))) (sym eg)
+      pub bits-more : (i : ℕ) (on : Bool) (j k : ℕ) (m y : List ℕ) → v ≡ B.Bit i on → j ≡ 16 → k ≡ 16
+          → m ≡ wordsOf j (putBit i true (has (f .mask))) → y ≡ wordsOf k (putBit i on (has (f .value))) → BitsFrom s names from (record { mask = m; value = y }) n
+      unfolding judgedAfter formAfter listedIn
+      bits-more i on j k m y h ej ek em ey = rw (em, ey, ej, ek) (rw h at one ∙ go (bitsReading s names (attributes s n)))
         where
           go : (x : ListReading) → judgedAfter f (onBit (B.Bit i on) x) ≡ judgedAfter (listedIn f i on) x
           go (stopped r) = refl
