@@ -1,12 +1,12 @@
 -- Laws of judging a bit list: one for each return, and for each turn of the loop over its BITs.
-use Prim.Native.Nat.{ℕ, _*_, _-_, _≤_, _<_}
+use Prim.Native.Nat.{ℕ, zero, suc, _*_, _-_, _≤_, _<_}
 use mathlib.Core.Path.{_≡_, refl, sym, ap, _∙_, fun-ext}
 use mathlib.Core.List.{List, [], _∷_}
 use mathlib.Core.Bool.{Bool, true, false, _||_, _&&_, cond}
 use lib.ListN.{length, getD, replicate}
 use lib.Dec.{eqb, leb}
 use native.Mathlib.Omega.{arith}
-use borrow.Author.Tests.{le-leb, lt-leb}
+use borrow.Author.Tests.{eq-eqb, ne-eqb, le-leb, lt-leb}
 use Rattle.basics.proofs.Truth.{cond-true, cond-false}
 use Rattle.bits.specs.Bit.{number}
 use Rattle.bits.specs.Set.{has, wordsOf, putBit, allBelow}
@@ -18,11 +18,17 @@ use Rattle.names.specs.Search.{lookup}
 use Rattle.names.specs.declared.Lookup.{Lookup}
 use Rattle.netlink.specs.Attributes.{Attributes, attributes, attributeAt, onRead, partOf}
 use Rattle.netlink.specs.Attributes.Attributes.{done, broken, attribute}
-use Rattle.netlink.specs.Walk.{absent, walked, slotNumber}
+use Rattle.netlink.specs.Policy.{ruleOf, judged}
+use Rattle.netlink.specs.Walk.{found, absent, onVerdict, firstFault, lastOf, eachType, onStop as walkStop, walked, slotNumber}
 use Rattle.netlink.specs.declared.attributes.AttributeRead.{AttributeRead}
 use Rattle.netlink.specs.declared.attributes.AttributeRead.the-variants.{Attribute, Broken, End}
 use Rattle.netlink.specs.declared.policy.Fault.{Fault}
+use Rattle.netlink.specs.declared.policy.Fault.the-variants.{Length}
 use Rattle.netlink.specs.declared.policy.Rule.{Rule}
+use Rattle.netlink.specs.declared.policy.Rule.the-variants.{Unlisted}
+use Rattle.netlink.specs.declared.policy.Rule.the-variants as Rl
+use Rattle.netlink.specs.declared.policy.Verdict.{Verdict}
+use Rattle.netlink.specs.declared.policy.Verdict.the-variants.{Right, Wrong}
 use Rattle.netlink.specs.declared.walk.Slot.{Slot}
 use Rattle.netlink.specs.declared.walk.Stop.{Stop}
 use Rattle.netlink.specs.declared.walk.Stop.the-variants as S
@@ -35,7 +41,7 @@ use Rattle.bitset.specs.Policies.{bitsPolicy, bitPolicy}
 use Rattle.bitset.specs.Bitset.{Bitset, Reading, maskOf, valueOf, refusedAs, judgedAs, listedIn, onJudgement, underNomask}
 use Rattle.bitset.specs.Bitset.Bitset.{listed, only}
 use Rattle.bitset.specs.Bitset.Reading.{refused, accepted}
-use Rattle.bitset.specs.BitList.{byIndex, onLookup, byName, identified, onIdentity, onLooked, onStop, partsReading, bitReading, ListReading, onBit, bitsReading, listJudged, asBitset, listReading}
+use Rattle.bitset.specs.BitList.{byIndex, onLookup, byName, identified, onIdentity, onLooked, onStop, partsReading, bitReading, noParts, withPart, lastParts, partsAfter, bitParts, ListReading, onBit, bitsReading, listJudged, asBitset, listReading}
 use Rattle.bitset.specs.BitList.ListReading.{stopped, entries}
 use Rattle.bitset.specs.declared.form.Form.{Form}
 use Rattle.bitset.specs.declared.form.Judgement.the-variants.{Accepted, Refused}
@@ -44,6 +50,7 @@ use Rattle.bitset.specs.declared.list.Identity.{Identity}
 use Rattle.bitset.specs.declared.list.Identity.the-variants.{Number, Neither}
 use Rattle.bitset.specs.declared.list.Looked.{Looked}
 use Rattle.bitset.specs.declared.list.Looked.the-variants as L
+use Rattle.bitset.specs.declared.list.BitParts.{BitParts}
 use Rattle.bitset.specs.declared.list.BitRead.{BitRead}
 use Rattle.bitset.specs.declared.list.BitRead.the-variants as B
 
@@ -104,23 +111,126 @@ module _ (s names : List ℕ) (at : ℕ) (index name on : Slot) (l : Looked) (el
 
 pub ruleset parts-laws = (parts-refused, parts-neither, parts-number)
 
-module _ (s names : List ℕ) (from : ℕ) (p : List Rule) (ep : p ≡ bitPolicy) (w : Walked) (ew : w ≡ walked p s from) where
-  rest : Walked → BitRead
-  rest x = partsReading s names (from - 4) (getD (x .slots) 1 absent) (getD (x .slots) 2 absent) (getD (x .slots) 3 absent)
+-- the rule for a type in a BIT
+module _ (k : ℕ) where
+  pub rule-index : k ≡ 1 → Rl.Number ≡ ruleOf bitPolicy k
+  unfolding ruleOf
+  rule-index e = rw e
 
-  by-walk : bitReading s names from ≡ onStop (w .stop) B.Refused (rest w)
-  unfolding bitReading rest
-  by-walk = sym (ap (λ (x : Walked). onStop (x .stop) B.Refused (rest x)) (ew ∙ ap (λ (x : List Rule). walked x s from) ep))
+  pub rule-name : k ≡ 2 → Rl.Name 32 ≡ ruleOf bitPolicy k
+  unfolding ruleOf
+  rule-name e = rw e
 
-  pub bit-fault : (f : Fault) (at : ℕ) (y : Refusal) → w .stop ≡ S.At f at → y ≡ ofFault f at → B.Refused y ≡ bitReading s names from
-  bit-fault f at y q ey = ap B.Refused ey ∙ sym (by-walk ∙ ap (λ (x : Stop). onStop x B.Refused (rest w)) q)
+  pub rule-on : k ≡ 3 → Rl.Flag ≡ ruleOf bitPolicy k
+  unfolding ruleOf
+  rule-on e = rw e
 
-  pub bit-whole : (at : ℕ) (r : BitRead) → w .stop ≡ S.Whole → at ≡ from - 4
-      → r ≡ partsReading s names at (getD (w .slots) 1 absent) (getD (w .slots) 2 absent) (getD (w .slots) 3 absent) → r ≡ bitReading s names from
-  unfolding rest
+pub rule-other : (k : ℕ) → (k ≡ 1 → ⊥) → (k ≡ 2 → ⊥) → (k ≡ 3 → ⊥) → Unlisted ≡ ruleOf bitPolicy k
+unfolding ruleOf
+rule-other zero a b c = refl
+rule-other (suc zero) a b c = absurd (a refl)
+rule-other (suc (suc zero)) a b c = absurd (b refl)
+rule-other (suc (suc (suc zero))) a b c = absurd (c refl)
+rule-other (suc (suc (suc (suc zero)))) a b c = refl
+rule-other (suc (suc (suc (suc (suc zero))))) a b c = refl
+rule-other (suc (suc (suc (suc (suc (suc zero)))))) a b c = refl
+rule-other (suc (suc (suc (suc (suc (suc (suc zero))))))) a b c = refl
+rule-other (suc (suc (suc (suc (suc (suc (suc (suc k)))))))) a b c = refl
+
+pub ruleset rule-laws = (rule-index, rule-name, rule-on, rule-other)
+
+-- the newer of two slots
+module _ (k w : ℕ) (new old : Slot) where
+  pub newer-new : k ≡ w → new ≡ cond (eqb k w) new old
+  newer-new e = sym (rw (eq-eqb k w e))
+
+  pub newer-old : (k ≡ w → ⊥) → old ≡ cond (eqb k w) new old
+  newer-old n = sym (rw (ne-eqb k w n))
+
+pub ruleset newer-laws = (newer-new, newer-old)
+
+pub with-part : (p : BitParts) (k a e : ℕ) (x i n o : Slot) (t : Stop) → t ≡ p .stop → x ≡ found a e → i ≡ cond (eqb k 1) x (p .index) → n ≡ cond (eqb k 2) x (p .name)
+    → o ≡ cond (eqb k 3) x (p .on) → record { stop = t; index = i; name = n; on = o } ≡ withPart p k a e
+unfolding withPart
+with-part p k a e x i n o t et ex ei en eo = rw (et, ei, en, eo, ex)
+
+-- the walk of a BIT that has parts p and these attributes before it
+abbrev pub BitFrom : List ℕ → ℕ → BitParts → ℕ → Type 0
+BitFrom s from p at =
+    (p .stop ≡ S.Whole) × (bitParts s from ≡ partsAfter (firstFault bitPolicy s (attributes s at)) (lastParts p (attributes s at)))
+
+pub walk-start : (s : List ℕ) (from : ℕ) (p : BitParts) → p ≡ noParts S.Whole → BitFrom s from p from
+unfolding bitParts
+walk-start s from p e = (ap (λ (x : BitParts). x .stop) e, sym (rw e))
+
+module _ (s : List ℕ) (from : ℕ) (p : BitParts) (at : ℕ) (inv : BitFrom s from p at) (r : AttributeRead) (e : r ≡ attributeAt s at) where
+  walk-step : bitParts s from ≡ partsAfter (firstFault bitPolicy s (onRead r at (attributes s))) (lastParts p (onRead r at (attributes s)))
+  walk-step =
+      inv .1 ∙ ap (λ (x : Attributes). partsAfter (firstFault bitPolicy s x) (lastParts p x))
+      (attributes-step s at ∙ ap (λ (x : AttributeRead). onRead x at (attributes s)) (sym e))
+
+  pub walk-end : r ≡ End → p ≡ bitParts s from
+  unfolding firstFault lastParts lastOf
+  walk-end q = sym (rw q at walk-step)
+
+  pub walk-broken : (y : BitParts) → r ≡ Broken → y ≡ noParts (S.At Length at) → y ≡ bitParts s from
+  unfolding firstFault
+  walk-broken y q ey = ey ∙ sym (rw q at walk-step)
+
+  module _ (k b a z n : ℕ) (q : r ≡ Attribute k b a z n) where
+    within : Bounded s at (Attribute k b a z n)
+    within = rw (sym e ∙ q) at (bounded s at)
+
+    pub walk-less : length s - n < length s - at
+    walk-less = let i = within in omega arith
+
+    module _ (m : Rule) (l : List ℕ) (v : Verdict) (em : m ≡ ruleOf bitPolicy k) (el : l ≡ partOf s a z) (ev : v ≡ judged m b l) where
+      walk-judged : bitParts s from ≡ partsAfter (onVerdict v at (firstFault bitPolicy s (attributes s n))) (lastParts p (attribute k b a z (attributes s n)))
+      unfolding firstFault
+      walk-judged =
+          rw q at walk-step
+          ∙ ap (λ (x : Verdict). partsAfter (onVerdict x (a - 4) (firstFault bitPolicy s (attributes s n))) (lastParts p (attribute k b a z (attributes s n))))
+          (sym (ev ∙ ap (λ (x : Rule). judged x b l) em ∙ ap (λ (x : List ℕ). judged (ruleOf bitPolicy k) b x) el))
+          ∙ ap (λ (x : ℕ). partsAfter (onVerdict v x (firstFault bitPolicy s (attributes s n))) (lastParts p (attribute k b a z (attributes s n)))) place-is
+        where
+          place-is : a - 4 ≡ at
+          place-is = let i = within in omega arith
+
+      pub walk-wrong : (f : Fault) (y : BitParts) → v ≡ Wrong f → y ≡ noParts (S.At f at) → y ≡ bitParts s from
+      walk-wrong f y h ey = ey ∙ sym (rw h at walk-judged)
+
+      pub walk-right : (y : BitParts) → v ≡ Right → y ≡ withPart p k a z → BitFrom s from y n
+      unfolding withPart lastParts lastOf
+      walk-right y h ey = rw ey (inv .0, rw h at walk-judged)
+
+pub ruleset walk-laws = (walk-start, walk-end, walk-broken, walk-less, walk-wrong, walk-right)
+
+-- a BIT by what its walk finds
+module _ (s names : List ℕ) (from : ℕ) (p : BitParts) (ep : p ≡ bitParts s from) where
+  by-parts : bitReading s names from ≡ onStop (p .stop) B.Refused (partsReading s names (from - 4) (p .index) (p .name) (p .on))
+  unfolding bitReading walked bitParts lastParts
+  by-parts = rw ep (go (firstFault bitPolicy s (attributes s from)))
+    where
+      go : (t : Stop) → onStop (walkStop t (eachType (λ kind. lastOf kind absent (attributes s from))) .stop) B.Refused
+          (partsReading s names (from - 4)
+          (getD (walkStop t (eachType (λ kind. lastOf kind absent (attributes s from))) .slots) 1 absent)
+          (getD (walkStop t (eachType (λ kind. lastOf kind absent (attributes s from))) .slots) 2 absent)
+          (getD (walkStop t (eachType (λ kind. lastOf kind absent (attributes s from))) .slots) 3 absent))
+          ≡ onStop (partsAfter t (lastParts (noParts S.Whole) (attributes s from)) .stop) B.Refused
+          (partsReading s names (from - 4)
+          (partsAfter t (lastParts (noParts S.Whole) (attributes s from)) .index)
+          (partsAfter t (lastParts (noParts S.Whole) (attributes s from)) .name)
+          (partsAfter t (lastParts (noParts S.Whole) (attributes s from)) .on))
+      go S.Whole = refl
+      go (S.At f at) = refl
+
+  pub bit-fault : (f : Fault) (at : ℕ) (y : Refusal) → p .stop ≡ S.At f at → y ≡ ofFault f at → B.Refused y ≡ bitReading s names from
+  bit-fault f at y q ey = ap B.Refused ey ∙ sym (by-parts ∙ ap (λ (x : Stop). onStop x B.Refused (partsReading s names (from - 4) (p .index) (p .name) (p .on))) q)
+
+  pub bit-whole : (at : ℕ) (r : BitRead) → p .stop ≡ S.Whole → at ≡ from - 4 → r ≡ partsReading s names at (p .index) (p .name) (p .on) → r ≡ bitReading s names from
   bit-whole at r q ea e =
-      e ∙ ap (λ (x : ℕ). partsReading s names x (getD (w .slots) 1 absent) (getD (w .slots) 2 absent) (getD (w .slots) 3 absent)) ea
-      ∙ sym (by-walk ∙ ap (λ (x : Stop). onStop x B.Refused (rest w)) q)
+      e ∙ ap (λ (x : ℕ). partsReading s names x (p .index) (p .name) (p .on)) ea
+      ∙ sym (by-parts ∙ ap (λ (x : Stop). onStop x B.Refused (partsReading s names (from - 4) (p .index) (p .name) (p .on))) q)
 
 pub ruleset bit-laws = (bit-fault, bit-whole)
 

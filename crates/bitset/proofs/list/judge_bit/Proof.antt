@@ -3,11 +3,8 @@ use borrow.Author.Needs.{needs}
 use Rattle.bitset.proofs.list.judge_bit.Statement.{statement}
 use Rattle.bitset.proofs.list.judge_bit.Tie as tie
 
-bit-policy-requires : tie.Need-bit-policy-requires
-bit-policy-requires c κs = search needs
-
-walk-requires : tie.Need-walk-requires
-walk-requires c κs = search needs
+walk-bit-requires : tie.Need-walk-bit-requires
+walk-bit-requires c κs = search needs
 
 enum-known-stop : tie.Need-enum-known-stop
 enum-known-stop c = search needs
@@ -20,15 +17,6 @@ returns c = search (needs, bit-laws)
 
 enum-told : tie.Need-enum-told
 enum-told c = search needs
-
-element-copy-out-index : tie.Need-element-copy-out-index
-element-copy-out-index c = search needs
-
-element-copy-out-name : tie.Need-element-copy-out-name
-element-copy-out-name c = search needs
-
-element-copy-out-on : tie.Need-element-copy-out-on
-element-copy-out-on c = search needs
 
 place-requires : tie.Need-place-requires
 place-requires c κs = search needs
@@ -43,15 +31,11 @@ pub judge-bit-spec : {M : Type 1} → statement M
 judge-bit-spec =
     tie.close
     (tie.spec
-    bit-policy-requires
-    walk-requires
+    walk-bit-requires
     enum-known-stop
     of-fault-requires
     returns
     enum-told
-    element-copy-out-index
-    element-copy-out-name
-    element-copy-out-on
     place-requires
     judge-parts-requires
     returns-2)
