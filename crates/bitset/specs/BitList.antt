@@ -3,7 +3,7 @@ use Prim.Native.Nat.{ℕ, _-_}
 use mathlib.Core.Bool.{Bool, true, false, cond}
 use mathlib.Core.List.{List, [], _∷_}
 use lib.ListN.{getD}
-use lib.Dec.{eqb, leb}
+use lib.Dec.{leb}
 use Rattle.bits.specs.Set.{wordsOf}
 use Rattle.bits.specs.Change.{Listed, listMask, listValue}
 use Rattle.entries.specs.Entry.{count}
@@ -11,7 +11,7 @@ use Rattle.names.specs.Search.{lookup}
 use Rattle.names.specs.declared.Lookup.{Lookup}
 use Rattle.netlink.specs.Attributes.{Attributes, attributes, partOf}
 use Rattle.netlink.specs.Attributes.Attributes.{done, broken, attribute}
-use Rattle.netlink.specs.Walk.{found, absent, firstFault, lastOf, walked, slotNumber}
+use Rattle.netlink.specs.Walk.{absent, walked, slotNumber}
 use Rattle.netlink.specs.declared.walk.Slot.{Slot}
 use Rattle.netlink.specs.declared.walk.Stop.{Stop}
 use Rattle.netlink.specs.declared.walk.Stop.the-variants as S
@@ -28,7 +28,6 @@ use Rattle.bitset.specs.declared.list.Identity.{Identity}
 use Rattle.bitset.specs.declared.list.Identity.the-variants.{Number, Neither}
 use Rattle.bitset.specs.declared.list.Looked.{Looked}
 use Rattle.bitset.specs.declared.list.Looked.the-variants as L
-use Rattle.bitset.specs.declared.list.BitParts.{BitParts}
 use Rattle.bitset.specs.declared.list.BitRead.{BitRead}
 use Rattle.bitset.specs.declared.list.BitRead.the-variants as B
 
@@ -73,28 +72,6 @@ bitReading s names from =
     (getD (walked bitPolicy s from .slots) 1 absent)
     (getD (walked bitPolicy s from .slots) 2 absent)
     (getD (walked bitPolicy s from .slots) 3 absent))
-
--- a BIT of which nothing is known but how its walk stopped
-abbrev pub noParts : Stop → BitParts
-noParts stop = record { stop = stop; index = absent; name = absent; on = absent }
-
--- the parts with one more attribute ("the last of several equal types in a parent counts")
-unfoldable pub withPart : BitParts → ℕ → ℕ → ℕ → BitParts
-withPart p k a e =
-    record { stop = p .stop; index = cond (eqb k 1) (found a e) (p .index); name = cond (eqb k 2) (found a e) (p .name); on = cond (eqb k 3) (found a e) (p .on) }
-
--- the last INDEX, NAME and VALUE flag among attributes, or those given where there is none
-unfoldable pub lastParts : BitParts → Attributes → BitParts
-lastParts p xs = record { stop = p .stop; index = lastOf 1 (p .index) xs; name = lastOf 2 (p .name) xs; on = lastOf 3 (p .on) xs }
-
--- a walk that stops at a fault tells no part
-abbrev pub partsAfter : Stop → BitParts → BitParts
-partsAfter S.Whole p = p
-partsAfter (S.At fault at) p = noParts (S.At fault at)
-
--- what the walk of a BIT finds: its first fault, or its parts
-unfoldable pub bitParts : List ℕ → ℕ → BitParts
-bitParts s from = partsAfter (firstFault bitPolicy s (attributes s from)) (lastParts (noParts S.Whole) (attributes s from))
 
 -- what the BITs say, in order
 pub data ListReading : Type 0 where

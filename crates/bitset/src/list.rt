@@ -1,10 +1,9 @@
 // A bit list: BITS, and in it any number of BITs.
 ghost use mathlib.Core.Path.{_≡_};
-ghost use mathlib.Core.Bool.{cond};
-ghost use lib.Dec.{eqb};
 ghost use Rattle.netlink.specs.Attributes.{attributes};
 ghost use Rattle.bitset.specs.Bitset.{judgedAs};
-ghost use Rattle.bitset.specs.BitList.{byIndex, byName, identified, partsReading, bitReading, bitsReading, listReading, listJudged, noParts, withPart, bitParts};
+ghost use Rattle.bitset.specs.BitList.{byIndex, byName, identified, partsReading, bitReading, bitsReading, listReading, listJudged};
+ghost use Rattle.netlink.specs.Walk.{absent, found};
 ghost use Rattle.entries.specs.Entry.{count};
 ghost use Rattle.entries.specs.Chain.{IndexedIf};
 use crate::form::Form;
@@ -14,7 +13,6 @@ use crate::form::refused;
 use crate::form::under_nomask;
 use crate::policies::INDEX;
 use crate::policies::NAME;
-use crate::policies::ON;
 use crate::policies::bit_rule;
 use crate::policies::bits_policy;
 use netlink::attributes::AttributeRead;
@@ -48,59 +46,23 @@ pub enum BitRead {
     Refused(Refusal),
 }
 
-// What a BIT holds: its INDEX, NAME and VALUE flag, or where its first fault stands.
-pub struct BitParts {
-    pub stop: Stop,
-    pub index: Slot,
-    pub name: Slot,
-    pub on: Slot,
-}
-
-// A BIT of which nothing is known but how its walk stopped.
-fn no_parts(stop: Stop) -> BitParts
-    ensures { λ r. ⌜ r ≡ noParts stop ⌝ }
+fn absent() -> Slot
+    ensures { λ r. ⌜ r ≡ absent ⌝ }
 {
-    let absent = Slot {
+    Slot {
         present: false,
         start: 0,
         end: 0,
-    };
-    BitParts {
-        stop,
-        index: absent,
-        name: absent,
-        on: absent,
     }
 }
 
-// The newer of two slots where its type is the one wanted.
-fn newer(kind: u16, wanted: u16, new: Slot, old: Slot) -> Slot
-    ensures { λ r. ⌜ r ≡ cond (eqb kind wanted) new old ⌝ }
+fn found(start: usize, end: usize) -> Slot
+    ensures { λ r. ⌜ r ≡ found start end ⌝ }
 {
-    if kind == wanted {
-        return new;
-    }
-    old
-}
-
-// The parts with one more attribute: the last of its type counts.
-fn with_part(parts: BitParts, kind: u16, start: usize, end: usize) -> BitParts
-    ensures { λ r. ⌜ r ≡ withPart parts kind start end ⌝ }
-{
-    let new = Slot {
+    Slot {
         present: true,
         start,
         end,
-    };
-    let stop = parts.stop;
-    let index = newer(kind, INDEX as u16, new, parts.index);
-    let name = newer(kind, NAME as u16, new, parts.name);
-    let on = newer(kind, ON as u16, new, parts.on);
-    BitParts {
-        stop,
-        index,
-        name,
-        on,
     }
 }
 
@@ -178,44 +140,7 @@ fn judge_parts(
     }
 }
 
-// Walks the BIT whose contents are the bytes of s from `from` on. The general walk keeps a slot for each of eight types, which would
-// cost more than all the rest of a BIT.
-fn walk_bit(s: &[u8], from: usize) -> BitParts
-    ensures { λ r. ⌜ r ≡ bitParts (now (s .entry)) from ⌝ }
-{
-    let mut parts = no_parts(Stop::Whole);
-    let mut at = from;
-    loop {
-        match read_attribute(s, at) {
-            AttributeRead::End => {
-                return parts;
-            }
-            AttributeRead::Broken => {
-                return no_parts(Stop::At {
-                    fault: Fault::Length,
-                    at,
-                });
-            }
-            AttributeRead::Attribute {
-                kind,
-                bits,
-                start,
-                end,
-                next,
-            } => match netlink::policy::judge(bit_rule(kind), bits, payload(s, start, end)) {
-                Verdict::Wrong(fault) => {
-                    return no_parts(Stop::At { fault, at });
-                }
-                Verdict::Right => {
-                    parts = with_part(parts, kind, start, end);
-                    at = next;
-                }
-            },
-        }
-    }
-}
-
-// Judges the BIT whose contents are the bytes of s from `from` on.
+// Judges the BIT whose contents are the bytes of s from `from` on: walks it whole, keeping only the slots of its three types.
 fn judge_bit(
     s: &[u8],
     names: &[u8],
@@ -227,15 +152,43 @@ fn judge_bit(
     requires { ⌜ IndexedIf indexed (now names) (now head) (now links) ⌝ }
     ensures { λ r. ⌜ r ≡ bitReading (now (s .entry)) (now (names .entry)) from ⌝ }
 {
-    let parts = walk_bit(s, from);
-    let stop = parts.stop;
-    if let Stop::At { fault, at } = stop {
-        return BitRead::Refused(of_fault(fault, at));
+    let mut index = absent();
+    let mut name = absent();
+    let mut on = absent();
+    let mut at = from;
+    loop {
+        match read_attribute(s, at) {
+            AttributeRead::End => {
+                return judge_parts(s, names, indexed, head, links, place(from), index, name, on);
+            }
+            AttributeRead::Broken => {
+                return BitRead::Refused(of_fault(Fault::Length, at));
+            }
+            AttributeRead::Attribute {
+                kind,
+                bits,
+                start,
+                end,
+                next: after,
+            } => match netlink::policy::judge(bit_rule(kind), bits, payload(s, start, end)) {
+                Verdict::Wrong(fault) => {
+                    return BitRead::Refused(of_fault(fault, at));
+                }
+                Verdict::Right => {
+                    at = after;
+                    if kind == INDEX as u16 {
+                        index = found(start, end);
+                        continue;
+                    }
+                    if kind == NAME as u16 {
+                        name = found(start, end);
+                        continue;
+                    }
+                    on = found(start, end);
+                }
+            },
+        }
     }
-    let index = parts.index;
-    let name = parts.name;
-    let on = parts.on;
-    judge_parts(s, names, indexed, head, links, place(from), index, name, on)
 }
 
 // Judges each BIT in turn, and lists its bit. No setting moves before all are judged.

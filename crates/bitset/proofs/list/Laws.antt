@@ -6,8 +6,8 @@ use mathlib.Core.Bool.{Bool, true, false, _||_, _&&_, cond}
 use lib.ListN.{length, getD, replicate}
 use lib.Dec.{eqb, leb}
 use native.Mathlib.Omega.{arith}
-use borrow.Author.Tests.{eq-eqb, ne-eqb, le-leb, lt-leb}
-use Rattle.basics.proofs.Truth.{cond-true, cond-false}
+use borrow.Author.Tests.{eqb-true, eqb-false, le-leb, lt-leb}
+use Rattle.basics.proofs.Truth.{true-of, cond-true, cond-false}
 use Rattle.bits.specs.Bit.{number}
 use Rattle.bits.specs.Set.{has, wordsOf, putBit, allBelow}
 use Rattle.bits.specs.Change.{Listed, applied, listMask, listValue}
@@ -23,7 +23,7 @@ use Rattle.netlink.specs.Walk.{found, absent, onVerdict, firstFault, lastOf, ea
 use Rattle.netlink.specs.declared.attributes.AttributeRead.{AttributeRead}
 use Rattle.netlink.specs.declared.attributes.AttributeRead.the-variants.{Attribute, Broken, End}
 use Rattle.netlink.specs.declared.policy.Fault.{Fault}
-use Rattle.netlink.specs.declared.policy.Fault.the-variants.{Length}
+use Rattle.netlink.specs.declared.policy.Fault.the-variants.{Length, Unknown}
 use Rattle.netlink.specs.declared.policy.Rule.{Rule}
 use Rattle.netlink.specs.declared.policy.Rule.the-variants.{Unlisted}
 use Rattle.netlink.specs.declared.policy.Rule.the-variants as Rl
@@ -41,7 +41,7 @@ use Rattle.bitset.specs.Policies.{bitsPolicy, bitPolicy}
 use Rattle.bitset.specs.Bitset.{Bitset, Reading, maskOf, valueOf, refusedAs, judgedAs, listedIn, onJudgement, underNomask}
 use Rattle.bitset.specs.Bitset.Bitset.{listed, only}
 use Rattle.bitset.specs.Bitset.Reading.{refused, accepted}
-use Rattle.bitset.specs.BitList.{byIndex, onLookup, byName, identified, onIdentity, onLooked, onStop, partsReading, bitReading, noParts, withPart, lastParts, partsAfter, bitParts, ListReading, onBit, bitsReading, listJudged, asBitset, listReading}
+use Rattle.bitset.specs.BitList.{byIndex, onLookup, byName, identified, onIdentity, onLooked, onStop, partsReading, bitReading, ListReading, onBit, bitsReading, listJudged, asBitset, listReading}
 use Rattle.bitset.specs.BitList.ListReading.{stopped, entries}
 use Rattle.bitset.specs.declared.form.Form.{Form}
 use Rattle.bitset.specs.declared.form.Judgement.the-variants.{Accepted, Refused}
@@ -50,7 +50,6 @@ use Rattle.bitset.specs.declared.list.Identity.{Identity}
 use Rattle.bitset.specs.declared.list.Identity.the-variants.{Number, Neither}
 use Rattle.bitset.specs.declared.list.Looked.{Looked}
 use Rattle.bitset.specs.declared.list.Looked.the-variants as L
-use Rattle.bitset.specs.declared.list.BitParts.{BitParts}
 use Rattle.bitset.specs.declared.list.BitRead.{BitRead}
 use Rattle.bitset.specs.declared.list.BitRead.the-variants as B
 
@@ -139,100 +138,87 @@ rule-other (suc (suc (suc (suc (suc (suc (suc (suc k)))))))) a b c = refl
 
 pub ruleset rule-laws = (rule-index, rule-name, rule-on, rule-other)
 
--- the newer of two slots
-module _ (k w : ℕ) (new old : Slot) where
-  pub newer-new : k ≡ w → new ≡ cond (eqb k w) new old
-  newer-new e = sym (rw (eq-eqb k w e))
+-- the parts of a BIT whose walk is whole: the last of each type, the slots given where there is none
+abbrev lastParts : List ℕ → List ℕ → ℕ → Attributes → Slot → Slot → Slot → BitRead
+lastParts s names from xs i n o = partsReading s names (from - 4) (lastOf 1 i xs) (lastOf 2 n xs) (lastOf 3 o xs)
 
-  pub newer-old : (k ≡ w → ⊥) → old ≡ cond (eqb k w) new old
-  newer-old n = sym (rw (ne-eqb k w n))
+-- a BIT that is walked as far as a place, with slots i, n, o of its three types
+abbrev pub BitFrom : List ℕ → List ℕ → ℕ → Slot → Slot → Slot → ℕ → Type 0
+BitFrom s names from i n o at =
+    bitReading s names from
+    ≡ onStop (firstFault bitPolicy s (attributes s at)) B.Refused (lastParts s names from (attributes s at) i n o)
 
-pub ruleset newer-laws = (newer-new, newer-old)
+pub bit-start : (s names : List ℕ) (from : ℕ) (i n o : Slot) → i ≡ absent → n ≡ absent → o ≡ absent → BitFrom s names from i n o from
+unfolding bitReading walked
+bit-start s names from i n o ei en eo = rw (ei, en, eo) (go (firstFault bitPolicy s (attributes s from)))
+  where
+    go : (t : Stop)
+        → onStop (walkStop t (eachType (λ kind. lastOf kind absent (attributes s from))) .stop) B.Refused
+        (partsReading s names (from - 4) (getD (walkStop t (eachType (λ kind. lastOf kind absent (attributes s from))) .slots) 1 absent) (getD (walkStop t (eachType (λ kind. lastOf kind absent (attributes s from))) .slots) 2 absent) (getD (walkStop t (eachType (λ kind. lastOf kind absent (attributes s from))) .slots) 3 absent))
+        ≡ onStop t B.Refused (lastParts s names from (attributes s from) absent absent absent)
+    go S.Whole = refl
+    go (S.At f at) = refl
 
-pub with-part : (p : BitParts) (k a e : ℕ) (x i n o : Slot) (t : Stop) → t ≡ p .stop → x ≡ found a e → i ≡ cond (eqb k 1) x (p .index) → n ≡ cond (eqb k 2) x (p .name)
-    → o ≡ cond (eqb k 3) x (p .on) → record { stop = t; index = i; name = n; on = o } ≡ withPart p k a e
-unfolding withPart
-with-part p k a e x i n o t et ex ei en eo = rw (et, ei, en, eo, ex)
+module _ (s names : List ℕ) (from : ℕ) (i n o : Slot) (at : ℕ) (inv : BitFrom s names from i n o at) (r : AttributeRead) (e : r ≡ attributeAt s at) where
+  abbrev reading : Attributes → BitRead
+  reading xs = onStop (firstFault bitPolicy s xs) B.Refused (lastParts s names from xs i n o)
 
--- the walk of a BIT that has parts p and these attributes before it
-abbrev pub BitFrom : List ℕ → ℕ → BitParts → ℕ → Type 0
-BitFrom s from p at =
-    (p .stop ≡ S.Whole) × (bitParts s from ≡ partsAfter (firstFault bitPolicy s (attributes s at)) (lastParts p (attributes s at)))
+  bit-step : bitReading s names from ≡ reading (onRead r at (attributes s))
+  bit-step = inv ∙ ap reading (attributes-step s at ∙ ap (λ (x : AttributeRead). onRead x at (attributes s)) (sym e))
 
-pub walk-start : (s : List ℕ) (from : ℕ) (p : BitParts) → p ≡ noParts S.Whole → BitFrom s from p from
-unfolding bitParts
-walk-start s from p e = (ap (λ (x : BitParts). x .stop) e, sym (rw e))
+  pub bit-end : (p : ℕ) (y : BitRead) → r ≡ End → p ≡ from - 4 → y ≡ partsReading s names p i n o → y ≡ bitReading s names from
+  unfolding firstFault lastOf
+  bit-end p y q ep ey = ey ∙ ap (λ (x : ℕ). partsReading s names x i n o) ep ∙ sym (rw q at bit-step)
 
-module _ (s : List ℕ) (from : ℕ) (p : BitParts) (at : ℕ) (inv : BitFrom s from p at) (r : AttributeRead) (e : r ≡ attributeAt s at) where
-  walk-step : bitParts s from ≡ partsAfter (firstFault bitPolicy s (onRead r at (attributes s))) (lastParts p (onRead r at (attributes s)))
-  walk-step =
-      inv .1 ∙ ap (λ (x : Attributes). partsAfter (firstFault bitPolicy s x) (lastParts p x))
-      (attributes-step s at ∙ ap (λ (x : AttributeRead). onRead x at (attributes s)) (sym e))
-
-  pub walk-end : r ≡ End → p ≡ bitParts s from
-  unfolding firstFault lastParts lastOf
-  walk-end q = sym (rw q at walk-step)
-
-  pub walk-broken : (y : BitParts) → r ≡ Broken → y ≡ noParts (S.At Length at) → y ≡ bitParts s from
+  pub bit-broken : (y : Refusal) → r ≡ Broken → y ≡ ofFault Length at → B.Refused y ≡ bitReading s names from
   unfolding firstFault
-  walk-broken y q ey = ey ∙ sym (rw q at walk-step)
+  bit-broken y q ey = ap B.Refused ey ∙ sym (rw q at bit-step)
 
-  module _ (k b a z n : ℕ) (q : r ≡ Attribute k b a z n) where
-    within : Bounded s at (Attribute k b a z n)
+  module _ (k b a z next : ℕ) (q : r ≡ Attribute k b a z next) where
+    within : Bounded s at (Attribute k b a z next)
     within = rw (sym e ∙ q) at (bounded s at)
 
-    pub walk-less : length s - n < length s - at
-    walk-less = let i = within in omega arith
+    pub bit-less : length s - next < length s - at
+    bit-less = let i = within in omega arith
 
     module _ (m : Rule) (l : List ℕ) (v : Verdict) (em : m ≡ ruleOf bitPolicy k) (el : l ≡ partOf s a z) (ev : v ≡ judged m b l) where
-      walk-judged : bitParts s from ≡ partsAfter (onVerdict v at (firstFault bitPolicy s (attributes s n))) (lastParts p (attribute k b a z (attributes s n)))
-      unfolding firstFault
-      walk-judged =
-          rw q at walk-step
-          ∙ ap (λ (x : Verdict). partsAfter (onVerdict x (a - 4) (firstFault bitPolicy s (attributes s n))) (lastParts p (attribute k b a z (attributes s n))))
-          (sym (ev ∙ ap (λ (x : Rule). judged x b l) em ∙ ap (λ (x : List ℕ). judged (ruleOf bitPolicy k) b x) el))
-          ∙ ap (λ (x : ℕ). partsAfter (onVerdict v x (firstFault bitPolicy s (attributes s n))) (lastParts p (attribute k b a z (attributes s n)))) place-is
+      bit-judged : bitReading s names from
+          ≡ onStop (onVerdict v at (firstFault bitPolicy s (attributes s next))) B.Refused
+          (lastParts s names from (attributes s next) (cond (eqb k 1) (found a z) i) (cond (eqb k 2) (found a z) n) (cond (eqb k 3) (found a z) o))
+      unfolding firstFault lastOf
+      bit-judged = rw q at bit-step ∙ rw (verdict, here)
         where
-          place-is : a - 4 ≡ at
-          place-is = let i = within in omega arith
+          verdict : judged (ruleOf bitPolicy k) b (partOf s a z) ≡ v
+          verdict = sym (ev ∙ ap (λ (x : Rule). judged x b l) em ∙ ap (λ (x : List ℕ). judged (ruleOf bitPolicy k) b x) el)
 
-      pub walk-wrong : (f : Fault) (y : BitParts) → v ≡ Wrong f → y ≡ noParts (S.At f at) → y ≡ bitParts s from
-      walk-wrong f y h ey = ey ∙ sym (rw h at walk-judged)
+          here : a - 4 ≡ at
+          here = let i = within in omega arith
 
-      pub walk-right : (y : BitParts) → v ≡ Right → y ≡ withPart p k a z → BitFrom s from y n
-      unfolding withPart lastParts lastOf
-      walk-right y h ey = rw ey (inv .0, rw h at walk-judged)
+      pub bit-wrong : (f : Fault) (y : Refusal) → v ≡ Wrong f → y ≡ ofFault f at → B.Refused y ≡ bitReading s names from
+      bit-wrong f y h ey = ap B.Refused ey ∙ sym (rw h at bit-judged)
 
-pub ruleset walk-laws = (walk-start, walk-end, walk-broken, walk-less, walk-wrong, walk-right)
+      module _ (h : v ≡ Right) (x : Slot) (ex : x ≡ found a z) where
+        pub bit-index : k ≡ 1 → BitFrom s names from x n o next
+        bit-index g = rw (h, g, ← ex) at bit-judged
 
--- a BIT by what its walk finds
-module _ (s names : List ℕ) (from : ℕ) (p : BitParts) (ep : p ≡ bitParts s from) where
-  by-parts : bitReading s names from ≡ onStop (p .stop) B.Refused (partsReading s names (from - 4) (p .index) (p .name) (p .on))
-  unfolding bitReading walked bitParts lastParts
-  by-parts = rw ep (go (firstFault bitPolicy s (attributes s from)))
-    where
-      go : (t : Stop) → onStop (walkStop t (eachType (λ kind. lastOf kind absent (attributes s from))) .stop) B.Refused
-          (partsReading s names (from - 4)
-          (getD (walkStop t (eachType (λ kind. lastOf kind absent (attributes s from))) .slots) 1 absent)
-          (getD (walkStop t (eachType (λ kind. lastOf kind absent (attributes s from))) .slots) 2 absent)
-          (getD (walkStop t (eachType (λ kind. lastOf kind absent (attributes s from))) .slots) 3 absent))
-          ≡ onStop (partsAfter t (lastParts (noParts S.Whole) (attributes s from)) .stop) B.Refused
-          (partsReading s names (from - 4)
-          (partsAfter t (lastParts (noParts S.Whole) (attributes s from)) .index)
-          (partsAfter t (lastParts (noParts S.Whole) (attributes s from)) .name)
-          (partsAfter t (lastParts (noParts S.Whole) (attributes s from)) .on))
-      go S.Whole = refl
-      go (S.At f at) = refl
+        module _ (n1 : k ≡ 1 → ⊥) where
+          pub bit-name : k ≡ 2 → BitFrom s names from i x o next
+          bit-name g = rw (h, g, ← ex) at bit-judged
 
-  pub bit-fault : (f : Fault) (at : ℕ) (y : Refusal) → p .stop ≡ S.At f at → y ≡ ofFault f at → B.Refused y ≡ bitReading s names from
-  bit-fault f at y q ey = ap B.Refused ey ∙ sym (by-parts ∙ ap (λ (x : Stop). onStop x B.Refused (partsReading s names (from - 4) (p .index) (p .name) (p .on))) q)
+          -- what is right and neither is VALUE
+          pub bit-on : (k ≡ 2 → ⊥) → BitFrom s names from i n x next
+          unfolding judged
+          bit-on n2 = rw (h, third, ← ex) at bit-judged
+            where
+              third : k ≡ 3
+              third =
+                  eqb-true k 3
+                  (true-of (eqb k 3)
+                  (λ g. let u : v ≡ Wrong Unknown = ev ∙ ap (λ (y : Rule). judged y b l) (em ∙ sym (rule-other k n1 n2 (eqb-false k 3 g))) in
+                  let c : _≡_ {A = ℕ} 0 1 = cc in
+                  omega arith))
 
-  pub bit-whole : (at : ℕ) (r : BitRead) → p .stop ≡ S.Whole → at ≡ from - 4 → r ≡ partsReading s names at (p .index) (p .name) (p .on) → r ≡ bitReading s names from
-  bit-whole at r q ea e =
-      e ∙ ap (λ (x : ℕ). partsReading s names x (p .index) (p .name) (p .on)) ea
-      ∙ sym (by-parts ∙ ap (λ (x : Stop). onStop x B.Refused (partsReading s names (from - 4) (p .index) (p .name) (p .on))) q)
-
-pub ruleset bit-laws = (bit-fault, bit-whole)
+pub ruleset bit-laws = (bit-start, bit-end, bit-broken, bit-less, bit-wrong, bit-index, bit-name, bit-on)
 
 -- The loop over the BITs: the form of what is listed so far, and what is left.
 unfoldable pub formAfter : Form → List Listed → Form
