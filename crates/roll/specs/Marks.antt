@@ -16,7 +16,7 @@ indexMark x = x % 1024
 
 -- the mark of a name: each of its bytes has a part in it
 unfoldable pub nameMark : List ℕ → ℕ
-nameMark s = (u32At s 0 * 536870909 + u32At s 4 * 433494437 + u32At s 8 * 479001599 + u32At s 12 * 387420489) / 16777216 % 1024
+nameMark s = (u32At s 0 * 483130339 + u32At s 4 * 407823575 + u32At s 8 * 476453121 + u32At s 12 * 347328907) / 4194304 % 1024
 
 -- the mark of the index of a port, and that of its name, by its places
 unfoldable pub markOfIndex : List ℕ → ℕ → ℕ → ℕ

@@ -32,7 +32,7 @@ fn name_mark(field: &[u8]) -> usize
     let b = wide(u32_at(field, 4));
     let c = wide(u32_at(field, 8));
     let d = wide(u32_at(field, 12));
-    ((a * 536870909 + b * 433494437 + c * 479001599 + d * 387420489) / 16777216 % 1024) as usize
+    ((a * 483130339 + b * 407823575 + c * 476453121 + d * 347328907) / 4194304 % 1024) as usize
 }
 
 // One more, of two at most.

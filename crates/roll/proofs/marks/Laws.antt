@@ -24,7 +24,7 @@ use Rattle.roll.proofs.name.Laws.{four-same}
 use Rattle.roll.proofs.record.Laws.{Last, turn-last, turn-port}
 
 pub name-mark-is : (s : List ℕ) (a b c d : ℕ) → a ≡ u32At s 0 → b ≡ u32At s 4 → c ≡ u32At s 8 → d ≡ u32At s 12
-    → (a * 536870909 + b * 433494437 + c * 479001599 + d * 387420489) / 16777216 % 1024 ≡ nameMark s
+    → (a * 483130339 + b * 407823575 + c * 476453121 + d * 347328907) / 4194304 % 1024 ≡ nameMark s
 unfolding nameMark
 name-mark-is s a b c d ea eb ec ed = rw (ea, eb, ec, ed)
 
