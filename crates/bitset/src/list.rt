@@ -3,22 +3,24 @@ ghost use mathlib.Core.Path.{_≡_};
 ghost use Rattle.netlink.specs.Attributes.{attributes};
 ghost use Rattle.bitset.specs.Bitset.{judgedAs};
 ghost use Rattle.bitset.specs.BitList.{byIndex, byName, identified, partsReading, bitReading, bitsReading, listReading, listJudged};
+ghost use Rattle.netlink.specs.Walk.{absent, found};
 ghost use Rattle.entries.specs.Entry.{count};
+ghost use Rattle.entries.specs.Chain.{IndexedIf};
 use crate::form::Form;
 use crate::form::Judged;
 use crate::form::Judgement;
-use crate::form::listed;
 use crate::form::refused;
 use crate::form::under_nomask;
 use crate::policies::INDEX;
 use crate::policies::NAME;
-use crate::policies::ON;
-use crate::policies::bit_policy;
+use crate::policies::bit_rule;
 use crate::policies::bits_policy;
 use netlink::attributes::AttributeRead;
 use netlink::attributes::payload;
 use netlink::attributes::place;
 use netlink::attributes::read_attribute;
+use netlink::policy::Fault;
+use netlink::policy::Verdict;
 use netlink::walk::Slot;
 use netlink::walk::Stop;
 use netlink::walk::slot_number;
@@ -44,6 +46,26 @@ pub enum BitRead {
     Refused(Refusal),
 }
 
+fn absent() -> Slot
+    ensures { λ r. ⌜ r ≡ absent ⌝ }
+{
+    Slot {
+        present: false,
+        start: 0,
+        end: 0,
+    }
+}
+
+fn found(start: usize, end: usize) -> Slot
+    ensures { λ r. ⌜ r ≡ found start end ⌝ }
+{
+    Slot {
+        present: true,
+        start,
+        end,
+    }
+}
+
 fn by_index(s: &[u8], n: usize, index: Slot) -> Looked
     ensures { λ r. ⌜ r ≡ byIndex (now (s .entry)) n index ⌝ }
 {
@@ -54,12 +76,13 @@ fn by_index(s: &[u8], n: usize, index: Slot) -> Looked
     Looked::Up(Identity::Number(number))
 }
 
-fn by_name(s: &[u8], names: &[u8], name: Slot) -> Looked
+fn by_name(s: &[u8], names: &[u8], indexed: bool, head: &[u16], links: &[u16], name: Slot) -> Looked
+    requires { ⌜ IndexedIf indexed (now names) (now head) (now links) ⌝ }
     ensures { λ r. ⌜ r ≡ byName (now (s .entry)) (now (names .entry)) name ⌝ }
 {
     let start = name.start;
     let end = name.end;
-    let lookup = names::find_name(names, payload(s, start, end));
+    let lookup = names::look_up(names, indexed, head, links, payload(s, start, end));
     if lookup.found {
         return Looked::Up(Identity::Number(lookup.bit));
     }
@@ -67,23 +90,43 @@ fn by_name(s: &[u8], names: &[u8], name: Slot) -> Looked
 }
 
 // INDEX decides where both stand.
-fn identify(s: &[u8], names: &[u8], index: Slot, name: Slot) -> Looked
+fn identify(
+    s: &[u8],
+    names: &[u8],
+    indexed: bool,
+    head: &[u16],
+    links: &[u16],
+    index: Slot,
+    name: Slot,
+) -> Looked
+    requires { ⌜ IndexedIf indexed (now names) (now head) (now links) ⌝ }
     ensures { λ r. ⌜ r ≡ identified (now (s .entry)) (now (names .entry)) index name ⌝ }
 {
     if index.present {
         return by_index(s, names::count(names), index);
     }
     if name.present {
-        return by_name(s, names, name);
+        return by_name(s, names, indexed, head, links, name);
     }
     Looked::Up(Identity::Neither)
 }
 
 // Judges the parts of the BIT that stands at `at`.
-fn judge_parts(s: &[u8], names: &[u8], at: usize, index: Slot, name: Slot, on: Slot) -> BitRead
+fn judge_parts(
+    s: &[u8],
+    names: &[u8],
+    indexed: bool,
+    head: &[u16],
+    links: &[u16],
+    at: usize,
+    index: Slot,
+    name: Slot,
+    on: Slot,
+) -> BitRead
+    requires { ⌜ IndexedIf indexed (now names) (now head) (now links) ⌝ }
     ensures { λ r. ⌜ r ≡ partsReading (now (s .entry)) (now (names .entry)) at index name on ⌝ }
 {
-    match identify(s, names, index, name) {
+    match identify(s, names, indexed, head, links, index, name) {
         Looked::Refused(why) => BitRead::Refused(why),
         Looked::Up(identity) => {
             let Identity::Number(number) = identity else {
@@ -97,42 +140,84 @@ fn judge_parts(s: &[u8], names: &[u8], at: usize, index: Slot, name: Slot, on: S
     }
 }
 
-// Judges the BIT whose contents are the bytes of s from `from` on.
-fn judge_bit(s: &[u8], names: &[u8], from: usize) -> BitRead
+// Judges the BIT whose contents are the bytes of s from `from` on: walks it whole, keeping only the slots of its three types.
+fn judge_bit(
+    s: &[u8],
+    names: &[u8],
+    indexed: bool,
+    head: &[u16],
+    links: &[u16],
+    from: usize,
+) -> BitRead
+    requires { ⌜ IndexedIf indexed (now names) (now head) (now links) ⌝ }
     ensures { λ r. ⌜ r ≡ bitReading (now (s .entry)) (now (names .entry)) from ⌝ }
 {
-    let walked = walk(bit_policy(), s, from);
-    let stop = walked.stop;
-    if let Stop::At { fault, at } = stop {
-        return BitRead::Refused(of_fault(fault, at));
+    let mut index = absent();
+    let mut name = absent();
+    let mut on = absent();
+    let mut at = from;
+    loop {
+        match read_attribute(s, at) {
+            AttributeRead::End => {
+                return judge_parts(s, names, indexed, head, links, place(from), index, name, on);
+            }
+            AttributeRead::Broken => {
+                return BitRead::Refused(of_fault(Fault::Length, at));
+            }
+            AttributeRead::Attribute {
+                kind,
+                bits,
+                start,
+                end,
+                next: after,
+            } => match netlink::policy::judge(bit_rule(kind), bits, payload(s, start, end)) {
+                Verdict::Wrong(fault) => {
+                    return BitRead::Refused(of_fault(fault, at));
+                }
+                Verdict::Right => {
+                    at = after;
+                    if kind == INDEX as u16 {
+                        index = found(start, end);
+                        continue;
+                    }
+                    if kind == NAME as u16 {
+                        name = found(start, end);
+                        continue;
+                    }
+                    on = found(start, end);
+                }
+            },
+        }
     }
-    let index = walked.slots[INDEX];
-    let name = walked.slots[NAME];
-    let on = walked.slots[ON];
-    judge_parts(s, names, place(from), index, name, on)
 }
 
 // Judges each BIT in turn, and lists its bit. No setting moves before all are judged.
-fn judge_bits(s: &[u8], names: &[u8], from: usize) -> Judged
+fn judge_bits(
+    s: &[u8],
+    names: &[u8],
+    indexed: bool,
+    head: &[u16],
+    links: &[u16],
+    from: usize,
+) -> Judged
+    requires { ⌜ IndexedIf indexed (now names) (now head) (now links) ⌝ }
     ensures { λ r. ⌜ r ≡ listJudged (bitsReading (now (s .entry)) (now (names .entry)) (attributes (now (s .entry)) from)) ⌝ }
 {
-    let mut form = Form {
-        mask: [0; 16],
-        value: [0; 16],
-    };
+    let mut mask = [0u32; 16];
+    let mut value = [0u32; 16];
     let mut at = from;
     loop {
         match read_attribute(s, at) {
             AttributeRead::End => {
                 return Judged {
                     judgement: Judgement::Accepted,
-                    form,
+                    form: Form { mask, value },
                 };
             }
             AttributeRead::Broken => {
                 return Judged {
                     judgement: Judgement::Accepted,
-                    form,
+                    form: Form { mask, value },
                 };
             }
             AttributeRead::Attribute {
@@ -141,12 +226,13 @@ fn judge_bits(s: &[u8], names: &[u8], from: usize) -> Judged
                 start,
                 end,
                 next,
-            } => match judge_bit(payload(s, 0, end), names, start) {
+            } => match judge_bit(payload(s, 0, end), names, indexed, head, links, start) {
                 BitRead::Refused(why) => {
                     return refused(why);
                 }
                 BitRead::Bit { number, on } => {
-                    form = listed(form, number, on);
+                    bits::put_bit(&mut mask, number, true);
+                    bits::put_bit(&mut value, number, on);
                     at = next;
                 }
             },
@@ -166,7 +252,10 @@ pub fn judge_list(s: &[u8], names: &[u8], nomask: Slot, bits: Slot) -> Judged
     if let Stop::At { fault, at } = stop {
         return refused(of_fault(fault, at));
     }
-    let judged = judge_bits(contents, names, start);
+    let mut head = [0u16; 1025];
+    let mut links = [0u16; 512];
+    let indexed = names::index(names, &mut head, &mut links);
+    let judged = judge_bits(contents, names, indexed, &head, &links, start);
     if nomask.present {
         return under_nomask(judged, names::count(names));
     }

@@ -1,5 +1,6 @@
 // What stands in a bitset, in its BITS and in a BIT.
 ghost use mathlib.Core.Path.{_≡_};
+ghost use Rattle.netlink.specs.Policy.{ruleOf};
 ghost use Rattle.bitset.specs.Policies.{bitsetPolicy, bitsPolicy, bitPolicy};
 use netlink::policy::Rule;
 
@@ -51,17 +52,14 @@ pub fn bits_policy() -> [Rule; 8]
     ]
 }
 
-pub fn bit_policy() -> [Rule; 8]
-    ensures { λ r. ⌜ r ≡ bitPolicy ⌝ }
+// The rule for a type in a BIT.
+pub fn bit_rule(kind: u16) -> Rule
+    ensures { λ r. ⌜ r ≡ ruleOf bitPolicy kind ⌝ }
 {
-    [
-        Rule::Unlisted,
-        Rule::Number,
-        Rule::Name(32),
-        Rule::Flag,
-        Rule::Unlisted,
-        Rule::Unlisted,
-        Rule::Unlisted,
-        Rule::Unlisted,
-    ]
+    match kind {
+        1 => Rule::Number,
+        2 => Rule::Name(32),
+        3 => Rule::Flag,
+        _ => Rule::Unlisted,
+    }
 }

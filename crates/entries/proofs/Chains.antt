@@ -16,26 +16,48 @@ use Rattle.basics.proofs.Order.{lt-or-ge}
 use Rattle.basics.proofs.Scan.{all-none, all-more, all-fails, all-done, all-of}
 use Rattle.basics.proofs.Truth.{false-of}
 use Rattle.entries.specs.Entry.{count, entryAt, same, differs, entryNew, distinct}
-use Rattle.entries.specs.Chain.{folded, spread, hashOf, lastOf, HeadRight, NextRight}
-use Rattle.entries.proofs.Entries.{entry-length, entry-first, entry-eight, same-equal}
+use Rattle.entries.specs.Chain.{folded, spread, hashOf, lastOf, HeadRight, NextRight, Indexed}
+use Rattle.entries.proofs.Entries.{entry-length, entry-first, entry-eight, same-bytes, same-eight, same-equal}
 
 -- the hash as the code computes it
+module _ (e : List ℕ) where
+  pub hash-none : (b : ℕ) → b ≡ getD e 0 0 → b ≡ 0 → 1024 ≡ hashOf e
+  unfolding hashOf
+  hash-none b eb z = sym (rw (eq-eqb _ 0 (sym eb ∙ z)))
+
+  pub hash-all : (f a b c d x r : ℕ) → f ≡ getD e 0 0 → (f ≡ 0 → ⊥) → a ≡ u64At e 0 → b ≡ u64At e 8 → c ≡ u64At e 16 → d ≡ u64At e 24
+      → x ≡ folded a b c d → r ≡ spread x → r ≡ hashOf e
+  unfolding hashOf
+  hash-all f a b c d x r ef n ea eb ec ed ex er =
+      er ∙ ap spread (ex ∙ ap₂ (λ (g : ℕ → ℕ → ℕ) (y : ℕ). g c y) (ap₂ folded ea eb) ed ∙ ap (λ (z : ℕ). folded (u64At e 0) (u64At e 8) z (u64At e 24)) ec)
+      ∙ sym (rw (ne-eqb _ 0 (λ (q : getD e 0 0 ≡ 0). n (ef ∙ q))))
+
+-- of an entry in its list
 module _ (list : List ℕ) (i : ℕ) (h : i < count list) where
   pub hash-empty : getD list (i * 32) 0 ≡ 0 → 1024 ≡ hashOf (entryAt list i)
-  unfolding hashOf
-  hash-empty z = sym (rw (eq-eqb _ 0 (entry-first list i h ∙ z)))
+  hash-empty z = hash-none (entryAt list i) _ (sym (entry-first list i h)) z
 
   pub hash-some : (a b c d x r : ℕ) → (getD list (i * 32) 0 ≡ 0 → ⊥) → a ≡ u64At list (i * 32) → b ≡ u64At list (i * 32 + 8)
       → c ≡ u64At list (i * 32 + 16) → d ≡ u64At list (i * 32 + 24) → x ≡ folded a b c d → r ≡ spread x → r ≡ hashOf (entryAt list i)
-  unfolding hashOf
   hash-some a b c d x r n ea eb ec ed ex er =
       let at : (p k : ℕ) → p + 8 ≤ 32 → i * 32 + p ≡ k → u64At list k ≡ u64At (entryAt list i) p = λ p k l e. sym (entry-eight list i h p k l e) in
-      let fa : a ≡ u64At (entryAt list i) 0 = ea ∙ at 0 (i * 32) (omega arith) (omega arith) in
-      let fb : b ≡ u64At (entryAt list i) 8 = eb ∙ at 8 (i * 32 + 8) (omega arith) refl in
-      let fc : c ≡ u64At (entryAt list i) 16 = ec ∙ at 16 (i * 32 + 16) (omega arith) refl in
-      let fd : d ≡ u64At (entryAt list i) 24 = ed ∙ at 24 (i * 32 + 24) (omega arith) refl in
-      er ∙ ap spread (ex ∙ ap₂ (λ (f : ℕ → ℕ → ℕ) (y : ℕ). f c y) (ap₂ folded fa fb) fd ∙ ap (λ (z : ℕ). folded (u64At (entryAt list i) 0) (u64At (entryAt list i) 8) z (u64At (entryAt list i) 24)) fc)
-      ∙ sym (rw (ne-eqb _ 0 (λ (q : getD (entryAt list i) 0 0 ≡ 0). n (sym (entry-first list i h) ∙ q))))
+      hash-all (entryAt list i) _ a b c d x r (sym (entry-first list i h)) n
+      (ea ∙ at 0 (i * 32) (omega arith) (omega arith))
+      (eb ∙ at 8 (i * 32 + 8) (omega arith) refl)
+      (ec ∙ at 16 (i * 32 + 16) (omega arith) refl)
+      (ed ∙ at 24 (i * 32 + 24) (omega arith) refl)
+      ex er
+
+-- the same names have the same hash
+pub hash-same : (a b : List ℕ) → same a b ≡ true → hashOf a ≡ hashOf b
+unfolding hashOf
+hash-same a b s =
+    ap₂ (λ (t : Bool) (x : ℕ). cond t 1024 (spread x)) (ap (λ (x : ℕ). eqb x 0) (same-bytes a b 0 s (omega arith)))
+    (ap₂ (λ (f : ℕ → ℕ → ℕ) (y : ℕ). f (u64At a 16) y) (ap₂ folded (word 0 (omega arith)) (word 8 (omega arith))) (word 24 (omega arith))
+    ∙ ap (λ (z : ℕ). folded (u64At b 0) (u64At b 8) z (u64At b 24)) (word 16 (omega arith)))
+  where
+    word : (p : ℕ) → p + 8 ≤ 32 → u64At a p ≡ u64At b p
+    word p l = same-eight a b p s l
 
 -- entries of other hashes differ
 differ-hash : (list : List ℕ) (i k : ℕ) → i < count list → k < count list → (hashOf (entryAt list k) ≡ hashOf (entryAt list i) → ⊥) → differs list i k ≡ true
@@ -47,7 +69,7 @@ differ-hash list i k hi hk n =
 
 module _ (list : List ℕ) (h : ℕ) where
   -- none of the hash from the last one to the bound
-  last-none : (i k : ℕ) → lastOf list h i ≤ k → k < i → hashOf (entryAt list k) ≡ h → ⊥
+  pub last-none : (i k : ℕ) → lastOf list h i ≤ k → k < i → hashOf (entryAt list k) ≡ h → ⊥
   unfolding lastOf
   last-none zero k l u e = omega arith
   last-none (suc i) k l u e =
@@ -73,7 +95,7 @@ module _ (list : List ℕ) (h : ℕ) where
       go false q = omega arith
 
   -- the last one is its own last one, and has the hash
-  last-fix : (i : ℕ) → lastOf list h (lastOf list h i) ≡ lastOf list h i
+  pub last-fix : (i : ℕ) → lastOf list h (lastOf list h i) ≡ lastOf list h i
   unfolding lastOf
   last-fix zero = refl
   last-fix (suc i) = go (eqb (hashOf (entryAt list i)) h) refl (last-fix i)
@@ -83,7 +105,7 @@ module _ (list : List ℕ) (h : ℕ) where
       go true e q = rw e
       go false e q = q
 
-  last-hash : (j : ℕ) → lastOf list h (suc j) ≡ suc j → hashOf (entryAt list j) ≡ h
+  pub last-hash : (j : ℕ) → lastOf list h (suc j) ≡ suc j → hashOf (entryAt list j) ≡ h
   unfolding lastOf
   last-hash j e = go (eqb (hashOf (entryAt list j)) h) refl e
     where
@@ -201,6 +223,18 @@ linked-more list head next i h b l u e v eb z = record {
   head-length = length-set head h (i + 1) ∙ l .head-length;
   next-length = length-set next i (getD head h 0) ∙ l .next-length;
 }
+
+pub linked-index : (list head next : List ℕ) (i : ℕ) → Linked list head next i → i ≤ count list → count list ≤ i → count list ≤ 512 → Indexed list head next
+unfolding distinct
+linked-index list head next i l h u r =
+    let k : i ≡ count list = omega arith in
+    record {
+      heads = rw k at l .heads;
+      nexts = rw k at l .nexts;
+      apart = rw k at l .new;
+      head-length = l .head-length;
+      next-room = let n = l .next-length in omega arith;
+    }
 
 pub linked-done : (list head next : List ℕ) (i : ℕ) → Linked list head next i → i ≤ count list → count list ≤ i → true ≡ distinct list
 unfolding distinct

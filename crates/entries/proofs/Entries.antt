@@ -55,6 +55,13 @@ pub same-bytes : (a b : List ℕ) (j : ℕ) → same a b ≡ true → j < 32 →
 unfolding same sameByte
 same-bytes a b j h l = eqb-true _ _ (all-each (sameByte a b) 32 j h l)
 
+pub same-eight : (a b : List ℕ) (p : ℕ) → same a b ≡ true → p + 8 ≤ 32 → u64At a p ≡ u64At b p
+unfolding u32At
+same-eight a b p s l =
+    let byte : (j : ℕ) → j < 32 → getD a j 0 ≡ getD b j 0 = λ j u. same-bytes a b j s u in
+    rw
+    (byte p (omega arith), byte (p + 1) (omega arith), byte (p + 2) (omega arith), byte (p + 3) (omega arith), byte (p + 4) (omega arith), byte (p + 4 + 1) (omega arith), byte (p + 4 + 2) (omega arith), byte (p + 4 + 3) (omega arith))
+
 pub same-of : (a b : List ℕ) → ((j : ℕ) → j < 32 → getD a j 0 ≡ getD b j 0) → same a b ≡ true
 unfolding same sameByte
 same-of a b h = all-of (sameByte a b) 32 (λ j l. eq-eqb _ _ (h j l))

@@ -1,13 +1,13 @@
 -- How equal entries are found: each entry leads to the last one before it that has the same hash. No promise rests on the hash.
-use Prim.Native.Nat.{ℕ, zero, suc, _+_, _-_, _*_, _/_, _%_, _^_, _<_}
+use Prim.Native.Nat.{ℕ, zero, suc, _+_, _-_, _*_, _/_, _%_, _^_, _<_, _≤_}
 use mathlib.Core.Path.{_≡_}
-use mathlib.Core.Bool.{cond}
+use mathlib.Core.Bool.{Bool, true, cond}
 use mathlib.Core.List.{List}
-use lib.ListN.{getD}
+use lib.ListN.{length, getD}
 use lib.Bits.{bitOr, bitXor}
 use lib.Dec.{eqb}
 use Rattle.basics.specs.Numbers.{u64At}
-use Rattle.entries.specs.Entry.{entryAt, isEmpty}
+use Rattle.entries.specs.Entry.{count, entryAt, isEmpty, distinct}
 
 -- a number of 64 bits turned by k bits
 abbrev pub turned : ℕ → ℕ → ℕ
@@ -37,3 +37,15 @@ HeadRight list head i = (h : ℕ) → h < 1025 → getD head h 0 ≡ lastOf list
 -- next holds, for each entry below i, the one before it in its chain
 abbrev pub NextRight : List ℕ → List ℕ → ℕ → Type 0
 NextRight list next i = (j : ℕ) → j < i → getD next j 0 ≡ lastOf list (hashOf (entryAt list j)) j
+
+-- the tables lead to every entry of a list whose entries are distinct
+pub record Indexed (list head next : List ℕ) : Type 0 where
+  pub heads : HeadRight list head (count list)
+  pub nexts : NextRight list next (count list)
+  pub apart : distinct list ≡ true
+  pub head-length : length head ≡ 1025
+  pub next-room : count list ≤ length next
+
+-- so they do if a test says yes
+abbrev pub IndexedIf : Bool → List ℕ → List ℕ → List ℕ → Type 0
+IndexedIf b list head next = b ≡ true → Indexed list head next

@@ -1,15 +1,17 @@
 // Whether the entries are distinct, in time linear in the list where the hash spreads them.
+use crate::byte_at;
 use crate::same::eight;
+use crate::same::eight_or_less;
 use crate::same::same_entry;
 ghost use mathlib.Core.Path.{_≡_};
 ghost use Prim.Native.Nat.{_/_, _≤_, _<_};
 ghost use lib.ListN.{length};
 ghost use Rattle.basics.specs.Scan.{all};
 ghost use Rattle.entries.specs.Entry.{entryAt, differs, entryNew, distinct};
-ghost use Rattle.entries.specs.Chain.{folded, spread, hashOf, lastOf, HeadRight, NextRight};
+ghost use Rattle.entries.specs.Chain.{folded, spread, hashOf, lastOf, HeadRight, NextRight, IndexedIf};
 
 // A place in a table as an index.
-fn place(x: u16) -> usize
+pub fn place(x: u16) -> usize
     ensures { λ r. ⌜ r ≡ x ⌝ }
 {
     x as usize
@@ -42,6 +44,20 @@ fn hash(list: &[u8], i: usize) -> usize
     let b = eight(list, at + 8);
     let c = eight(list, at + 16);
     let d = eight(list, at + 24);
+    chain_of(fold(a, b, c, d))
+}
+
+// The chain of a name, which may end in NULs.
+pub fn hash_of(name: &[u8]) -> usize
+    ensures { λ r. ⌜ (r ≡ hashOf (now (name .entry))) × (r < 1025) ⌝ }
+{
+    if byte_at(name, 0) == 0 {
+        return 1024;
+    }
+    let a = eight_or_less(name, 0);
+    let b = eight_or_less(name, 8);
+    let c = eight_or_less(name, 16);
+    let d = eight_or_less(name, 24);
     chain_of(fold(a, b, c, d))
 }
 
@@ -78,11 +94,12 @@ fn entry_new(list: &[u8], next: &[u16], i: usize, start: usize) -> bool
     chain_new(list, next, i, start)
 }
 
-// Whether the entries are distinct. Room: `head`, a place for each hash; `next`, one for each entry.
-fn distinct_in(list: &[u8], head: &mut [u16], next: &mut [u16]) -> bool
+// Whether the entries are distinct; if they are, the tables lead to each. Room: `head`, a place for each hash; `next`, one for each entry.
+pub fn distinct_in(list: &[u8], head: &mut [u16], next: &mut [u16]) -> bool
     requires { ⌜ (length (now head) ≡ 1025) × (length (now next) ≡ 512) × (length (now list) / 32 ≤ 512) ⌝ }
     requires { ⌜ HeadRight (now list) (now head) 0 ⌝ }
     ensures { λ r. ⌜ r ≡ distinct (now (list .entry)) ⌝ }
+    ensures { λ r. ⌜ IndexedIf r (now (list .entry)) (now (head .exit)) (now (next .exit)) ⌝ }
 {
     for i in 0..list.len() / 32 {
         let h = hash(list, i);

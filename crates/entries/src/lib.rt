@@ -4,7 +4,15 @@ mod same;
 
 pub use chain::all_distinct;
 ghost use mathlib.Core.Path.{_≡_};
+ghost use lib.ListN.{getD};
 ghost use Rattle.entries.specs.Entry.{count as countOf, entryAt};
+
+// The byte at a place, 0 past the end.
+pub fn byte_at(s: &[u8], at: usize) -> u8
+    ensures { λ r. ⌜ r ≡ getD (now (s .entry)) at 0 ⌝ }
+{
+    if at < s.len() { s[at] } else { 0 }
+}
 
 // The whole entries of a list.
 pub fn count(list: &[u8]) -> usize

@@ -1,4 +1,5 @@
 // Whether two entries are the same.
+use crate::byte_at;
 ghost use mathlib.Core.Path.{_≡_};
 ghost use Prim.Native.Nat.{_+_, _/_, _≤_, _<_};
 ghost use lib.Dec.{eqb};
@@ -30,6 +31,28 @@ pub fn eight(list: &[u8], at: usize) -> u64
     ensures { λ r. ⌜ r ≡ u64At (now (list .entry)) at ⌝ }
 {
     four(list, at) + four(list, at + 4) * 4294967296
+}
+
+// The number in the four bytes from `at` on, of which some may lie past the end.
+fn four_or_less(s: &[u8], at: usize) -> u64
+    requires { ⌜ at < 256 ⌝ }
+    ensures { λ r. ⌜ (r ≡ u32At (now (s .entry)) at) × (r < 4294967296) ⌝ }
+{
+    wide(byte_at(s, at))
+        + wide(byte_at(s, at + 1)) * 256
+        + wide(byte_at(s, at + 2)) * 65536
+        + wide(byte_at(s, at + 3)) * 16777216
+}
+
+// The number in the eight bytes from `at` on, of which some or all may lie past the end.
+pub fn eight_or_less(s: &[u8], at: usize) -> u64
+    requires { ⌜ at < 128 ⌝ }
+    ensures { λ r. ⌜ r ≡ u64At (now (s .entry)) at ⌝ }
+{
+    if s.len() < at + 8 {
+        return four_or_less(s, at) + four_or_less(s, at + 4) * 4294967296;
+    }
+    eight(s, at)
 }
 
 // Whether the eight bytes from `a` on are those from `b` on.

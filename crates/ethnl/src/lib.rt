@@ -11,6 +11,9 @@ use refusal::Refusal;
 // The most bytes that settings can have: 64 ports, two sets of 512 bits each.
 pub const SETTINGS: usize = 8192;
 
+// So few words get room of their own size: to clear room for all that a box can have would cost as much as a small call.
+const FEW: usize = 64;
+
 // Writes the normal form of a bitset's contents to the page. Returns document 01's number, 0 if accepted.
 #[no_mangle]
 pub extern "C" fn ethnl_normalise(
@@ -89,6 +92,21 @@ fn handle_bytes<'a>(
         return box_broken(position);
     }
     let n = settings.len() / 4;
+    if n <= FEW {
+        let mut few = [0u32; FEW];
+        return handle_in(
+            family,
+            admin,
+            roll,
+            debug,
+            flags,
+            settings,
+            &mut few[..n],
+            datagram,
+            position,
+            page,
+        );
+    }
     let mut words = [0u32; 2048];
     handle_in(
         family,

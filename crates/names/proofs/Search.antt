@@ -14,7 +14,7 @@ use Rattle.basics.specs.Scan.{all, first}
 use Rattle.basics.proofs.Order.{lt-or-ge}
 use Rattle.basics.proofs.Scan.{all-none, all-more, all-fails, first-none, first-more, first-at, first-is}
 use Rattle.basics.proofs.Truth.{false-of, clash}
-use Rattle.entries.specs.Entry.{count, entryAt, sameByte, same, isEmpty}
+use Rattle.entries.specs.Entry.{count, entryAt, sameByte, same, isEmpty, distinct}
 use Rattle.entries.proofs.Entries.{entry-byte, entry-length, same-bytes, same-of, distinct-one}
 use Rattle.names.specs.Rule.{namesRight}
 use Rattle.names.specs.Search.{isName, noName, notFound, foundAt, lookup}
@@ -47,10 +47,13 @@ module _ (names name : List ℕ) where
   unfolding sameByte
   same-more i j y h l s e q = all-more _ j s (eq-eqb _ _ (entry-byte names i h j l ∙ q ∙ e))
 
-  pub none-more : (i j y : ℕ) → i < count names → j < 32 → NoneBefore i → y ≡ getD name j 0 → (getD names (i * 32 + j) 0 ≡ y → ⊥) → NoneBefore (i + 1)
+  -- an entry of which a byte differs
+  pub name-other : (i j y : ℕ) → i < count names → j < 32 → y ≡ getD name j 0 → (getD names (i * 32 + j) 0 ≡ y → ⊥) → isName names name i ≡ false
   unfolding isName same sameByte
-  none-more i j y h l s e n =
-      first-more _ i s (all-fails _ 32 j l (ne-eqb _ _ (λ q. n (sym (entry-byte names i h j l) ∙ q ∙ sym e))))
+  name-other i j y h l e n = all-fails _ 32 j l (ne-eqb _ _ (λ q. n (sym (entry-byte names i h j l) ∙ q ∙ sym e)))
+
+  pub none-more : (i j y : ℕ) → i < count names → j < 32 → NoneBefore i → y ≡ getD name j 0 → (getD names (i * 32 + j) 0 ≡ y → ⊥) → NoneBefore (i + 1)
+  none-more i j y h l s e n = first-more _ i s (name-other i j y h l e n)
 
   module _ (b : ℕ) (e : b ≡ getD name 0 0) (z : b ≡ 0 → ⊥) (s : length name ≤ 32) where
     named : noName name ≡ false
@@ -87,34 +90,44 @@ module _ (names name : List ℕ) where
       go false false e h = absurd (clash h refl)
       go false true e h = (ltb-true _ _ e, first-is (isName names name) (count names) (ltb-true _ _ e))
 
-  -- in a right list it is the only one: a name that equals entry i is found there
-  pub lookup-one : namesRight names ≡ true → noName name ≡ false → (i : ℕ) → i < count names → same (entryAt names i) name ≡ true → lookup names name ≡ foundAt i
+  -- none before k is the name
+  none-until : (k : ℕ) → ((j : ℕ) → j < k → isName names name j ≡ false) → first k (isName names name) ≡ k
+  none-until zero f = first-none (isName names name)
+  none-until (suc k) f =
+      ap (λ (x : ℕ). first x (isName names name)) (sym (add-one k)) ∙ first-more (isName names name) k (none-until k (λ j l. f j (omega arith))) (f k (omega arith)) ∙ add-one k
+
+  -- in a list of distinct names it is the only one: a name that equals entry i is found there
+  pub lookup-one : distinct names ≡ true → noName name ≡ false → (i : ℕ) → i < count names → same (entryAt names i) name ≡ true → lookup names name ≡ foundAt i
   unfolding lookup isName noName
-  lookup-one right n i h s =
-      let f : first (count names) (isName names name) ≡ i = first-at (isName names name) (count names) i h (before i (omega arith)) s in
+  lookup-one apart n i h s =
+      let f : first (count names) (isName names name) ≡ i = first-at (isName names name) (count names) i h (none-until i alone) s in
       rw (n, f, lt-ltb i (count names) h)
     where
       alone : (k : ℕ) → k < i → same (entryAt names k) name ≡ false
       alone k l =
           false-of (same (entryAt names k) name)
           (λ e. let z : i ≡ k =
-          distinct-one names (right-means names right .apart) i k h (omega arith) (ap (λ (x : ℕ). eqb x 0) (same-bytes (entryAt names i) name 0 s (omega arith)) ∙ some) (same-of (entryAt names i) (entryAt names k) (λ j u. same-bytes (entryAt names i) name j s u ∙ sym (same-bytes (entryAt names k) name j e u))) in
+          distinct-one names apart i k h (omega arith) (ap (λ (x : ℕ). eqb x 0) (same-bytes (entryAt names i) name 0 s (omega arith)) ∙ some) (same-of (entryAt names i) (entryAt names k) (λ j u. same-bytes (entryAt names i) name j s u ∙ sym (same-bytes (entryAt names k) name j e u))) in
           omega arith)
         where
           some : isEmpty name ≡ false
           some = false-of (isEmpty name) (λ e. clash (rw e) n)
 
-      before : (k : ℕ) → k ≤ i → first k (isName names name) ≡ k
-      before zero l = first-none (isName names name)
-      before (suc k) l =
-          ap (λ (x : ℕ). first x (isName names name)) (sym (add-one k)) ∙ first-more (isName names name) k (before k (omega arith)) (alone k (omega arith)) ∙ add-one k
+-- as the search along a chain ends
+module _ (names name : List ℕ) (b : ℕ) (e : b ≡ getD name 0 0) (z : b ≡ 0 → ⊥) (s : length name ≤ 32) where
+  pub name-alone : distinct names ≡ true → (i j : ℕ) → i < count names → SameBefore names name i j → j ≤ 32 → 32 ≤ j → foundAt i ≡ lookup names name
+  unfolding same
+  name-alone d i j h t u v = let k : j ≡ 32 = omega arith in sym (lookup-one names name d (named names name b e z s) i h (rw k at t))
+
+  pub name-gone : ((k : ℕ) → k < count names → isName names name k ≡ false) → notFound ≡ lookup names name
+  name-gone f = name-none names name b e z s (count names) (none-until names name (count names) f) (omega arith) (omega arith)
 
 -- the name of entry i, with all, some or none of the NULs that follow it, is found there
 pub lookup-name : (names : List ℕ) → namesRight names ≡ true → (i k : ℕ) → i < count names → isEmpty (entryAt names i) ≡ false → 0 < k
     → ((j : ℕ) → k ≤ j → j < 32 → getD (entryAt names i) j 0 ≡ 0) → lookup names (take k (entryAt names i)) ≡ foundAt i
 unfolding noName
 lookup-name names right i k h e p z =
-    lookup-one names (take k (entryAt names i)) right
+    lookup-one names (take k (entryAt names i)) (right-means names right .apart)
     (rw (first ∙ e, le-ltb 32 (length (take k (entryAt names i))) (omega (arith, length-take k (entryAt names i), entry-length names i h))))
     i h (same-of (entryAt names i) (take k (entryAt names i)) bytes)
   where

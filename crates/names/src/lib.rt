@@ -1,24 +1,20 @@
 // Lists of names, 32 bytes an entry: their rule, and the search for a name.
+pub mod indexed;
 pub mod rule;
 
+use entries::byte_at;
 pub use entries::count;
 pub use entries::entry;
+pub use indexed::index;
+pub use indexed::look_up;
 pub use rule::names_right;
 ghost use mathlib.Core.Path.{_≡_};
-ghost use lib.ListN.{getD};
 ghost use Rattle.names.specs.Search.{lookup};
 
 // What a search found: whether there is such an entry, and which bit it names (0 where there is none).
 pub struct Lookup {
     pub found: bool,
     pub bit: usize,
-}
-
-// The byte at a place, 0 past the end.
-fn byte_at(s: &[u8], at: usize) -> u8
-    ensures { λ r. ⌜ r ≡ getD (now (s .entry)) at 0 ⌝ }
-{
-    if at < s.len() { s[at] } else { 0 }
 }
 
 // The entry that equals the name, which may end in NULs. The search passes to the next entry at the first byte that differs.

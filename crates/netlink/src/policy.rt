@@ -1,6 +1,9 @@
 // What an attribute of each type must be, and whether one is: the netlink policy.
 ghost use mathlib.Core.Path.{_≡_};
-ghost use Rattle.netlink.specs.Policy.{nulAt, isName, plain, nested, ruleOf, judged, numberOf};
+ghost use Prim.Native.Nat.{_+_, _≤_};
+ghost use lib.ListN.{length};
+ghost use Rattle.basics.specs.Scan.{any};
+ghost use Rattle.netlink.specs.Policy.{nulAt, NulFrom, isNul, isName, plain, nested, ruleOf, judged, numberOf};
 
 // The rule for the payload of a type: a nest must carry the nest bit, the others no bit.
 pub enum Rule {
@@ -41,11 +44,37 @@ impl Fault {
     }
 }
 
+// Whether one of the eight bytes from `at` on is NUL. No early exit: all are compared at once.
+fn some_nul(s: &[u8], at: usize) -> bool
+    requires { ⌜ at + 8 ≤ length (now s) ⌝ }
+    ensures { λ r. ⌜ r ≡ any 8 (isNul (now (s .entry)) at) ⌝ }
+{
+    let mut some = false;
+    for j in 0..8 {
+        some = some | (s[at + j] == 0);
+    }
+    some
+}
+
+// How many bytes before the first NUL are passed eight at a time.
+fn nul_free(s: &[u8]) -> usize
+    ensures { λ r. ⌜ (r ≤ length (now (s .entry))) × NulFrom (now (s .entry)) r ⌝ }
+{
+    let mut i = 0;
+    while 8 <= s.len() - i {
+        if some_nul(s, i) {
+            return i;
+        }
+        i += 8;
+    }
+    i
+}
+
 // Where the first NUL stands, the length where there is none.
 pub fn nul_at(s: &[u8]) -> usize
     ensures { λ r. ⌜ r ≡ nulAt (now (s .entry)) ⌝ }
 {
-    let mut i = 0;
+    let mut i = nul_free(s);
     while i < s.len() {
         if s[i] == 0 {
             return i;

@@ -65,7 +65,11 @@ fn stopped(fault: Fault, at: usize) -> Walked
 pub fn walk(policy: [Rule; 8], s: &[u8], from: usize) -> Walked
     ensures { λ r. ⌜ r ≡ walked policy (now (s .entry)) from ⌝ }
 {
-    let mut slots = no_slots();
+    let mut slots = [Slot {
+        present: false,
+        start: 0,
+        end: 0,
+    }; 8];
     let mut at = from;
     loop {
         match read_attribute(s, at) {

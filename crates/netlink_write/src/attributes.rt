@@ -5,6 +5,7 @@ ghost use mathlib.Core.List.{[]};
 ghost use lib.ListN.{length};
 ghost use Rattle.basics.specs.Numbers.{le32};
 ghost use Rattle.basics.specs.Put.{put};
+ghost use Rattle.netlink.specs.Policy.{nulAt};
 ghost use Rattle.netlink_write.specs.Page.{Wrote};
 ghost use Rattle.netlink_write.specs.Headers.{attributeHeaderBytes};
 ghost use Rattle.netlink_write.specs.Attributes.{attr, filled, nameBytes, identity, numbered};
@@ -34,6 +35,15 @@ pub fn put_name(page: &mut [u8], kind: u16, name: &[u8]) -> usize
     ensures { λ r. ⌜ r ≤ length (now (name .entry)) + 8 ⌝ }
 {
     let n = nul_at(name);
+    put_named(page, kind, name, n)
+}
+
+// The same where it is known that n bytes stand before the first NUL.
+fn put_named(page: &mut [u8], kind: u16, name: &[u8], n: usize) -> usize
+    requires { ⌜ (n ≡ nulAt (now name)) × (length (now name) ≤ 256) × (length (now name) + 8 ≤ length (now page)) ⌝ }
+    ensures { λ r. ⌜ Wrote (attr kind (nameBytes (now (name .entry)))) (now (page .entry)) (now (page .exit)) r ⌝ }
+    ensures { λ r. ⌜ r ≤ length (now (name .entry)) + 8 ⌝ }
+{
     // four bytes of header, and the NUL
     put_stated(page, kind, &name[..n], n + 5)
 }
@@ -124,6 +134,6 @@ fn put_identity(page: &mut [u8], number: u32, name: &[u8]) -> usize
     if n == 0 {
         return 8;
     }
-    let m = put_name(&mut page[8..], 2, name);
+    let m = put_named(&mut page[8..], 2, name, n);
     m + 8
 }

@@ -17,11 +17,38 @@ pub fn put_bytes(page: &mut [u8], bytes: &[u8])
     }
 }
 
+// Up to four zero bytes, one by one: a loop would become a call that costs more.
+fn put_few_zeros(page: &mut [u8], n: usize)
+    requires { ⌜ (n ≤ 4) × (n ≤ length (now page)) ⌝ }
+    ensures { λ _. ⌜ now (page .exit) ≡ put (now (page .entry)) (replicate n 0) ⌝ }
+{
+    if n == 0 {
+        return;
+    }
+    page[0] = 0;
+    if n == 1 {
+        return;
+    }
+    page[1] = 0;
+    if n == 2 {
+        return;
+    }
+    page[2] = 0;
+    if n == 3 {
+        return;
+    }
+    page[3] = 0;
+}
+
 // n zero bytes.
 pub fn put_zeros(page: &mut [u8], n: usize)
     requires { ⌜ n ≤ length (now page) ⌝ }
     ensures { λ _. ⌜ now (page .exit) ≡ put (now (page .entry)) (replicate n 0) ⌝ }
 {
+    if n <= 4 {
+        put_few_zeros(page, n);
+        return;
+    }
     let mut i = 0;
     while i < n {
         page[i] = 0;

@@ -1,6 +1,7 @@
 // The port roll, read record by record: its rule, how many ports it has, and the port of an index or of a name.
 pub mod count;
 pub mod find;
+pub mod marks;
 pub mod name;
 pub mod record;
 pub mod rule;

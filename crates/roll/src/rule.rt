@@ -3,12 +3,16 @@ ghost use mathlib.Core.Path.{_≡_};
 ghost use Rattle.roll.specs.Record.{records};
 ghost use Rattle.roll.specs.Rule.{whole, each, portRight, another, distinct, rollRight};
 use crate::count::ports;
+use crate::marks::many_distinct;
 use crate::name::name_at;
 use crate::name::name_right;
 use crate::name::same_name;
 use crate::record::RecordRead;
 use crate::record::read_record;
 use netlink::numbers::u32_at;
+
+// So many ports are compared pair by pair sooner than by marks.
+const FEW: usize = 8;
 
 // Whether every record is whole and of a known kind.
 fn all_whole(roll: &[u8]) -> bool
@@ -84,7 +88,7 @@ fn is_another(roll: &[u8], index: usize, name: usize, number: u32, field: &[u8])
 }
 
 // Whether each port from a place on has another index and another name.
-fn others(roll: &[u8], from: usize, number: u32, field: &[u8]) -> bool
+pub fn others(roll: &[u8], from: usize, number: u32, field: &[u8]) -> bool
     ensures { λ r. ⌜ r ≡ each (another (now (roll .entry)) number (now (field .entry))) (records (now (roll .entry)) from) ⌝ }
 {
     let mut at = from;
@@ -109,8 +113,8 @@ fn others(roll: &[u8], from: usize, number: u32, field: &[u8]) -> bool
     }
 }
 
-// Whether no two ports have the same index or the same name: each is compared with those after it.
-fn all_distinct(roll: &[u8]) -> bool
+// Whether no two of few ports are alike: each is compared with those after it.
+fn few_distinct(roll: &[u8]) -> bool
     ensures { λ r. ⌜ r ≡ distinct (now (roll .entry)) (records (now (roll .entry)) 0) ⌝ }
 {
     let mut at = 0;
@@ -152,5 +156,8 @@ pub fn roll_right(roll: &[u8]) -> bool
     if !ports_right(roll) {
         return false;
     }
-    all_distinct(roll)
+    if n <= FEW {
+        return few_distinct(roll);
+    }
+    many_distinct(roll)
 }

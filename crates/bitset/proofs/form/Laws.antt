@@ -17,7 +17,7 @@ use Rattle.bits.proofs.Bit.{number-cong, test-zero}
 use Rattle.bits.proofs.Words.{length-wordsOf, getD-wordsOf, has-word}
 use Rattle.refusal.specs.declared.Refusal.{Refusal}
 use Rattle.bitset.specs.Form.{cutAt, both}
-use Rattle.bitset.specs.Bitset.{refusedAs, listedIn, onJudgement, underNomask}
+use Rattle.bitset.specs.Bitset.{refusedAs, onJudgement, underNomask}
 use Rattle.bitset.specs.declared.form.Form.{Form}
 use Rattle.bitset.specs.declared.form.Judgement.{Judgement}
 use Rattle.bitset.specs.declared.form.Judgement.the-variants.{Accepted, Refused}
@@ -68,12 +68,6 @@ module _ (p : List ℕ) (j w : ℕ) (e : w ≡ getD (wordsIn p) j 0) where
       ∙ ap (λ (t : Bool). has m (j * 32 + b) && t) (ap (λ (y : ℕ). test y b) e ∙ sym (has-word (wordsIn p) j b l)))
 
 pub ruleset fill-laws = (fill-start, fill-more, fill-done, cut-word-is, both-word-is)
-
-pub listed-is : (f : Form) (number : ℕ) (on : Bool) (a b : ℕ) (m v : List ℕ) → a ≡ 16 → b ≡ 16
-    → m ≡ wordsOf a (putBit number true (has (f .mask))) → v ≡ wordsOf b (putBit number on (has (f .value)))
-    → record { mask = m; value = v } ≡ listedIn f number on
-unfolding listedIn
-listed-is f number on a b m v ea eb em ev = rw (em, ev, ea, eb)
 
 module _ (n : ℕ) (j : Judged) (t : Judgement) (e : t ≡ j .judgement) where
   pub nomask-refused : (why : Refusal) (r : Judged) → t ≡ Refused why → r ≡ refusedAs why → r ≡ underNomask n j

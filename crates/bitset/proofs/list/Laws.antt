@@ -1,13 +1,13 @@
 -- Laws of judging a bit list: one for each return, and for each turn of the loop over its BITs.
-use Prim.Native.Nat.{ℕ, _*_, _-_, _≤_, _<_}
+use Prim.Native.Nat.{ℕ, zero, suc, _*_, _-_, _≤_, _<_}
 use mathlib.Core.Path.{_≡_, refl, sym, ap, _∙_, fun-ext}
 use mathlib.Core.List.{List, [], _∷_}
 use mathlib.Core.Bool.{Bool, true, false, _||_, _&&_, cond}
 use lib.ListN.{length, getD, replicate}
 use lib.Dec.{eqb, leb}
 use native.Mathlib.Omega.{arith}
-use borrow.Author.Tests.{le-leb, lt-leb}
-use Rattle.basics.proofs.Truth.{cond-true, cond-false}
+use borrow.Author.Tests.{eqb-true, eqb-false, le-leb, lt-leb}
+use Rattle.basics.proofs.Truth.{true-of, cond-true, cond-false}
 use Rattle.bits.specs.Bit.{number}
 use Rattle.bits.specs.Set.{has, wordsOf, putBit, allBelow}
 use Rattle.bits.specs.Change.{Listed, applied, listMask, listValue}
@@ -18,11 +18,17 @@ use Rattle.names.specs.Search.{lookup}
 use Rattle.names.specs.declared.Lookup.{Lookup}
 use Rattle.netlink.specs.Attributes.{Attributes, attributes, attributeAt, onRead, partOf}
 use Rattle.netlink.specs.Attributes.Attributes.{done, broken, attribute}
-use Rattle.netlink.specs.Walk.{absent, walked, slotNumber}
+use Rattle.netlink.specs.Policy.{ruleOf, judged}
+use Rattle.netlink.specs.Walk.{found, absent, onVerdict, firstFault, lastOf, eachType, onStop as walkStop, walked, slotNumber}
 use Rattle.netlink.specs.declared.attributes.AttributeRead.{AttributeRead}
 use Rattle.netlink.specs.declared.attributes.AttributeRead.the-variants.{Attribute, Broken, End}
 use Rattle.netlink.specs.declared.policy.Fault.{Fault}
+use Rattle.netlink.specs.declared.policy.Fault.the-variants.{Length, Unknown}
 use Rattle.netlink.specs.declared.policy.Rule.{Rule}
+use Rattle.netlink.specs.declared.policy.Rule.the-variants.{Unlisted}
+use Rattle.netlink.specs.declared.policy.Rule.the-variants as Rl
+use Rattle.netlink.specs.declared.policy.Verdict.{Verdict}
+use Rattle.netlink.specs.declared.policy.Verdict.the-variants.{Right, Wrong}
 use Rattle.netlink.specs.declared.walk.Slot.{Slot}
 use Rattle.netlink.specs.declared.walk.Stop.{Stop}
 use Rattle.netlink.specs.declared.walk.Stop.the-variants as S
@@ -104,25 +110,115 @@ module _ (s names : List ℕ) (at : ℕ) (index name on : Slot) (l : Looked) (el
 
 pub ruleset parts-laws = (parts-refused, parts-neither, parts-number)
 
-module _ (s names : List ℕ) (from : ℕ) (p : List Rule) (ep : p ≡ bitPolicy) (w : Walked) (ew : w ≡ walked p s from) where
-  rest : Walked → BitRead
-  rest x = partsReading s names (from - 4) (getD (x .slots) 1 absent) (getD (x .slots) 2 absent) (getD (x .slots) 3 absent)
+-- the rule for a type in a BIT
+module _ (k : ℕ) where
+  pub rule-index : k ≡ 1 → Rl.Number ≡ ruleOf bitPolicy k
+  unfolding ruleOf
+  rule-index e = rw e
 
-  by-walk : bitReading s names from ≡ onStop (w .stop) B.Refused (rest w)
-  unfolding bitReading rest
-  by-walk = sym (ap (λ (x : Walked). onStop (x .stop) B.Refused (rest x)) (ew ∙ ap (λ (x : List Rule). walked x s from) ep))
+  pub rule-name : k ≡ 2 → Rl.Name 32 ≡ ruleOf bitPolicy k
+  unfolding ruleOf
+  rule-name e = rw e
 
-  pub bit-fault : (f : Fault) (at : ℕ) (y : Refusal) → w .stop ≡ S.At f at → y ≡ ofFault f at → B.Refused y ≡ bitReading s names from
-  bit-fault f at y q ey = ap B.Refused ey ∙ sym (by-walk ∙ ap (λ (x : Stop). onStop x B.Refused (rest w)) q)
+  pub rule-on : k ≡ 3 → Rl.Flag ≡ ruleOf bitPolicy k
+  unfolding ruleOf
+  rule-on e = rw e
 
-  pub bit-whole : (at : ℕ) (r : BitRead) → w .stop ≡ S.Whole → at ≡ from - 4
-      → r ≡ partsReading s names at (getD (w .slots) 1 absent) (getD (w .slots) 2 absent) (getD (w .slots) 3 absent) → r ≡ bitReading s names from
-  unfolding rest
-  bit-whole at r q ea e =
-      e ∙ ap (λ (x : ℕ). partsReading s names x (getD (w .slots) 1 absent) (getD (w .slots) 2 absent) (getD (w .slots) 3 absent)) ea
-      ∙ sym (by-walk ∙ ap (λ (x : Stop). onStop x B.Refused (rest w)) q)
+pub rule-other : (k : ℕ) → (k ≡ 1 → ⊥) → (k ≡ 2 → ⊥) → (k ≡ 3 → ⊥) → Unlisted ≡ ruleOf bitPolicy k
+unfolding ruleOf
+rule-other zero a b c = refl
+rule-other (suc zero) a b c = absurd (a refl)
+rule-other (suc (suc zero)) a b c = absurd (b refl)
+rule-other (suc (suc (suc zero))) a b c = absurd (c refl)
+rule-other (suc (suc (suc (suc zero)))) a b c = refl
+rule-other (suc (suc (suc (suc (suc zero))))) a b c = refl
+rule-other (suc (suc (suc (suc (suc (suc zero)))))) a b c = refl
+rule-other (suc (suc (suc (suc (suc (suc (suc zero))))))) a b c = refl
+rule-other (suc (suc (suc (suc (suc (suc (suc (suc k)))))))) a b c = refl
 
-pub ruleset bit-laws = (bit-fault, bit-whole)
+pub ruleset rule-laws = (rule-index, rule-name, rule-on, rule-other)
+
+-- the parts of a BIT whose walk is whole: the last of each type, the slots given where there is none
+abbrev lastParts : List ℕ → List ℕ → ℕ → Attributes → Slot → Slot → Slot → BitRead
+lastParts s names from xs i n o = partsReading s names (from - 4) (lastOf 1 i xs) (lastOf 2 n xs) (lastOf 3 o xs)
+
+-- a BIT that is walked as far as a place, with slots i, n, o of its three types
+abbrev pub BitFrom : List ℕ → List ℕ → ℕ → Slot → Slot → Slot → ℕ → Type 0
+BitFrom s names from i n o at =
+    bitReading s names from
+    ≡ onStop (firstFault bitPolicy s (attributes s at)) B.Refused (lastParts s names from (attributes s at) i n o)
+
+pub bit-start : (s names : List ℕ) (from : ℕ) (i n o : Slot) → i ≡ absent → n ≡ absent → o ≡ absent → BitFrom s names from i n o from
+unfolding bitReading walked
+bit-start s names from i n o ei en eo = rw (ei, en, eo) (go (firstFault bitPolicy s (attributes s from)))
+  where
+    go : (t : Stop)
+        → onStop (walkStop t (eachType (λ kind. lastOf kind absent (attributes s from))) .stop) B.Refused
+        (partsReading s names (from - 4) (getD (walkStop t (eachType (λ kind. lastOf kind absent (attributes s from))) .slots) 1 absent) (getD (walkStop t (eachType (λ kind. lastOf kind absent (attributes s from))) .slots) 2 absent) (getD (walkStop t (eachType (λ kind. lastOf kind absent (attributes s from))) .slots) 3 absent))
+        ≡ onStop t B.Refused (lastParts s names from (attributes s from) absent absent absent)
+    go S.Whole = refl
+    go (S.At f at) = refl
+
+module _ (s names : List ℕ) (from : ℕ) (i n o : Slot) (at : ℕ) (inv : BitFrom s names from i n o at) (r : AttributeRead) (e : r ≡ attributeAt s at) where
+  abbrev reading : Attributes → BitRead
+  reading xs = onStop (firstFault bitPolicy s xs) B.Refused (lastParts s names from xs i n o)
+
+  bit-step : bitReading s names from ≡ reading (onRead r at (attributes s))
+  bit-step = inv ∙ ap reading (attributes-step s at ∙ ap (λ (x : AttributeRead). onRead x at (attributes s)) (sym e))
+
+  pub bit-end : (p : ℕ) (y : BitRead) → r ≡ End → p ≡ from - 4 → y ≡ partsReading s names p i n o → y ≡ bitReading s names from
+  unfolding firstFault lastOf
+  bit-end p y q ep ey = ey ∙ ap (λ (x : ℕ). partsReading s names x i n o) ep ∙ sym (rw q at bit-step)
+
+  pub bit-broken : (y : Refusal) → r ≡ Broken → y ≡ ofFault Length at → B.Refused y ≡ bitReading s names from
+  unfolding firstFault
+  bit-broken y q ey = ap B.Refused ey ∙ sym (rw q at bit-step)
+
+  module _ (k b a z next : ℕ) (q : r ≡ Attribute k b a z next) where
+    within : Bounded s at (Attribute k b a z next)
+    within = rw (sym e ∙ q) at (bounded s at)
+
+    pub bit-less : length s - next < length s - at
+    bit-less = let i = within in omega arith
+
+    module _ (m : Rule) (l : List ℕ) (v : Verdict) (em : m ≡ ruleOf bitPolicy k) (el : l ≡ partOf s a z) (ev : v ≡ judged m b l) where
+      bit-judged : bitReading s names from
+          ≡ onStop (onVerdict v at (firstFault bitPolicy s (attributes s next))) B.Refused
+          (lastParts s names from (attributes s next) (cond (eqb k 1) (found a z) i) (cond (eqb k 2) (found a z) n) (cond (eqb k 3) (found a z) o))
+      unfolding firstFault lastOf
+      bit-judged = rw q at bit-step ∙ rw (verdict, here)
+        where
+          verdict : judged (ruleOf bitPolicy k) b (partOf s a z) ≡ v
+          verdict = sym (ev ∙ ap (λ (x : Rule). judged x b l) em ∙ ap (λ (x : List ℕ). judged (ruleOf bitPolicy k) b x) el)
+
+          here : a - 4 ≡ at
+          here = let i = within in omega arith
+
+      pub bit-wrong : (f : Fault) (y : Refusal) → v ≡ Wrong f → y ≡ ofFault f at → B.Refused y ≡ bitReading s names from
+      bit-wrong f y h ey = ap B.Refused ey ∙ sym (rw h at bit-judged)
+
+      module _ (h : v ≡ Right) (x : Slot) (ex : x ≡ found a z) where
+        pub bit-index : k ≡ 1 → BitFrom s names from x n o next
+        bit-index g = rw (h, g, ← ex) at bit-judged
+
+        module _ (n1 : k ≡ 1 → ⊥) where
+          pub bit-name : k ≡ 2 → BitFrom s names from i x o next
+          bit-name g = rw (h, g, ← ex) at bit-judged
+
+          -- what is right and neither is VALUE
+          pub bit-on : (k ≡ 2 → ⊥) → BitFrom s names from i n x next
+          unfolding judged
+          bit-on n2 = rw (h, third, ← ex) at bit-judged
+            where
+              third : k ≡ 3
+              third =
+                  eqb-true k 3
+                  (true-of (eqb k 3)
+                  (λ g. let u : v ≡ Wrong Unknown = ev ∙ ap (λ (y : Rule). judged y b l) (em ∙ sym (rule-other k n1 n2 (eqb-false k 3 g))) in
+                  let c : _≡_ {A = ℕ} 0 1 = cc in
+                  omega arith))
+
+pub ruleset bit-laws = (bit-start, bit-end, bit-broken, bit-less, bit-wrong, bit-index, bit-name, bit-on)
 
 -- The loop over the BITs: the form of what is listed so far, and what is left.
 unfoldable pub formAfter : Form → List Listed → Form
@@ -233,9 +329,10 @@ module _ (s names : List ℕ) (from : ℕ) (f : Form) (at : ℕ) (inv : BitsFrom
       unfolding judgedAfter
       bits-refused why y h ey = ey ∙ sym (rw h at one)
 
-      pub bits-more : (i : ℕ) (on : Bool) (g : Form) → v ≡ B.Bit i on → g ≡ listedIn f i on → BitsFrom s names from g n
-      unfolding judgedAfter formAfter
-      bits-more i on g h eg = rw (h) at one ∙ go (bitsReading s names (attributes s n)) ∙ ap (λ (x : Form). judgedAfter x (bitsReading s names (attributes s n))) (sym eg)
+      pub bits-more : (i : ℕ) (on : Bool) (j k : ℕ) (m y : List ℕ) → v ≡ B.Bit i on → j ≡ 16 → k ≡ 16
+          → m ≡ wordsOf j (putBit i true (has (f .mask))) → y ≡ wordsOf k (putBit i on (has (f .value))) → BitsFrom s names from (record { mask = m; value = y }) n
+      unfolding judgedAfter formAfter listedIn
+      bits-more i on j k m y h ej ek em ey = rw (em, ey, ej, ek) (rw h at one ∙ go (bitsReading s names (attributes s n)))
         where
           go : (x : ListReading) → judgedAfter f (onBit (B.Bit i on) x) ≡ judgedAfter (listedIn f i on) x
           go (stopped r) = refl

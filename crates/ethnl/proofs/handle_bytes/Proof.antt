@@ -1,7 +1,6 @@
 use lib.ListN.{length-take}
 use native.Mathlib.Omega.{arith}
 use Rattle.ethnl.proofs.Laws.{bytes-laws}
-use native.Mathlib.Omega.{arith}
 use borrow.Author.Needs.{needs}
 use Rattle.ethnl.proofs.handle_bytes.Statement.{statement}
 use Rattle.ethnl.proofs.handle_bytes.Tie as tie
@@ -18,8 +17,8 @@ box-broken-requires-2 c κs = search needs
 returns-2 : tie.Need-returns-2
 returns-2 c = search (needs, bytes-laws)
 
-array-borrow-prefix-words : tie.Need-array-borrow-prefix-words
-array-borrow-prefix-words c = search needs
+array-borrow-prefix-few : tie.Need-array-borrow-prefix-few
+array-borrow-prefix-few c = search needs
 
 slice-aggregate-handle-in : tie.Need-slice-aggregate-handle-in
 slice-aggregate-handle-in c = simp length-take (omega arith)
@@ -36,6 +35,24 @@ same-length-2 c = search needs
 returns-3 : tie.Need-returns-3
 returns-3 c = search (needs, bytes-laws)
 
+array-borrow-prefix-words : tie.Need-array-borrow-prefix-words
+array-borrow-prefix-words c = search needs
+
+slice-aggregate-handle-in-2 : tie.Need-slice-aggregate-handle-in-2
+slice-aggregate-handle-in-2 c = simp length-take (omega arith)
+
+handle-in-requires-2 : tie.Need-handle-in-requires-2
+handle-in-requires-2 c κs = simp length-take (omega arith)
+
+same-length-3 : tie.Need-same-length-3
+same-length-3 c = search needs
+
+same-length-4 : tie.Need-same-length-4
+same-length-4 c = search needs
+
+returns-4 : tie.Need-returns-4
+returns-4 c = search (needs, bytes-laws)
+
 pub handle-bytes-spec : {M : Type 1} → statement M
 handle-bytes-spec =
     tie.close
@@ -44,9 +61,15 @@ handle-bytes-spec =
     returns
     box-broken-requires-2
     returns-2
-    array-borrow-prefix-words
+    array-borrow-prefix-few
     slice-aggregate-handle-in
     handle-in-requires
     same-length
     same-length-2
-    returns-3)
+    returns-3
+    array-borrow-prefix-words
+    slice-aggregate-handle-in-2
+    handle-in-requires-2
+    same-length-3
+    same-length-4
+    returns-4)

@@ -2,14 +2,16 @@
 use Prim.Native.Nat.{ℕ, zero, suc, _+_, _≤_, _<_}
 use mathlib.Core.Path.{_≡_, refl, sym, ap, _∙_}
 use mathlib.Core.List.{List, [], _∷_}
-use mathlib.Core.Bool.{Bool, true, false, _&&_}
+use mathlib.Core.Bool.{Bool, true, false, _&&_, _||_}
 use lib.ListN.{length, getD, drop, drop-of-length-le, List·getD-eq-default}
 use lib.Seq.{drop-cons}
 use lib.Dec.{eqb, leb}
 use native.Mathlib.Numerals.{add-one}
 use native.Mathlib.Omega.{arith}
-use borrow.Author.Tests.{eq-eqb, ne-eqb}
-use Rattle.netlink.specs.Policy.{ruleOf, nulAt, isName, rightIf, plain, nested, judged}
+use borrow.Author.Tests.{eq-eqb, ne-eqb, eqb-false}
+use Rattle.basics.specs.Scan.{any}
+use Rattle.basics.proofs.Scan.{any-not}
+use Rattle.netlink.specs.Policy.{ruleOf, nulAt, NulFrom, isNul, isName, rightIf, plain, nested, judged}
 use Rattle.netlink.specs.declared.policy.Rule.{Rule}
 use Rattle.netlink.specs.declared.policy.Rule.the-variants.{Unlisted, Nest, Number, Flag, Name, Bytes}
 use Rattle.netlink.specs.declared.policy.Fault.the-variants.{Unknown, Payload}
@@ -27,9 +29,6 @@ rule-in p k = refl
 pub ruleset rule-laws = (rule-past, rule-in)
 
 -- the search for a NUL has passed every byte before i
-abbrev pub NulFrom : List ℕ → ℕ → Type 0
-NulFrom s i = nulAt s ≡ i + nulAt (drop i s)
-
 pub nul-start : (s : List ℕ) → NulFrom s 0
 nul-start s = omega arith
 
@@ -50,7 +49,31 @@ module _ (s : List ℕ) (i : ℕ) (inv : NulFrom s i) where
       go zero n = absurd (n refl)
       go (suc b) n = omega arith
 
+-- so many bytes more, none of which is NUL
+nul-run : (s : List ℕ) (i n : ℕ) → NulFrom s i → i + n ≤ length s → ((j : ℕ) → j < n → isNul s i j ≡ false) → NulFrom s (i + n)
+unfolding isNul
+nul-run s i zero inv h f = let k : i + 0 ≡ i = omega arith in rw k inv
+nul-run s i (suc n) inv h f =
+    let k : i + suc n ≡ i + n + 1 = omega arith in
+    rw k (nul-more s (i + n) (nul-run s i n inv (omega arith) (λ j l. f j (omega arith))) (omega arith) (eqb-false _ _ (f n (omega arith))))
+
+pub nul-eight : (s : List ℕ) (i : ℕ) (b : Bool) → NulFrom s i → i + 8 ≤ length s → b ≡ any 8 (isNul s i) → b ≡ false → NulFrom s (i + 8)
+nul-eight s i b inv h eb z = nul-run s i 8 inv h (λ j l. any-not (isNul s i) 8 j (sym eb ∙ z) l)
+
 pub ruleset nul-laws = (nul-start, nul-end, nul-here, nul-more)
+
+-- whether one of the bytes before j is NUL
+module _ (s : List ℕ) (at : ℕ) where
+  pub some-start : false ≡ any 0 (isNul s at)
+  unfolding any
+  some-start = refl
+
+  pub some-more : (j : ℕ) (b : Bool) → b ≡ any j (isNul s at) → b || eqb (getD s (at + j) 0) 0 ≡ any (j + 1) (isNul s at)
+  unfolding any isNul
+  some-more j b e = rw (add-one j, e)
+
+  pub some-done : (j : ℕ) (b : Bool) → b ≡ any j (isNul s at) → j ≤ 8 → 8 ≤ j → b ≡ any 8 (isNul s at)
+  some-done j b e l u = let k : j ≡ 8 = omega arith in rw k at e
 
 module _ (max : ℕ) (s : List ℕ) (n : ℕ) (e : n ≡ nulAt s) where
   pub name-open : length s ≤ n → false ≡ isName max s

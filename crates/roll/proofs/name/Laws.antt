@@ -47,7 +47,7 @@ module _ (a b : List ℕ) where
   unfolding sameName sameByte
   same-of h = all-of (sameByte a b) 16 (λ j l. eq-eqb _ _ (h j l))
 
-  four-same : (p : ℕ) → p + 4 ≤ 16 → sameName a b ≡ true → u32At a p ≡ u32At b p
+  pub four-same : (p : ℕ) → p + 4 ≤ 16 → sameName a b ≡ true → u32At a p ≡ u32At b p
   unfolding u32At byteAt
   four-same p l h =
       rw

@@ -6,8 +6,8 @@ use Rattle.bitset.proofs.list.by_name.Tie as tie
 payload-requires : tie.Need-payload-requires
 payload-requires c κs = search needs
 
-find-name-requires : tie.Need-find-name-requires
-find-name-requires c κs = search needs
+look-up-requires : tie.Need-look-up-requires
+look-up-requires c κs = search needs
 
 returns : tie.Need-returns
 returns c = search (needs, name-laws)
@@ -20,4 +20,4 @@ returns-2 c = search (needs, name-laws)
 
 pub by-name-spec : {M : Type 1} → statement M
 by-name-spec =
-    tie.close (tie.spec payload-requires find-name-requires returns place-requires returns-2)
+    tie.close (tie.spec payload-requires look-up-requires returns place-requires returns-2)

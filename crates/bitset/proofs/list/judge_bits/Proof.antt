@@ -1,15 +1,17 @@
+use mathlib.Core.Path.{_≡_, ap, _∙_}
+use Rattle.bits.proofs.Words.{length-wordsOf}
 use Prim.Native.Nat.{_-_}
 use lib.ListN.{length}
-use Rattle.bitset.proofs.list.Laws.{BitsFrom, bits-laws}
+use Rattle.bitset.proofs.list.Laws.{BitsFrom, bits-more, bits-laws}
 use borrow.Author.Needs.{needs}
 use Rattle.bitset.proofs.list.judge_bits.Statement.{statement}
 use Rattle.bitset.proofs.list.judge_bits.Tie as tie
 
 abbrev Inv-loop : tie.InvT-loop
-Inv-loop s names from form₀ at₀ form at = BitsFrom s names from form at
+Inv-loop s names indexed head links from mask₀ value₀ at₀ mask value at = (length mask ≡ 16) × (length value ≡ 16) × BitsFrom s names from (record { mask = mask; value = value }) at
 
 abbrev μ-loop : tie.MeasureT-loop
-μ-loop s names from form₀ at₀ form at = length s - at
+μ-loop s names indexed head links from mask₀ value₀ at₀ mask value at = length s - at
 
 loop-holds : tie.Need-loop-holds Inv-loop μ-loop
 loop-holds c = search (needs, bits-laws)
@@ -50,14 +52,30 @@ returns-3 c = search (needs, bits-laws)
 enum-known-number : tie.Need-enum-known-number Inv-loop μ-loop
 enum-known-number c = search (needs, bits-laws)
 
-listed-requires : tie.Need-listed-requires Inv-loop μ-loop
-listed-requires c κs = search (needs, bits-laws)
+slice-aggregate-put-bit : tie.Need-slice-aggregate-put-bit Inv-loop μ-loop
+slice-aggregate-put-bit c = search (needs, bits-laws)
+
+put-bit-requires : tie.Need-put-bit-requires Inv-loop μ-loop
+put-bit-requires c κs = search (needs, bits-laws)
+
+slice-aggregate-put-bit-2 : tie.Need-slice-aggregate-put-bit-2 Inv-loop μ-loop
+slice-aggregate-put-bit-2 c = search (needs, bits-laws)
+
+put-bit-requires-2 : tie.Need-put-bit-requires-2 Inv-loop μ-loop
+put-bit-requires-2 c κs = search (needs, bits-laws)
 
 loop-less : tie.Need-loop-less Inv-loop μ-loop
 loop-less c = search (needs, bits-laws)
 
 loop-again : tie.Need-loop-again Inv-loop μ-loop
-loop-again c = search (needs, bits-laws)
+loop-again c =
+    let l = c .before .before .before .before .before .before .before .before .before .before .before .before .before .before .before .loop in
+    let m = c .before .before .before .before .put-bit .ensures in
+    let v = c .before .put-bit2 .ensures in (
+      ap length m ∙ length-wordsOf _ _ ∙ l .inv .0,
+      ap length v ∙ length-wordsOf _ _ ∙ l .inv .1,
+      bits-more _ _ _ _ _ (l .inv .2) _ (c .before .before .before .before .before .before .before .before .before .before .before .before .before .before .read-attribute .ensures) _ _ _ _ _ (c .before .before .before .before .before .before .before .before .before .before .before .before .start .given .1) _ (c .before .before .before .before .before .before .before .before .before .before .payload .ensures) _ (c .before .before .before .before .before .before .before .before .before .judge-bit .ensures) _ _ _ _ _ _ (c .before .before .before .before .before .before .before .number .given .1) (l .inv .0) (l .inv .1) m v,
+    )
 
 pub judge-bits-spec : {M : Type 1} → statement M
 judge-bits-spec =
@@ -78,6 +96,9 @@ judge-bits-spec =
     refused-requires
     returns-3
     enum-known-number
-    listed-requires
+    slice-aggregate-put-bit
+    put-bit-requires
+    slice-aggregate-put-bit-2
+    put-bit-requires-2
     loop-less
     loop-again)

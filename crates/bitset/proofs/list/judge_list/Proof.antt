@@ -1,4 +1,5 @@
 use Rattle.bitset.proofs.list.Laws.{list-laws}
+use Rattle.entries.proofs.Chains.{head-zero}
 use borrow.Author.Needs.{needs}
 use Rattle.bitset.proofs.list.judge_list.Statement.{statement}
 use Rattle.bitset.proofs.list.judge_list.Tie as tie
@@ -27,6 +28,21 @@ returns c = search (needs, list-laws)
 enum-told : tie.Need-enum-told
 enum-told c = search needs
 
+slice-aggregate-index : tie.Need-slice-aggregate-index
+slice-aggregate-index c = search needs
+
+slice-aggregate-index-2 : tie.Need-slice-aggregate-index-2
+slice-aggregate-index-2 c = search needs
+
+index-requires : tie.Need-index-requires
+index-requires c κs = ((search needs, search needs), head-zero _)
+
+slice-aggregate-judge-bits : tie.Need-slice-aggregate-judge-bits
+slice-aggregate-judge-bits c = search needs
+
+slice-aggregate-judge-bits-2 : tie.Need-slice-aggregate-judge-bits-2
+slice-aggregate-judge-bits-2 c = search needs
+
 judge-bits-requires : tie.Need-judge-bits-requires
 judge-bits-requires c κs = search needs
 
@@ -54,6 +70,11 @@ judge-list-spec =
     refused-requires
     returns
     enum-told
+    slice-aggregate-index
+    slice-aggregate-index-2
+    index-requires
+    slice-aggregate-judge-bits
+    slice-aggregate-judge-bits-2
     judge-bits-requires
     count-requires
     under-nomask-requires

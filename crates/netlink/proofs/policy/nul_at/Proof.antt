@@ -1,8 +1,9 @@
-use native.Mathlib.Omega.{arith}
 use Prim.Native.Nat.{_≤_, _-_}
 use lib.ListN.{length}
-use Rattle.netlink.proofs.policy.Laws.{NulFrom, nul-laws, nul-more}
+use native.Mathlib.Omega.{arith}
 use borrow.Author.Needs.{needs}
+use Rattle.netlink.specs.Policy.{NulFrom}
+use Rattle.netlink.proofs.policy.Laws.{nul-laws, nul-more}
 use Rattle.netlink.proofs.policy.nul_at.Statement.{statement}
 use Rattle.netlink.proofs.policy.nul_at.Tie as tie
 
@@ -11,6 +12,9 @@ Inv-loop s i₀ i = (i ≤ length s) × NulFrom s i
 
 abbrev μ-loop : tie.MeasureT-loop
 μ-loop s i₀ i = length s - i
+
+nul-free-requires : tie.Need-nul-free-requires Inv-loop μ-loop
+nul-free-requires c κs = search (needs, nul-laws)
 
 loop-holds : tie.Need-loop-holds Inv-loop μ-loop
 loop-holds c = search (needs, nul-laws)
@@ -39,6 +43,7 @@ nul-at-spec =
     (tie.spec
     Inv-loop
     μ-loop
+    nul-free-requires
     loop-holds
     shared-slice-read-if1
     returns

@@ -12,9 +12,6 @@ Inv-loop policy s from slots₀ at₀ slots at = (length slots ≡ 8) × WalkFro
 abbrev μ-loop : tie.MeasureT-loop
 μ-loop policy s from slots₀ at₀ slots at = length s - at
 
-no-slots-requires : tie.Need-no-slots-requires Inv-loop μ-loop
-no-slots-requires c κs = search (needs, walk-laws)
-
 loop-holds : tie.Need-loop-holds Inv-loop μ-loop
 loop-holds c = search (needs, walk-laws)
 
@@ -84,7 +81,6 @@ walk-spec =
     (tie.spec
     Inv-loop
     μ-loop
-    no-slots-requires
     loop-holds
     read-attribute-requires
     enum-told

@@ -18,17 +18,17 @@ returns c =
     let one = c .before .before .before .before .put-number .ensures in
     (identity-plain _ _ _ (c .before .nul-at .ensures) _ _ _ (c .if1 .taken) (one .1) (one .0), omega arith)
 
-sub-put-name : tie.Need-sub-put-name
-sub-put-name c = search needs
+sub-put-named : tie.Need-sub-put-named
+sub-put-named c = search needs
 
-part-put-name-start : tie.Need-part-put-name-start
-part-put-name-start c = search needs
+part-put-named-start : tie.Need-part-put-named-start
+part-put-named-start c = search needs
 
-part-put-name-end : tie.Need-part-put-name-end
-part-put-name-end c = search needs
+part-put-named-end : tie.Need-part-put-named-end
+part-put-named-end c = search needs
 
-put-name-requires : tie.Need-put-name-requires
-put-name-requires c κs = search needs
+put-named-requires : tie.Need-put-named-requires
+put-named-requires c κs = search needs
 
 add-result : tie.Need-add-result
 add-result c = omega (arith, nul-le (c .before .before .before .before .before .before .before .before .before .before .before .before .args .name .now))
@@ -39,7 +39,7 @@ same-length-2 c = search needs
 returns-2 : tie.Need-returns-2
 returns-2 c =
     let one = c .before .before .before .before .before .before .before .before .put-number .ensures in
-    let two = c .before .before .put-name .ensures in
+    let two = c .before .before .put-named .ensures in
     let start = c .before .before .before .before .before .before .before .before .before .before .before .before in
     (identity-named _ _ _ (c .before .before .before .before .before .nul-at .ensures) _ _ _ _ _ (c .before .before .before .before .if1 .left) (start .pre .1) (one .1) (one .0) (two .0), omega (arith, two .1))
 
@@ -51,10 +51,10 @@ put-identity-spec =
     nul-at-requires
     same-length
     returns
-    sub-put-name
-    part-put-name-start
-    part-put-name-end
-    put-name-requires
+    sub-put-named
+    part-put-named-start
+    part-put-named-end
+    put-named-requires
     add-result
     same-length-2
     returns-2)

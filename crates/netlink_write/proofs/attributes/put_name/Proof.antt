@@ -1,6 +1,3 @@
-use mathlib.Core.Path.{refl, sym}
-use native.Mathlib.Omega.{arith}
-use Rattle.netlink_write.proofs.attributes.Laws.{name-filled, length-name, nul-le}
 use borrow.Author.Needs.{needs}
 use Rattle.netlink_write.proofs.attributes.put_name.Statement.{statement}
 use Rattle.netlink_write.proofs.attributes.put_name.Tie as tie
@@ -8,36 +5,14 @@ use Rattle.netlink_write.proofs.attributes.put_name.Tie as tie
 nul-at-requires : tie.Need-nul-at-requires
 nul-at-requires c κs = search needs
 
-slice-aggregate-put-stated : tie.Need-slice-aggregate-put-stated
-slice-aggregate-put-stated c =
-    sym (length-name _ _ (c .before .before .nul-at .ensures))
-
-add-put-stated : tie.Need-add-put-stated
-add-put-stated c =
-    omega (arith, nul-le (c .before .before .before .before .before .args .name .now))
-
-put-stated-requires : tie.Need-put-stated-requires
-put-stated-requires c κs =
-    let l = length-name _ _ (c .before .before .nul-at .ensures) in
-    let b = nul-le (c .before .before .before .before .before .args .name .now) in
-    (omega arith, omega arith, omega arith)
+put-named-requires : tie.Need-put-named-requires
+put-named-requires c κs = search needs
 
 same-length : tie.Need-same-length
 same-length c = search needs
 
 returns : tie.Need-returns
-returns c =
-    let start = c .before .before .before .before .before .before .before .before in
-    let put = c .before .before .put-stated .ensures in
-    (name-filled _ _ _ _ _ _ _ (c .before .before .before .before .before .nul-at .ensures) refl (put .0), omega (arith, put .1, nul-le (start .args .name .now)))
+returns c = search needs
 
 pub put-name-spec : {M : Type 1} → statement M
-put-name-spec =
-    tie.close
-    (tie.spec
-    nul-at-requires
-    slice-aggregate-put-stated
-    add-put-stated
-    put-stated-requires
-    same-length
-    returns)
+put-name-spec = tie.close (tie.spec nul-at-requires put-named-requires same-length returns)

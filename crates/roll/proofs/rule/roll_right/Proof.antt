@@ -24,11 +24,17 @@ ports-right-requires c κs = search needs
 returns-4 : tie.Need-returns-4
 returns-4 c = search (needs, roll-laws)
 
-all-distinct-requires : tie.Need-all-distinct-requires
-all-distinct-requires c κs = search needs
+few-distinct-requires : tie.Need-few-distinct-requires
+few-distinct-requires c κs = search needs
 
 returns-5 : tie.Need-returns-5
 returns-5 c = search (needs, roll-laws)
+
+many-distinct-requires : tie.Need-many-distinct-requires
+many-distinct-requires c κs = search needs
+
+returns-6 : tie.Need-returns-6
+returns-6 c = search (needs, roll-laws)
 
 pub roll-right-spec : {M : Type 1} → statement M
 roll-right-spec =
@@ -41,5 +47,7 @@ roll-right-spec =
     returns-3
     ports-right-requires
     returns-4
-    all-distinct-requires
-    returns-5)
+    few-distinct-requires
+    returns-5
+    many-distinct-requires
+    returns-6)

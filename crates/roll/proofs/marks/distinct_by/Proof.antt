@@ -2,18 +2,19 @@ use Prim.Native.Nat.{_-_}
 use lib.ListN.{length}
 use Rattle.roll.proofs.record.Laws.{turn-laws}
 use Rattle.roll.proofs.rule.Laws.{DistinctFrom, distinct-laws}
+use Rattle.roll.proofs.marks.Laws.{Fewer, fewer-start, fewer-next, passed-index, passed-name}
 use borrow.Author.Needs.{needs}
-use Rattle.roll.proofs.rule.all_distinct.Statement.{statement}
-use Rattle.roll.proofs.rule.all_distinct.Tie as tie
+use Rattle.roll.proofs.marks.distinct_by.Statement.{statement}
+use Rattle.roll.proofs.marks.distinct_by.Tie as tie
 
 abbrev Inv-loop : tie.InvT-loop
-Inv-loop roll at₀ at = DistinctFrom roll at
+Inv-loop roll indexes names at₀ at = DistinctFrom roll at × Fewer roll at
 
 abbrev μ-loop : tie.MeasureT-loop
-μ-loop roll at₀ at = length roll - at
+μ-loop roll indexes names at₀ at = length roll - at
 
 loop-holds : tie.Need-loop-holds Inv-loop μ-loop
-loop-holds c = search (needs, turn-laws, distinct-laws)
+loop-holds c = search (needs, distinct-laws, fewer-start)
 
 read-record-requires : tie.Need-read-record-requires Inv-loop μ-loop
 read-record-requires c κs = search (needs, turn-laws, distinct-laws)
@@ -27,8 +28,8 @@ u32-at-requires c κs = search (needs, turn-laws, distinct-laws)
 name-at-requires : tie.Need-name-at-requires Inv-loop μ-loop
 name-at-requires c κs = search (needs, turn-laws, distinct-laws)
 
-others-requires : tie.Need-others-requires Inv-loop μ-loop
-others-requires c κs = search (needs, turn-laws, distinct-laws)
+apart-requires : tie.Need-apart-requires Inv-loop μ-loop
+apart-requires c κs = search (needs, passed-index, passed-name)
 
 returns : tie.Need-returns Inv-loop μ-loop
 returns c = search (needs, turn-laws, distinct-laws)
@@ -37,7 +38,7 @@ loop-less : tie.Need-loop-less Inv-loop μ-loop
 loop-less c = search (needs, turn-laws, distinct-laws)
 
 loop-again : tie.Need-loop-again Inv-loop μ-loop
-loop-again c = search (needs, turn-laws, distinct-laws)
+loop-again c = (search (needs, distinct-laws), fewer-next _ _ _ (c .before .before .before .before .before .before .before .read-record .ensures) _ _ _ (c .before .before .before .before .before .index .given .1) (c .before .before .before .before .before .before .before .before .loop .inv .1))
 
 enum-told : tie.Need-enum-told Inv-loop μ-loop
 enum-told c = search (needs, turn-laws, distinct-laws)
@@ -57,8 +58,8 @@ enum-told-3 c = search (needs, turn-laws, distinct-laws)
 returns-4 : tie.Need-returns-4 Inv-loop μ-loop
 returns-4 c = search (needs, turn-laws, distinct-laws)
 
-pub all-distinct-spec : {M : Type 1} → statement M
-all-distinct-spec =
+pub distinct-by-spec : {M : Type 1} → statement M
+distinct-by-spec =
     tie.close
     (tie.spec
     Inv-loop
@@ -68,7 +69,7 @@ all-distinct-spec =
     enum-known-index
     u32-at-requires
     name-at-requires
-    others-requires
+    apart-requires
     returns
     loop-less
     loop-again

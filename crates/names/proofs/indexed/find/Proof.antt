@@ -1,0 +1,126 @@
+-- Every entry from p on is another name, and the bytes before j of entry i are the name's.
+use Prim.Native.Nat.{_≤_, _-_}
+use native.Mathlib.Omega.{arith}
+use borrow.Author.Needs.{needs}
+use Rattle.names.proofs.Search.{SameBefore, name-empty, name-long, same-start, same-more}
+use Rattle.names.proofs.Along.{Along, Looking, along-on, along-laws}
+use Rattle.names.proofs.indexed.find.Statement.{statement}
+use Rattle.names.proofs.indexed.find.Tie as tie
+
+abbrev Inv-loop : tie.InvT-loop
+Inv-loop names head next name p i j₀ j = (j ≤ 32) × SameBefore names name i j × Looking names name i p
+
+abbrev μ-loop : tie.MeasureT-loop
+μ-loop names head next name p i j₀ j = 32 - j
+
+abbrev Inv-entries : tie.InvT-entries
+Inv-entries names head next name p₀ p = Along names name p
+
+abbrev μ-entries : tie.MeasureT-entries
+μ-entries names head next name p₀ p = p
+
+byte-at-requires : tie.Need-byte-at-requires Inv-loop μ-loop Inv-entries μ-entries
+byte-at-requires c κs = search needs
+
+returns : tie.Need-returns Inv-loop μ-loop Inv-entries μ-entries
+returns c = search (needs, name-empty)
+
+returns-2 : tie.Need-returns-2 Inv-loop μ-loop Inv-entries μ-entries
+returns-2 c = search (needs, name-long)
+
+hash-of-requires : tie.Need-hash-of-requires Inv-loop μ-loop Inv-entries μ-entries
+hash-of-requires c κs = search needs
+
+mul-place : tie.Need-mul-place Inv-loop μ-loop Inv-entries μ-entries
+mul-place c = search needs
+
+shared-slice-read-place : tie.Need-shared-slice-read-place Inv-loop μ-loop Inv-entries μ-entries
+shared-slice-read-place c = search needs
+
+place-requires : tie.Need-place-requires Inv-loop μ-loop Inv-entries μ-entries
+place-requires c κs = search needs
+
+entries-holds : tie.Need-entries-holds Inv-loop μ-loop Inv-entries μ-entries
+entries-holds c = search (needs, along-laws)
+
+returns-3 : tie.Need-returns-3 Inv-loop μ-loop Inv-entries μ-entries
+returns-3 c = search (needs, along-laws)
+
+sub-i : tie.Need-sub-i Inv-loop μ-loop Inv-entries μ-entries
+sub-i c = search needs
+
+mul-place-2 : tie.Need-mul-place-2 Inv-loop μ-loop Inv-entries μ-entries
+mul-place-2 c = search needs
+
+shared-slice-read-place-2 :
+    tie.Need-shared-slice-read-place-2 Inv-loop μ-loop Inv-entries μ-entries
+shared-slice-read-place-2 c = let x = c .before .before .before .before .before .before .before .before .before .before .before .before .before .pre in let a = c .before .before .entries .inv in omega (arith, x .next-room, a .inside)
+
+place-requires-2 : tie.Need-place-requires-2 Inv-loop μ-loop Inv-entries μ-entries
+place-requires-2 c κs = search needs
+
+loop-holds : tie.Need-loop-holds Inv-loop μ-loop Inv-entries μ-entries
+loop-holds c = search (needs, same-start, along-laws)
+
+mul-if4 : tie.Need-mul-if4 Inv-loop μ-loop Inv-entries μ-entries
+mul-if4 c = search needs
+
+add-if4 : tie.Need-add-if4 Inv-loop μ-loop Inv-entries μ-entries
+add-if4 c = search needs
+
+shared-slice-read-if4 : tie.Need-shared-slice-read-if4 Inv-loop μ-loop Inv-entries μ-entries
+shared-slice-read-if4 c = search needs
+
+byte-at-requires-2 : tie.Need-byte-at-requires-2 Inv-loop μ-loop Inv-entries μ-entries
+byte-at-requires-2 c κs = search needs
+
+entries-less : tie.Need-entries-less Inv-loop μ-loop Inv-entries μ-entries
+entries-less c = search needs
+
+entries-again : tie.Need-entries-again Inv-loop μ-loop Inv-entries μ-entries
+entries-again c = let w = c .before .before .before .before .loop .inv in along-on _ _ _ _ _ _ (w .2) (search needs) (c .before .byte-at2 .ensures) (c .if4 .taken)
+
+add-j : tie.Need-add-j Inv-loop μ-loop Inv-entries μ-entries
+add-j c = search needs
+
+loop-less : tie.Need-loop-less Inv-loop μ-loop Inv-entries μ-entries
+loop-less c = search needs
+
+loop-again : tie.Need-loop-again Inv-loop μ-loop Inv-entries μ-entries
+loop-again c = let w = c .before .before .before .before .loop .inv in (omega arith, same-more _ _ _ _ _ (w .2 .here) (search needs) (w .1) (c .before .byte-at2 .ensures) (c .if4 .left), w .2)
+
+returns-4 : tie.Need-returns-4 Inv-loop μ-loop Inv-entries μ-entries
+returns-4 c = search (needs, along-laws)
+
+pub find-spec : {M : Type 1} → statement M
+find-spec =
+    tie.close
+    (tie.spec
+    Inv-loop
+    μ-loop
+    Inv-entries
+    μ-entries
+    byte-at-requires
+    returns
+    returns-2
+    hash-of-requires
+    mul-place
+    shared-slice-read-place
+    place-requires
+    entries-holds
+    returns-3
+    sub-i
+    mul-place-2
+    shared-slice-read-place-2
+    place-requires-2
+    loop-holds
+    mul-if4
+    add-if4
+    shared-slice-read-if4
+    byte-at-requires-2
+    entries-less
+    entries-again
+    add-j
+    loop-less
+    loop-again
+    returns-4)

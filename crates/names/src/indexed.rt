@@ -1,0 +1,74 @@
+// The search by tables that lead to each name: head, a place for each hash; next, one for each entry.
+ghost use mathlib.Core.Path.{_≡_};
+ghost use lib.ListN.{length};
+ghost use Rattle.entries.specs.Chain.{HeadRight, Indexed, IndexedIf};
+ghost use Rattle.names.specs.Search.{lookup};
+use crate::Lookup;
+use crate::find_name;
+use entries::byte_at;
+use entries::chain::distinct_in;
+use entries::chain::hash_of;
+use entries::chain::place;
+use entries::count;
+
+// Fills the tables that lead to each name, and says whether they do: where the names are distinct, and not too many.
+pub fn index(names: &[u8], head: &mut [u16], next: &mut [u16]) -> bool
+    requires { ⌜ (length (now head) ≡ 1025) × (length (now next) ≡ 512) ⌝ }
+    requires { ⌜ HeadRight (now names) (now head) 0 ⌝ }
+    ensures { λ r. ⌜ IndexedIf r (now (names .entry)) (now (head .exit)) (now (next .exit)) ⌝ }
+{
+    if 512 < count(names) {
+        return false;
+    }
+    distinct_in(names, head, next)
+}
+
+// The same search where tables lead to each name: it goes along the name's chain alone.
+pub fn find(names: &[u8], head: &[u16], next: &[u16], name: &[u8]) -> Lookup
+    requires { ⌜ Indexed (now names) (now head) (now next) ⌝ }
+    ensures { λ r. ⌜ r ≡ lookup (now (names .entry)) (now (name .entry)) ⌝ }
+{
+    if byte_at(name, 0) == 0 {
+        return Lookup {
+            found: false,
+            bit: 0,
+        };
+    }
+    if 32 < name.len() {
+        return Lookup {
+            found: false,
+            bit: 0,
+        };
+    }
+    let mut p = place(head[hash_of(name)]);
+    'entries: loop {
+        if p == 0 {
+            return Lookup {
+                found: false,
+                bit: 0,
+            };
+        }
+        let i = p - 1;
+        p = place(next[i]);
+        for j in 0..32 {
+            if names[i * 32 + j] != byte_at(name, j) {
+                continue 'entries;
+            }
+        }
+        return Lookup {
+            found: true,
+            bit: i,
+        };
+    }
+}
+
+// The entry that equals the name, by the tables where they lead to each.
+pub fn look_up(names: &[u8], indexed: bool, head: &[u16], next: &[u16], name: &[u8]) -> Lookup
+    requires { ⌜ IndexedIf indexed (now names) (now head) (now next) ⌝ }
+    ensures { λ r. ⌜ r ≡ lookup (now (names .entry)) (now (name .entry)) ⌝ }
+{
+    if indexed {
+        return find(names, head, next, name);
+    }
+    find_name(names, name)
+}
