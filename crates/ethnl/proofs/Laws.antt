@@ -2,13 +2,14 @@
 use Prim.Native.Nat.{ℕ, _*_, _/_, _%_, _≤_, _<_}
 use mathlib.Core.Path.{_≡_, refl, sym, ap, _∙_}
 use mathlib.Core.List.{List, []}
-use mathlib.Core.Bool.{Bool, cond, not}
+use mathlib.Core.Bool.{Bool, true, false, _&&_, cond, not}
 use lib.ListN.{length}
-use lib.Dec.{eqb, ltb}
+use lib.Dec.{eqb, leb}
 use native.Mathlib.Omega.{arith}
-use borrow.Author.Tests.{eq-eqb, ne-eqb, lt-ltb, le-ltb}
+use borrow.Author.Tests.{eq-eqb, ne-eqb, eqb-true, leb-true, not-true, not-false}
 use Rattle.basics.specs.Put.{put}
 use Rattle.basics.proofs.Put.{put-nil, put-whole}
+use Rattle.basics.proofs.Truth.{both-true}
 use Rattle.bits.specs.Bytes.{wordsIn, bytesOf}
 use Rattle.bits.proofs.WordBytes.{length-wordsIn, length-bytesOf}
 use Rattle.normal.specs.Normal as N
@@ -16,7 +17,7 @@ use Rattle.normal.specs.declared.Normal.{Normal}
 use Rattle.handler.specs.Answer.{Speech, Outcome, Said, Did, kindNumber, refusalNumber, returned}
 use Rattle.handler.specs.Call.{outcome}
 use Rattle.handler.specs.declared.answer.Answer.{Answer}
-use Rattle.ethnl.specs.Exported.{Normalise, ByteOutcome, asBytes, wordsOutcome, boxBroken, broken, bytesOutcome, After, Handle}
+use Rattle.ethnl.specs.Exported.{Normalise, ByteOutcome, asBytes, wordsOutcome, boxBroken, broken, areWords, bytesOutcome, After, Handle}
 
 pub normalise-told : (o : N.Outcome) (P Q : List ℕ) (x : Normal) → N.Normalised o P Q x → Normalise o P Q (x .written) (x .number)
 normalise-told o P Q x h =
@@ -37,21 +38,32 @@ words-told family admin roll debug flags settings datagram position room ws new 
     }
 
 module _ (family admin : ℕ) (roll debug flags settings datagram : List ℕ) (position : ℕ) (P : List ℕ) (r : Answer) where
-  pub bytes-odd : (length settings % 4 ≡ 0 → ⊥) → r ≡ boxBroken position → After (bytesOutcome family admin roll debug flags settings datagram position (length P)) P P settings r
-  unfolding bytesOutcome
-  bytes-odd n e = rw (ne-eqb _ _ n) (record { said = record { result = e; page = sym (put-nil P) }; settings = refl })
-
-  module _ (whole : length settings % 4 ≡ 0) where
-    pub bytes-many : 8192 < length settings → r ≡ boxBroken position → After (bytesOutcome family admin roll debug flags settings datagram position (length P)) P P settings r
+  module _ (b : Bool) (e : b ≡ areWords settings) where
+    pub bytes-broken : not b ≡ true → r ≡ boxBroken position → After (bytesOutcome family admin roll debug flags settings datagram position (length P)) P P settings r
     unfolding bytesOutcome
-    bytes-many n e = rw (eq-eqb _ _ whole, lt-ltb _ _ n) (record { said = record { result = e; page = sym (put-nil P) }; settings = refl })
+    bytes-broken n q = rw (← e, not-true b n) (record { said = record { result = q; page = sym (put-nil P) }; settings = refl })
 
-    pub bytes-in : (Q after : List ℕ) → length settings ≤ 8192 → After (wordsOutcome family admin roll debug flags settings datagram position (length P)) P Q after r
+    pub bytes-in : (Q after : List ℕ) → not b ≡ false → After (wordsOutcome family admin roll debug flags settings datagram position (length P)) P Q after r
         → After (bytesOutcome family admin roll debug flags settings datagram position (length P)) P Q after r
     unfolding bytesOutcome
-    bytes-in Q after n a = rw (eq-eqb _ _ whole, le-ltb _ _ n) a
+    bytes-in Q after n a = rw (← e, not-false b n) a
 
-pub ruleset bytes-laws = (bytes-odd, bytes-many, bytes-in)
+pub ruleset bytes-laws = (bytes-broken, bytes-in)
+
+-- whole words
+pub words-odd : (settings : List ℕ) → (length settings % 4 ≡ 0 → ⊥) → false ≡ areWords settings
+unfolding areWords
+words-odd settings n = sym (rw (ne-eqb _ _ n))
+
+pub words-whole : (settings : List ℕ) → length settings % 4 ≡ 0 → leb (length settings) 8192 ≡ areWords settings
+unfolding areWords
+words-whole settings e = sym (rw (eq-eqb _ _ e))
+
+pub words-mean : (settings : List ℕ) (b : Bool) → b ≡ areWords settings → not b ≡ false → (length settings % 4 ≡ 0) × (length settings ≤ 8192)
+unfolding areWords
+words-mean settings b e n =
+    let both = both-true (eqb (length settings % 4) 0) (leb (length settings) 8192) (sym e ∙ not-false b n) in
+    (eqb-true _ _ (both .0), leb-true _ _ (both .1))
 
 pub handle-told : (o : ByteOutcome) (P Q settings : List ℕ) (x : Answer) (k f : ℕ) → After o P Q settings x → k ≡ kindNumber (x .kind) → f ≡ refusalNumber (x .kind)
     → Handle o P Q settings k f (x .next) (x .written)

@@ -2,9 +2,9 @@
 use Prim.Native.Nat.{ℕ, _%_}
 use mathlib.Core.Path.{_≡_}
 use mathlib.Core.List.{List, []}
-use mathlib.Core.Bool.{cond, not}
+use mathlib.Core.Bool.{Bool, _&&_, cond}
 use lib.ListN.{length}
-use lib.Dec.{eqb, ltb}
+use lib.Dec.{eqb, leb}
 use Rattle.basics.specs.Put.{put}
 use Rattle.bits.specs.Bytes.{wordsIn, bytesOf}
 use Rattle.refusal.specs.declared.Refusal.the-variants.{Box}
@@ -39,12 +39,14 @@ boxBroken position = record { kind = Refused Box; next = position; written = 0 }
 abbrev pub broken : ℕ → List ℕ → ByteOutcome
 broken position settings = record { said = quiet (Refused Box) position; settings = settings }
 
--- bytes that are no whole words, or more than the 2,048 words of the largest box, break the box
+-- bytes that are whole words, and no more than the 2,048 words of the largest box
+unfoldable pub areWords : List ℕ → Bool
+areWords settings = eqb (length settings % 4) 0 && leb (length settings) 8192
+
+-- other bytes break the box
 unfoldable pub bytesOutcome : ℕ → ℕ → List ℕ → List ℕ → List ℕ → List ℕ → List ℕ → ℕ → ℕ → ByteOutcome
 bytesOutcome family admin roll debug flags settings datagram position room =
-    cond (not (eqb (length settings % 4) 0)) (broken position settings)
-    (cond (ltb 8192 (length settings)) (broken position settings)
-    (wordsOutcome family admin roll debug flags settings datagram position room))
+    cond (areWords settings) (wordsOutcome family admin roll debug flags settings datagram position room) (broken position settings)
 
 pub record After (o : ByteOutcome) (before after bytes : List ℕ) (r : Answer) : Type 0 where
   pub said : Said (o .said) before after r

@@ -3,7 +3,7 @@ ghost use mathlib.Core.Path.{_≡_};
 ghost use Prim.Native.Nat.{_/_, _%_};
 ghost use lib.ListN.{length};
 ghost use Rattle.normal.specs.Normal.{normalised};
-ghost use Rattle.ethnl.specs.Exported.{Normalise, Handle, After, boxBroken, bytesOutcome, wordsOutcome};
+ghost use Rattle.ethnl.specs.Exported.{Normalise, Handle, After, boxBroken, areWords, bytesOutcome, wordsOutcome};
 use handler::answer::Answer;
 use handler::answer::Kind;
 use refusal::Refusal;
@@ -39,85 +39,91 @@ fn box_broken(position: usize) -> Answer
     }
 }
 
-// The handler over settings as bytes, with room for their words.
-fn handle_in<'a>(
+// The numbers that a call is given.
+struct Call {
     family: u32,
     admin: u32,
+    position: usize,
+}
+
+// The handler over settings as bytes, with room for their words.
+fn handle_in<'a>(
+    call: Call,
     roll: &[u8],
     debug: &'a [u8],
     flags: &'a [u8],
     settings: &mut [u8],
     words: &mut [u32],
     datagram: &[u8],
-    position: usize,
     page: &mut [u8],
 ) -> Answer
     requires { ⌜ (length (now settings) % 4 ≡ 0) × (length (now words) ≡ length (now settings) / 4) ⌝ }
-    ensures { λ r. ⌜ After (wordsOutcome family admin (now (roll .entry)) (now (debug .entry)) (now (flags .entry)) (now (settings .entry)) (now (datagram .entry)) position (length (now (page .entry)))) (now (page .entry)) (now (page .exit)) (now (settings .exit)) r ⌝ }
+    ensures { λ r. ⌜ After (wordsOutcome (call .family) (call .admin) (now (roll .entry)) (now (debug .entry)) (now (flags .entry)) (now (settings .entry)) (now (datagram .entry)) (call .position) (length (now (page .entry)))) (now (page .entry)) (now (page .exit)) (now (settings .exit)) r ⌝ }
 {
     bits::read_words(settings, words);
     let answer = handler::call::handle(
-        family,
-        admin,
+        call.family,
+        call.admin,
         roll,
         debug,
         flags,
         words,
         datagram,
-        position,
+        call.position,
         page,
     );
     bits::write_words(words, settings);
     answer
 }
 
+// Whether settings are whole words, and no more than any box has.
+fn are_words(settings: &[u8]) -> bool
+    ensures { λ r. ⌜ r ≡ areWords (now (settings .entry)) ⌝ }
+{
+    if settings.len() % 4 != 0 {
+        return false;
+    }
+    settings.len() <= SETTINGS
+}
+
 // The same with the room made here.
 fn handle_bytes<'a>(
-    family: u32,
-    admin: u32,
+    call: Call,
     roll: &[u8],
     debug: &'a [u8],
     flags: &'a [u8],
     settings: &mut [u8],
     datagram: &[u8],
-    position: usize,
     page: &mut [u8],
 ) -> Answer
-    ensures { λ r. ⌜ After (bytesOutcome family admin (now (roll .entry)) (now (debug .entry)) (now (flags .entry)) (now (settings .entry)) (now (datagram .entry)) position (length (now (page .entry)))) (now (page .entry)) (now (page .exit)) (now (settings .exit)) r ⌝ }
+    ensures { λ r. ⌜ After (bytesOutcome (call .family) (call .admin) (now (roll .entry)) (now (debug .entry)) (now (flags .entry)) (now (settings .entry)) (now (datagram .entry)) (call .position) (length (now (page .entry)))) (now (page .entry)) (now (page .exit)) (now (settings .exit)) r ⌝ }
 {
-    if settings.len() % 4 != 0 {
-        return box_broken(position);
-    }
-    if SETTINGS < settings.len() {
-        return box_broken(position);
+    if !are_words(settings) {
+        return box_broken(call.position);
     }
     let n = settings.len() / 4;
     if n <= FEW {
         let mut few = [0u32; FEW];
         return handle_in(
-            family,
-            admin,
+            call,
             roll,
             debug,
             flags,
             settings,
             &mut few[..n],
             datagram,
-            position,
             page,
         );
     }
     let mut words = [0u32; 2048];
     handle_in(
-        family,
-        admin,
+        call,
         roll,
         debug,
         flags,
         settings,
         &mut words[..n],
         datagram,
-        position,
         page,
     )
 }
@@ -142,17 +148,12 @@ pub extern "C" fn ethnl_handle<'a>(
 )
     ensures { λ _. ⌜ Handle (bytesOutcome family admin (now (roll .entry)) (now (debug .entry)) (now (flags .entry)) (now (settings .entry)) (now (datagram .entry)) position (length (now (page .entry)))) (now (page .entry)) (now (page .exit)) (now (settings .exit)) (now (kind .exit)) (now (refusal .exit)) (now (next .exit)) (now (written .exit)) ⌝ }
 {
-    let answer = handle_bytes(
+    let call = Call {
         family,
         admin,
-        roll,
-        debug,
-        flags,
-        settings,
-        datagram,
-        position as usize,
-        page,
-    );
+        position: position as usize,
+    };
+    let answer = handle_bytes(call, roll, debug, flags, settings, datagram, page);
     let told = answer.kind;
     *kind = told.number();
     *refusal = told.refusal();

@@ -1,21 +1,21 @@
 use lib.ListN.{length-take}
 use native.Mathlib.Omega.{arith}
-use Rattle.ethnl.proofs.Laws.{bytes-laws}
+use Rattle.ethnl.proofs.Laws.{words-mean, bytes-laws}
 use borrow.Author.Needs.{needs}
 use Rattle.ethnl.proofs.handle_bytes.Statement.{statement}
 use Rattle.ethnl.proofs.handle_bytes.Tie as tie
 
+are-words-requires : tie.Need-are-words-requires
+are-words-requires c κs = search needs
+
 box-broken-requires : tie.Need-box-broken-requires
 box-broken-requires c κs = search needs
 
+same-length : tie.Need-same-length
+same-length c = search needs
+
 returns : tie.Need-returns
 returns c = search (needs, bytes-laws)
-
-box-broken-requires-2 : tie.Need-box-broken-requires-2
-box-broken-requires-2 c κs = search needs
-
-returns-2 : tie.Need-returns-2
-returns-2 c = search (needs, bytes-laws)
 
 array-borrow-prefix-few : tie.Need-array-borrow-prefix-few
 array-borrow-prefix-few c = search needs
@@ -24,52 +24,52 @@ slice-aggregate-handle-in : tie.Need-slice-aggregate-handle-in
 slice-aggregate-handle-in c = simp length-take (omega arith)
 
 handle-in-requires : tie.Need-handle-in-requires
-handle-in-requires c κs = simp length-take (omega arith)
-
-same-length : tie.Need-same-length
-same-length c = search needs
+handle-in-requires c κs = let w = words-mean _ _ (c .before .before .before .before .before .are-words .ensures) (c .before .before .before .before .if1 .left) in (w .0, simp length-take (omega arith))
 
 same-length-2 : tie.Need-same-length-2
 same-length-2 c = search needs
 
-returns-3 : tie.Need-returns-3
-returns-3 c = search (needs, bytes-laws)
-
-array-borrow-prefix-words : tie.Need-array-borrow-prefix-words
-array-borrow-prefix-words c = search needs
-
-slice-aggregate-handle-in-2 : tie.Need-slice-aggregate-handle-in-2
-slice-aggregate-handle-in-2 c = simp length-take (omega arith)
-
-handle-in-requires-2 : tie.Need-handle-in-requires-2
-handle-in-requires-2 c κs = simp length-take (omega arith)
-
 same-length-3 : tie.Need-same-length-3
 same-length-3 c = search needs
+
+returns-2 : tie.Need-returns-2
+returns-2 c = search (needs, bytes-laws)
+
+array-borrow-prefix-words : tie.Need-array-borrow-prefix-words
+array-borrow-prefix-words c = let w = words-mean _ _ (c .before .before .before .are-words .ensures) (c .before .before .if1 .left) in let most = w .1 in omega arith
+
+slice-aggregate-handle-in-2 : tie.Need-slice-aggregate-handle-in-2
+slice-aggregate-handle-in-2 c = let w = words-mean _ _ (c .before .before .before .before .are-words .ensures) (c .before .before .before .if1 .left) in let most = w .1 in simp length-take (omega arith)
+
+handle-in-requires-2 : tie.Need-handle-in-requires-2
+handle-in-requires-2 c κs = let w = words-mean _ _ (c .before .before .before .before .before .are-words .ensures) (c .before .before .before .before .if1 .left) in let most = w .1 in (w .0, simp length-take (omega arith))
 
 same-length-4 : tie.Need-same-length-4
 same-length-4 c = search needs
 
-returns-4 : tie.Need-returns-4
-returns-4 c = search (needs, bytes-laws)
+same-length-5 : tie.Need-same-length-5
+same-length-5 c = search needs
+
+returns-3 : tie.Need-returns-3
+returns-3 c = search (needs, bytes-laws)
 
 pub handle-bytes-spec : {M : Type 1} → statement M
 handle-bytes-spec =
     tie.close
     (tie.spec
+    are-words-requires
     box-broken-requires
+    same-length
     returns
-    box-broken-requires-2
-    returns-2
     array-borrow-prefix-few
     slice-aggregate-handle-in
     handle-in-requires
-    same-length
     same-length-2
-    returns-3
+    same-length-3
+    returns-2
     array-borrow-prefix-words
     slice-aggregate-handle-in-2
     handle-in-requires-2
-    same-length-3
     same-length-4
-    returns-4)
+    same-length-5
+    returns-3)
