@@ -54,6 +54,13 @@ impl Call {
         Self::new(&format!("verbose GET of {bits} bits"), ports, bits, Input::Message(message))
     }
 
+    /// The check of one list of names of 16 bytes, and next to nothing else: the normal form of a bitset of no bits.
+    pub fn list_check(bits: usize) -> Self {
+        let name = format!("check {bits} names");
+        let lent = Lent::of_sixteen(bits);
+        Call { lent, ..Self::new(&name, 1, bits, Input::Contents(requests::compact(0))) }
+    }
+
     pub fn normalise(entries: usize, bits: usize) -> Self {
         let name = format!("normalise {entries} names");
         Self::new(&name, 1, bits, Input::Contents(requests::list(entries, bits)))

@@ -43,6 +43,11 @@ fn full(bits: usize) -> Vec<u8> {
 }
 
 impl Lent {
+    /// A box of one port, the names of its flags exactly 16 bytes long.
+    pub fn of_sixteen(bits: usize) -> Self {
+        Lent { flag_names: list(bits, |bit| format!("storm-queue-{bit:04}")), ..Self::new(1, bits) }
+    }
+
     pub fn new(ports: usize, bits: usize) -> Self {
         let of_port = full(bits).repeat(2);
         Lent {

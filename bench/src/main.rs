@@ -20,12 +20,14 @@ fn main() -> ExitCode {
         return ExitCode::from(2);
     }
     let (mut compared, mut growing) = (compared(), growing());
-    if let Some(name) = compared.iter_mut().chain(&mut growing).find_map(differs) {
+    let mut distinct = [64, 512].map(Call::list_check);
+    if let Some(name) = compared.iter_mut().chain(&mut growing).chain(&mut distinct).find_map(differs) {
         eprintln!("bench: library and reader differ: {name}");
         return ExitCode::FAILURE;
     }
     println!("Medians of {runs} runs, nanoseconds per call.\n");
     tables::compared(&mut compared, runs);
+    tables::distinct(&mut distinct, runs);
     tables::growth(&mut growing, runs);
     ExitCode::SUCCESS
 }

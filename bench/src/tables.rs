@@ -41,6 +41,15 @@ fn per_byte(calls: &[Call], times: &[Times]) {
     }
 }
 
+/// What 512 names cost against 64 of them.
+pub fn distinct(calls: &mut [Call], runs: usize) {
+    println!("One list of distinct names of 16 bytes:\n");
+    let times = table(calls, runs);
+    if let [few, .., many] = &times[..] {
+        println!("The most against the fewest: {:.2} times.\n", many.library / few.library);
+    }
+}
+
 /// How the cost grows with names, ports and the datagram's length.
 pub fn growth(calls: &mut [Call], runs: usize) {
     println!("How it grows with names, with ports, with the length of the datagram:\n");

@@ -1,58 +1,116 @@
 -- Laws of the rule: how the checks decide it, and what a right list gives.
-use Prim.Native.Nat.{ℕ, zero, suc, _+_, _*_, _%_, _≤_, _<_}
+use Prim.Native.Nat.{ℕ, zero, suc, _+_, _-_, _*_, _%_, _≤_, _<_}
 use mathlib.Core.Path.{_≡_, sym, ap, _∙_}
-use mathlib.Core.Bool.{Bool, true, false, _&&_, _||_, not, and-true, and-assoc}
+use mathlib.Core.Bool.{Bool, true, false, _&&_, _||_, not}
 use mathlib.Core.List.{List}
 use native.Mathlib.Omega.{arith}
 use lib.Dec.{eqb}
 use lib.ListN.{length, getD}
 use borrow.Author.Tests.{eq-eqb, ne-eqb, le-leb, lt-leb, eqb-true, leb-true, not-true, not-false}
 use Rattle.basics.specs.Scan.{all}
-use Rattle.basics.proofs.Scan.{all-none, all-more, all-plus, all-fails, all-done, all-each}
-use Rattle.basics.proofs.Truth.{both-true}
+use Rattle.basics.proofs.Scan.{all-none, all-more, all-plus, all-fails, all-done, all-each, all-of}
+use Rattle.basics.proofs.Truth.{both-true, false-of, clash}
+use Rattle.basics.proofs.Order.{lt-or-ge}
+use mathlib.Core.Logic.{⊎-elim}
 use Rattle.entries.specs.Entry.{count, entryAt, distinct}
 use Rattle.entries.proofs.Entries.{entry-byte}
-use Rattle.names.specs.Rule.{nulThenNul, entryRight, rightAt, namesRight}
+use Rattle.names.specs.Rule.{nulThenNul, entryRight, pairAt, halfRight, endRight, rightAt, namesRight}
 
--- an entry is right, as far as the pairs before j tell
-module _ (names : List ℕ) (i : ℕ) where
-  abbrev pub rightTo : ℕ → Bool
-  rightTo j = eqb (getD (entryAt names i) 31 0) 0 && all j (nulThenNul (entryAt names i))
+-- sixteen pairs
+module _ (s : List ℕ) (at : ℕ) where
+  pub pairs-start : true ≡ all 0 (pairAt s at)
+  pairs-start = sym (all-none (pairAt s at))
 
-  module _ (h : i < count names) where
-    pub right-start : eqb (getD names (i * 32 + 31) 0) 0 ≡ rightTo 0
-    unfolding all
-    right-start = ap (λ (x : ℕ). eqb x 0) (sym (entry-byte names i h 31 (omega arith))) ∙ sym (and-true (eqb (getD (entryAt names i) 31 0) 0))
+  pub pairs-more : (j : ℕ) (t : Bool) → t ≡ all j (pairAt s at) → t && (not (eqb (getD s (at + j) 0) 0) || eqb (getD s (at + j + 1) 0) 0) ≡ all (j + 1) (pairAt s at)
+  unfolding pairAt nulThenNul
+  pairs-more j t e = ap (λ (b : Bool). b && (not (eqb (getD s (at + j) 0) 0) || eqb (getD s (at + j + 1) 0) 0)) e ∙ sym (all-plus (pairAt s at) j)
 
-    pair : (j : ℕ) → j < 31 → not (eqb (getD names (i * 32 + j) 0) 0) || eqb (getD names (i * 32 + j + 1) 0) 0 ≡ nulThenNul (entryAt names i) j
+  pub pairs-done : (j : ℕ) (t : Bool) → j ≤ 16 → 16 ≤ j → t ≡ all j (pairAt s at) → t ≡ all 16 (pairAt s at)
+  pairs-done j t l u e = let k : j ≡ 16 = omega arith in rw k at e
+
+-- a test of each entry
+module _ (n : ℕ) (f : ℕ → Bool) where
+  pub each-start : all 0 f ≡ true
+  each-start = all-none f
+
+  pub each-more : (i : ℕ) (b : Bool) → all i f ≡ true → b ≡ f i → not b ≡ false → all (i + 1) f ≡ true
+  each-more i b h e q = all-more f i h (sym e ∙ not-false b q)
+
+  pub each-not : (i : ℕ) (b : Bool) → i < n → b ≡ f i → not b ≡ true → false ≡ all n f
+  each-not i b l e q = sym (all-fails f n i l (sym e ∙ not-true b q))
+
+  pub each-done : (i : ℕ) → all i f ≡ true → i ≤ n → n ≤ i → true ≡ all n f
+  each-done i h l u = sym (all-done f n i h l u)
+
+module _ (names : List ℕ) where
+  pub half-is : (from i k : ℕ) (b : Bool) → k ≡ i * 32 + from → b ≡ all 16 (pairAt names k) → b ≡ halfRight names from i
+  unfolding halfRight
+  half-is from i k b ek e = e ∙ ap (λ (x : ℕ). all 16 (pairAt names x)) ek
+
+  pub end-more : (i : ℕ) → all i (endRight names) ≡ true → getD names (i * 32 + 31) 0 ≡ 0 → all (i + 1) (endRight names) ≡ true
+  unfolding endRight
+  end-more i h z = all-more (endRight names) i h (eq-eqb _ 0 z)
+
+  pub end-not : (i : ℕ) → i < count names → (getD names (i * 32 + 31) 0 ≡ 0 → ⊥) → false ≡ all (count names) (endRight names)
+  unfolding endRight
+  end-not i l n = sym (all-fails (endRight names) (count names) i l (ne-eqb _ 0 n))
+
+  -- an entry is right exactly when its end is and both halves are
+  module _ (i : ℕ) (h : i < count names) where
+    pair-is : (j : ℕ) → j < 31 → nulThenNul names (i * 32 + j) ≡ nulThenNul (entryAt names i) j
     unfolding nulThenNul
-    pair j l =
+    pair-is j l =
         let k : i * 32 + (j + 1) ≡ i * 32 + j + 1 = omega arith in
         sym (rw (entry-byte names i h j (omega arith), entry-byte names i h (j + 1) (omega arith), k))
 
-    pub right-more : (j : ℕ) (t : Bool) → j < 31 → t ≡ rightTo j
-        → t && (not (eqb (getD names (i * 32 + j) 0) 0) || eqb (getD names (i * 32 + j + 1) 0) 0) ≡ rightTo (j + 1)
-    right-more j t l e =
-        let f = nulThenNul (entryAt names i) in
-        rw e (ap (λ (p : Bool). rightTo j && p) (pair j l) ∙ and-assoc (eqb (getD (entryAt names i) 31 0) 0) (all j f) (f j) ∙ ap (λ (p : Bool). eqb (getD (entryAt names i) 31 0) 0 && p) (sym (all-plus f j)))
+    right-end : rightAt names i ≡ true → endRight names i ≡ true
+    unfolding rightAt entryRight endRight
+    right-end r = rw (entry-byte names i h 31 (omega arith)) at (both-true (eqb (getD (entryAt names i) 31 0) 0) (all 31 (nulThenNul (entryAt names i))) r .0)
 
-  pub right-done : (j : ℕ) (t : Bool) → j ≤ 31 → 31 ≤ j → t ≡ rightTo j → t ≡ rightAt names i
-  unfolding rightAt entryRight
-  right-done j t l u e = let m : j ≡ 31 = omega arith in rw m at e
+    right-half : (from : ℕ) → from ≤ 15 → rightAt names i ≡ true → halfRight names from i ≡ true
+    unfolding rightAt entryRight halfRight pairAt
+    right-half from u r =
+        all-of (pairAt names (i * 32 + from)) 16
+        (λ j l. let k : i * 32 + from + j ≡ i * 32 + (from + j) = omega arith in
+        ap (nulThenNul names) k ∙ pair-is (from + j) (omega arith)
+        ∙ all-each (nulThenNul (entryAt names i)) 31 (from + j) (both-true (eqb (getD (entryAt names i) 31 0) 0) _ r .1) (omega arith))
 
--- each entry
-module _ (names : List ℕ) where
-  pub each-start : all 0 (rightAt names) ≡ true
-  each-start = all-none (rightAt names)
+    halves-right : endRight names i ≡ true → halfRight names 0 i ≡ true → halfRight names 15 i ≡ true → rightAt names i ≡ true
+    unfolding rightAt entryRight endRight halfRight pairAt
+    halves-right e a b =
+        rw (rw (← entry-byte names i h 31 (omega arith)) at e, all-of (nulThenNul (entryAt names i)) 31 (λ j l. ⊎-elim (λ (u : j < 16). low j u) (λ (u : 16 ≤ j). high j u l) (lt-or-ge j 16)))
+      where
+        low : (j : ℕ) → j < 16 → nulThenNul (entryAt names i) j ≡ true
+        low j u =
+            let k : i * 32 + j ≡ i * 32 + 0 + j = omega arith in
+            sym (pair-is j (omega arith)) ∙ ap (nulThenNul names) k ∙ all-each (pairAt names (i * 32 + 0)) 16 j a u
 
-  pub each-more : (i : ℕ) (b : Bool) → all i (rightAt names) ≡ true → b ≡ rightAt names i → not b ≡ false → all (i + 1) (rightAt names) ≡ true
-  each-more i b h e q = all-more (rightAt names) i h (sym e ∙ not-false b q)
+        high : (j : ℕ) → 16 ≤ j → j < 31 → nulThenNul (entryAt names i) j ≡ true
+        high j u l =
+            let k : i * 32 + j ≡ i * 32 + 15 + (j - 15) = omega arith in
+            sym (pair-is j l) ∙ ap (nulThenNul names) k ∙ all-each (pairAt names (i * 32 + 15)) 16 (j - 15) b (omega arith)
 
-  pub each-not : (i : ℕ) (b : Bool) → i < count names → b ≡ rightAt names i → not b ≡ true → false ≡ all (count names) (rightAt names)
-  each-not i b l e q = sym (all-fails (rightAt names) (count names) i l (sym e ∙ not-true b q))
+  each : (f : ℕ → Bool) → ((i : ℕ) → i < count names → rightAt names i ≡ true → f i ≡ true) → all (count names) (rightAt names) ≡ true → all (count names) f ≡ true
+  each f g r = all-of f (count names) (λ i l. g i l (all-each (rightAt names) (count names) i r l))
 
-  pub each-done : (i : ℕ) → all i (rightAt names) ≡ true → i ≤ count names → count names ≤ i → true ≡ all (count names) (rightAt names)
-  each-done i h l u = sym (all-done (rightAt names) (count names) i h l u)
+  pub entries-end : (b : Bool) → b ≡ all (count names) (endRight names) → not b ≡ true → false ≡ all (count names) (rightAt names)
+  entries-end b e q = sym (false-of (all (count names) (rightAt names)) (λ r. clash (e ∙ each (endRight names) right-end r) (not-true b q)))
+
+  pub entries-half : (from : ℕ) (b : Bool) → from ≤ 15 → b ≡ all (count names) (halfRight names from) → not b ≡ true → false ≡ all (count names) (rightAt names)
+  entries-half from b u e q = sym (false-of (all (count names) (rightAt names)) (λ r. clash (e ∙ each (halfRight names from) (λ i l. right-half i l from u) r) (not-true b q)))
+
+  pub entries-rest : (a b r : Bool) → a ≡ all (count names) (endRight names) → not a ≡ false → b ≡ all (count names) (halfRight names 0) → not b ≡ false
+      → r ≡ all (count names) (halfRight names 15) → r ≡ all (count names) (rightAt names)
+  entries-rest a b r ea qa eb qb er = go r er
+    where
+      go : (r : Bool) → r ≡ all (count names) (halfRight names 15) → r ≡ all (count names) (rightAt names)
+      go true e =
+          sym
+          (all-of (rightAt names) (count names)
+          (λ i l. halves-right i l (all-each (endRight names) (count names) i (sym ea ∙ not-false a qa) l) (all-each (halfRight names 0) (count names) i (sym eb ∙ not-false b qb) l) (all-each (halfRight names 15) (count names) i (sym e) l)))
+      go false e = sym (false-of (all (count names) (rightAt names)) (λ t. clash (each (halfRight names 15) (λ i l. right-half i l 15 (omega arith)) t) (sym e)))
+
+pub ruleset entries-laws = (entries-end, entries-half, entries-rest)
 
 -- the list
 module _ (names : List ℕ) where

@@ -1,5 +1,5 @@
 -- The rule of a name list (document 01, "The box a call is given").
-use Prim.Native.Nat.{ℕ, _+_, _%_}
+use Prim.Native.Nat.{ℕ, _+_, _*_, _%_}
 use mathlib.Core.Bool.{Bool, _&&_, _||_, not}
 use mathlib.Core.List.{List}
 use lib.ListN.{length, getD}
@@ -14,6 +14,18 @@ nulThenNul s j = not (eqb (getD s j 0) 0) || eqb (getD s (j + 1) 0) 0
 -- "An entry is 0 to 31 bytes that aren't NUL, then NULs only": its last byte is NUL, and after a NUL comes a NUL
 unfoldable pub entryRight : List ℕ → Bool
 entryRight e = eqb (getD e 31 0) 0 && all 31 (nulThenNul e)
+
+-- how an entry's rule is checked: a NUL j places past another place is followed by a NUL
+unfoldable pub pairAt : List ℕ → ℕ → ℕ → Bool
+pairAt s at j = nulThenNul s (at + j)
+
+-- so are the sixteen bytes of entry i from a place in it on
+unfoldable pub halfRight : List ℕ → ℕ → ℕ → Bool
+halfRight names from i = all 16 (pairAt names (i * 32 + from))
+
+-- the last byte of entry i is NUL
+unfoldable pub endRight : List ℕ → ℕ → Bool
+endRight names i = eqb (getD names (i * 32 + 31) 0) 0
 
 -- whether entry i is so
 unfoldable pub rightAt : List ℕ → ℕ → Bool

@@ -1,0 +1,60 @@
+-- The entries below i end in NUL.
+use Prim.Native.Nat.{_≤_, _-_, _/_}
+use mathlib.Core.Path.{_≡_}
+use mathlib.Core.Bool.{true}
+use lib.ListN.{length}
+use borrow.Author.Needs.{needs}
+use Rattle.basics.specs.Scan.{all}
+use Rattle.names.specs.Rule.{endRight}
+use Rattle.names.proofs.Rules.{each-start, end-more, end-not, each-done}
+use Rattle.names.proofs.rule.ends_right.Statement.{statement}
+use Rattle.names.proofs.rule.ends_right.Tie as tie
+
+abbrev Inv-loop : tie.InvT-loop
+Inv-loop names i₀ i-end i = (i ≤ length names / 32) × (all i (endRight names) ≡ true)
+
+abbrev μ-loop : tie.MeasureT-loop
+μ-loop names i₀ i-end i = length names / 32 - i
+
+loop-holds : tie.Need-loop-holds Inv-loop μ-loop
+loop-holds c = search (needs, each-start, end-more, end-not, each-done)
+
+mul-if1 : tie.Need-mul-if1 Inv-loop μ-loop
+mul-if1 c = search (needs, each-start, end-more, end-not, each-done)
+
+add-if1 : tie.Need-add-if1 Inv-loop μ-loop
+add-if1 c = search (needs, each-start, end-more, end-not, each-done)
+
+shared-slice-read-if1 : tie.Need-shared-slice-read-if1 Inv-loop μ-loop
+shared-slice-read-if1 c = search (needs, each-start, end-more, end-not, each-done)
+
+returns : tie.Need-returns Inv-loop μ-loop
+returns c = search (needs, each-start, end-more, end-not, each-done)
+
+add-i : tie.Need-add-i Inv-loop μ-loop
+add-i c = search (needs, each-start, end-more, end-not, each-done)
+
+loop-less : tie.Need-loop-less Inv-loop μ-loop
+loop-less c = search (needs, each-start, end-more, end-not, each-done)
+
+loop-again : tie.Need-loop-again Inv-loop μ-loop
+loop-again c = search (needs, each-start, end-more, end-not, each-done)
+
+returns-2 : tie.Need-returns-2 Inv-loop μ-loop
+returns-2 c = search (needs, each-start, end-more, end-not, each-done)
+
+pub ends-right-spec : {M : Type 1} → statement M
+ends-right-spec =
+    tie.close
+    (tie.spec
+    Inv-loop
+    μ-loop
+    loop-holds
+    mul-if1
+    add-if1
+    shared-slice-read-if1
+    returns
+    add-i
+    loop-less
+    loop-again
+    returns-2)
