@@ -28,6 +28,8 @@ use Rattle.bitset.specs.declared.list.Identity.{Identity}
 use Rattle.bitset.specs.declared.list.Identity.the-variants.{Number, Neither}
 use Rattle.bitset.specs.declared.list.Looked.{Looked}
 use Rattle.bitset.specs.declared.list.Looked.the-variants as L
+use Rattle.bitset.specs.declared.list.BitWalk.{BitWalk}
+use Rattle.bitset.specs.declared.list.BitWalk.the-variants as W
 use Rattle.bitset.specs.declared.list.BitRead.{BitRead}
 use Rattle.bitset.specs.declared.list.BitRead.the-variants as B
 
@@ -63,6 +65,15 @@ onStop (S.At fault at) f rest = f (ofFault fault at)
 -- the parts of the BIT at a place: INDEX, NAME and the VALUE flag
 unfoldable pub partsReading : List ℕ → List ℕ → ℕ → Slot → Slot → Slot → BitRead
 partsReading s names at index name on = onLooked (identified s names index name) at (on .present)
+
+-- a BIT that is walked whole: its first fault, or the slots of its three types
+unfoldable pub bitWalked : List ℕ → ℕ → BitWalk
+bitWalked s from =
+    onStop (walked bitPolicy s from .stop) W.Refused
+    (W.Parts
+    (getD (walked bitPolicy s from .slots) 1 absent)
+    (getD (walked bitPolicy s from .slots) 2 absent)
+    (getD (walked bitPolicy s from .slots) 3 absent))
 
 -- the BIT whose contents are the bytes of s from a position on: walked whole, then judged
 unfoldable pub bitReading : List ℕ → List ℕ → ℕ → BitRead

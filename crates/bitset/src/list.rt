@@ -2,8 +2,9 @@
 ghost use mathlib.Core.Path.{_≡_};
 ghost use Rattle.netlink.specs.Attributes.{attributes};
 ghost use Rattle.bitset.specs.Bitset.{judgedAs};
-ghost use Rattle.bitset.specs.BitList.{byIndex, byName, identified, partsReading, bitReading, bitsReading, listReading, listJudged};
+ghost use Rattle.bitset.specs.BitList.{bitWalked, byIndex, byName, identified, partsReading, bitReading, bitsReading, listReading, listJudged};
 ghost use Rattle.netlink.specs.Walk.{absent, found};
+ghost use Rattle.bitset.specs.declared.form.Judgement.the-variants.{Accepted};
 ghost use Rattle.entries.specs.Entry.{count};
 ghost use Rattle.entries.specs.Chain.{IndexedIf};
 use crate::form::Form;
@@ -11,8 +12,6 @@ use crate::form::Judged;
 use crate::form::Judgement;
 use crate::form::refused;
 use crate::form::under_nomask;
-use crate::policies::INDEX;
-use crate::policies::NAME;
 use crate::policies::bit_rule;
 use crate::policies::bits_policy;
 use netlink::attributes::AttributeRead;
@@ -43,6 +42,12 @@ pub enum Looked {
 // A BIT judged: the bit, and whether its VALUE flag stands.
 pub enum BitRead {
     Bit { number: usize, on: bool },
+    Refused(Refusal),
+}
+
+// What walking a BIT gives: the slots of its three types, or the first fault.
+pub enum BitWalk {
+    Parts { index: Slot, name: Slot, on: Slot },
     Refused(Refusal),
 }
 
@@ -140,7 +145,46 @@ fn judge_parts(
     }
 }
 
-// Judges the BIT whose contents are the bytes of s from `from` on: walks it whole, keeping only the slots of its three types.
+// Walks the BIT whose contents are the bytes of s from `from` on, keeping only the slots of its three types.
+fn walk_bit(s: &[u8], from: usize) -> BitWalk
+    ensures { λ r. ⌜ r ≡ bitWalked (now (s .entry)) from ⌝ }
+{
+    let mut index = absent();
+    let mut name = absent();
+    let mut on = absent();
+    let mut at = from;
+    loop {
+        match read_attribute(s, at) {
+            AttributeRead::End => {
+                return BitWalk::Parts { index, name, on };
+            }
+            AttributeRead::Broken => {
+                return BitWalk::Refused(of_fault(Fault::Length, at));
+            }
+            AttributeRead::Attribute {
+                kind,
+                bits,
+                start,
+                end,
+                next: after,
+            } => match netlink::policy::judge(bit_rule(kind), bits, payload(s, start, end)) {
+                Verdict::Wrong(fault) => {
+                    return BitWalk::Refused(of_fault(fault, at));
+                }
+                Verdict::Right => {
+                    at = after;
+                    match kind {
+                        1 => index = found(start, end),
+                        2 => name = found(start, end),
+                        _ => on = found(start, end),
+                    }
+                }
+            },
+        }
+    }
+}
+
+// Judges that BIT.
 fn judge_bit(
     s: &[u8],
     names: &[u8],
@@ -152,42 +196,20 @@ fn judge_bit(
     requires { ⌜ IndexedIf indexed (now names) (now head) (now links) ⌝ }
     ensures { λ r. ⌜ r ≡ bitReading (now (s .entry)) (now (names .entry)) from ⌝ }
 {
-    let mut index = absent();
-    let mut name = absent();
-    let mut on = absent();
-    let mut at = from;
-    loop {
-        match read_attribute(s, at) {
-            AttributeRead::End => {
-                return judge_parts(s, names, indexed, head, links, place(from), index, name, on);
-            }
-            AttributeRead::Broken => {
-                return BitRead::Refused(of_fault(Fault::Length, at));
-            }
-            AttributeRead::Attribute {
-                kind,
-                bits,
-                start,
-                end,
-                next: after,
-            } => match netlink::policy::judge(bit_rule(kind), bits, payload(s, start, end)) {
-                Verdict::Wrong(fault) => {
-                    return BitRead::Refused(of_fault(fault, at));
-                }
-                Verdict::Right => {
-                    at = after;
-                    if kind == INDEX as u16 {
-                        index = found(start, end);
-                        continue;
-                    }
-                    if kind == NAME as u16 {
-                        name = found(start, end);
-                        continue;
-                    }
-                    on = found(start, end);
-                }
-            },
+    match walk_bit(s, from) {
+        BitWalk::Refused(why) => BitRead::Refused(why),
+        BitWalk::Parts { index, name, on } => {
+            judge_parts(s, names, indexed, head, links, place(from), index, name, on)
         }
+    }
+}
+
+fn accepted(mask: [u32; 16], value: [u32; 16]) -> Judged
+    ensures { λ r. ⌜ r ≡ record { judgement = Accepted; form = record { mask = mask; value = value } } ⌝ }
+{
+    Judged {
+        judgement: Judgement::Accepted,
+        form: Form { mask, value },
     }
 }
 
@@ -209,23 +231,16 @@ fn judge_bits(
     loop {
         match read_attribute(s, at) {
             AttributeRead::End => {
-                return Judged {
-                    judgement: Judgement::Accepted,
-                    form: Form { mask, value },
-                };
+                return accepted(mask, value);
             }
             AttributeRead::Broken => {
-                return Judged {
-                    judgement: Judgement::Accepted,
-                    form: Form { mask, value },
-                };
+                return accepted(mask, value);
             }
             AttributeRead::Attribute {
-                kind: _,
-                bits: _,
                 start,
                 end,
                 next,
+                ..
             } => match judge_bit(payload(s, 0, end), names, indexed, head, links, start) {
                 BitRead::Refused(why) => {
                     return refused(why);

@@ -41,7 +41,7 @@ use Rattle.bitset.specs.Policies.{bitsPolicy, bitPolicy}
 use Rattle.bitset.specs.Bitset.{Bitset, Reading, maskOf, valueOf, refusedAs, judgedAs, listedIn, onJudgement, underNomask}
 use Rattle.bitset.specs.Bitset.Bitset.{listed, only}
 use Rattle.bitset.specs.Bitset.Reading.{refused, accepted}
-use Rattle.bitset.specs.BitList.{byIndex, onLookup, byName, identified, onIdentity, onLooked, onStop, partsReading, bitReading, ListReading, onBit, bitsReading, listJudged, asBitset, listReading}
+use Rattle.bitset.specs.BitList.{byIndex, onLookup, byName, identified, onIdentity, onLooked, onStop, partsReading, bitWalked, bitReading, ListReading, onBit, bitsReading, listJudged, asBitset, listReading}
 use Rattle.bitset.specs.BitList.ListReading.{stopped, entries}
 use Rattle.bitset.specs.declared.form.Form.{Form}
 use Rattle.bitset.specs.declared.form.Judgement.the-variants.{Accepted, Refused}
@@ -50,6 +50,8 @@ use Rattle.bitset.specs.declared.list.Identity.{Identity}
 use Rattle.bitset.specs.declared.list.Identity.the-variants.{Number, Neither}
 use Rattle.bitset.specs.declared.list.Looked.{Looked}
 use Rattle.bitset.specs.declared.list.Looked.the-variants as L
+use Rattle.bitset.specs.declared.list.BitWalk.{BitWalk}
+use Rattle.bitset.specs.declared.list.BitWalk.the-variants as W
 use Rattle.bitset.specs.declared.list.BitRead.{BitRead}
 use Rattle.bitset.specs.declared.list.BitRead.the-variants as B
 
@@ -138,41 +140,39 @@ rule-other (suc (suc (suc (suc (suc (suc (suc (suc k)))))))) a b c = refl
 
 pub ruleset rule-laws = (rule-index, rule-name, rule-on, rule-other)
 
--- the parts of a BIT whose walk is whole: the last of each type, the slots given where there is none
-abbrev lastParts : List ℕ → List ℕ → ℕ → Attributes → Slot → Slot → Slot → BitRead
-lastParts s names from xs i n o = partsReading s names (from - 4) (lastOf 1 i xs) (lastOf 2 n xs) (lastOf 3 o xs)
+-- the slots of a BIT whose walk is whole: the last of each type, the slots given where there is none
+abbrev lastParts : Attributes → Slot → Slot → Slot → BitWalk
+lastParts xs i n o = W.Parts (lastOf 1 i xs) (lastOf 2 n xs) (lastOf 3 o xs)
 
 -- a BIT that is walked as far as a place, with slots i, n, o of its three types
-abbrev pub BitFrom : List ℕ → List ℕ → ℕ → Slot → Slot → Slot → ℕ → Type 0
-BitFrom s names from i n o at =
-    bitReading s names from
-    ≡ onStop (firstFault bitPolicy s (attributes s at)) B.Refused (lastParts s names from (attributes s at) i n o)
+abbrev pub BitFrom : List ℕ → ℕ → Slot → Slot → Slot → ℕ → Type 0
+BitFrom s from i n o at = bitWalked s from ≡ onStop (firstFault bitPolicy s (attributes s at)) W.Refused (lastParts (attributes s at) i n o)
 
-pub bit-start : (s names : List ℕ) (from : ℕ) (i n o : Slot) → i ≡ absent → n ≡ absent → o ≡ absent → BitFrom s names from i n o from
-unfolding bitReading walked
-bit-start s names from i n o ei en eo = rw (ei, en, eo) (go (firstFault bitPolicy s (attributes s from)))
+pub bit-start : (s : List ℕ) (from : ℕ) (i n o : Slot) → i ≡ absent → n ≡ absent → o ≡ absent → BitFrom s from i n o from
+unfolding bitWalked walked
+bit-start s from i n o ei en eo = rw (ei, en, eo) (go (firstFault bitPolicy s (attributes s from)))
   where
     go : (t : Stop)
-        → onStop (walkStop t (eachType (λ kind. lastOf kind absent (attributes s from))) .stop) B.Refused
-        (partsReading s names (from - 4) (getD (walkStop t (eachType (λ kind. lastOf kind absent (attributes s from))) .slots) 1 absent) (getD (walkStop t (eachType (λ kind. lastOf kind absent (attributes s from))) .slots) 2 absent) (getD (walkStop t (eachType (λ kind. lastOf kind absent (attributes s from))) .slots) 3 absent))
-        ≡ onStop t B.Refused (lastParts s names from (attributes s from) absent absent absent)
+        → onStop (walkStop t (eachType (λ kind. lastOf kind absent (attributes s from))) .stop) W.Refused
+        (W.Parts (getD (walkStop t (eachType (λ kind. lastOf kind absent (attributes s from))) .slots) 1 absent) (getD (walkStop t (eachType (λ kind. lastOf kind absent (attributes s from))) .slots) 2 absent) (getD (walkStop t (eachType (λ kind. lastOf kind absent (attributes s from))) .slots) 3 absent))
+        ≡ onStop t W.Refused (lastParts (attributes s from) absent absent absent)
     go S.Whole = refl
     go (S.At f at) = refl
 
-module _ (s names : List ℕ) (from : ℕ) (i n o : Slot) (at : ℕ) (inv : BitFrom s names from i n o at) (r : AttributeRead) (e : r ≡ attributeAt s at) where
-  abbrev reading : Attributes → BitRead
-  reading xs = onStop (firstFault bitPolicy s xs) B.Refused (lastParts s names from xs i n o)
+module _ (s : List ℕ) (from : ℕ) (i n o : Slot) (at : ℕ) (inv : BitFrom s from i n o at) (r : AttributeRead) (e : r ≡ attributeAt s at) where
+  abbrev reading : Attributes → BitWalk
+  reading xs = onStop (firstFault bitPolicy s xs) W.Refused (lastParts xs i n o)
 
-  bit-step : bitReading s names from ≡ reading (onRead r at (attributes s))
+  bit-step : bitWalked s from ≡ reading (onRead r at (attributes s))
   bit-step = inv ∙ ap reading (attributes-step s at ∙ ap (λ (x : AttributeRead). onRead x at (attributes s)) (sym e))
 
-  pub bit-end : (p : ℕ) (y : BitRead) → r ≡ End → p ≡ from - 4 → y ≡ partsReading s names p i n o → y ≡ bitReading s names from
+  pub bit-end : r ≡ End → W.Parts i n o ≡ bitWalked s from
   unfolding firstFault lastOf
-  bit-end p y q ep ey = ey ∙ ap (λ (x : ℕ). partsReading s names x i n o) ep ∙ sym (rw q at bit-step)
+  bit-end q = sym (rw q at bit-step)
 
-  pub bit-broken : (y : Refusal) → r ≡ Broken → y ≡ ofFault Length at → B.Refused y ≡ bitReading s names from
+  pub bit-broken : (y : Refusal) → r ≡ Broken → y ≡ ofFault Length at → W.Refused y ≡ bitWalked s from
   unfolding firstFault
-  bit-broken y q ey = ap B.Refused ey ∙ sym (rw q at bit-step)
+  bit-broken y q ey = ap W.Refused ey ∙ sym (rw q at bit-step)
 
   module _ (k b a z next : ℕ) (q : r ≡ Attribute k b a z next) where
     within : Bounded s at (Attribute k b a z next)
@@ -182,9 +182,9 @@ module _ (s names : List ℕ) (from : ℕ) (i n o : Slot) (at : ℕ) (inv : BitF
     bit-less = let i = within in omega arith
 
     module _ (m : Rule) (l : List ℕ) (v : Verdict) (em : m ≡ ruleOf bitPolicy k) (el : l ≡ partOf s a z) (ev : v ≡ judged m b l) where
-      bit-judged : bitReading s names from
-          ≡ onStop (onVerdict v at (firstFault bitPolicy s (attributes s next))) B.Refused
-          (lastParts s names from (attributes s next) (cond (eqb k 1) (found a z) i) (cond (eqb k 2) (found a z) n) (cond (eqb k 3) (found a z) o))
+      bit-judged : bitWalked s from
+          ≡ onStop (onVerdict v at (firstFault bitPolicy s (attributes s next))) W.Refused
+          (lastParts (attributes s next) (cond (eqb k 1) (found a z) i) (cond (eqb k 2) (found a z) n) (cond (eqb k 3) (found a z) o))
       unfolding firstFault lastOf
       bit-judged = rw q at bit-step ∙ rw (verdict, here)
         where
@@ -194,31 +194,60 @@ module _ (s names : List ℕ) (from : ℕ) (i n o : Slot) (at : ℕ) (inv : BitF
           here : a - 4 ≡ at
           here = let i = within in omega arith
 
-      pub bit-wrong : (f : Fault) (y : Refusal) → v ≡ Wrong f → y ≡ ofFault f at → B.Refused y ≡ bitReading s names from
-      bit-wrong f y h ey = ap B.Refused ey ∙ sym (rw h at bit-judged)
+      pub bit-wrong : (f : Fault) (y : Refusal) → v ≡ Wrong f → y ≡ ofFault f at → W.Refused y ≡ bitWalked s from
+      bit-wrong f y h ey = ap W.Refused ey ∙ sym (rw h at bit-judged)
 
       module _ (h : v ≡ Right) (x : Slot) (ex : x ≡ found a z) where
-        pub bit-index : k ≡ 1 → BitFrom s names from x n o next
+        pub bit-index : k ≡ 1 → BitFrom s from x n o next
         bit-index g = rw (h, g, ← ex) at bit-judged
 
-        module _ (n1 : k ≡ 1 → ⊥) where
-          pub bit-name : k ≡ 2 → BitFrom s names from i x o next
-          bit-name g = rw (h, g, ← ex) at bit-judged
+        pub bit-name : k ≡ 2 → BitFrom s from i x o next
+        bit-name g = rw (h, g, ← ex) at bit-judged
 
-          -- what is right and neither is VALUE
-          pub bit-on : (k ≡ 2 → ⊥) → BitFrom s names from i n x next
-          unfolding judged
-          bit-on n2 = rw (h, third, ← ex) at bit-judged
-            where
-              third : k ≡ 3
-              third =
-                  eqb-true k 3
-                  (true-of (eqb k 3)
-                  (λ g. let u : v ≡ Wrong Unknown = ev ∙ ap (λ (y : Rule). judged y b l) (em ∙ sym (rule-other k n1 n2 (eqb-false k 3 g))) in
-                  let c : _≡_ {A = ℕ} 0 1 = cc in
-                  omega arith))
+        -- what is right and neither is VALUE
+        pub bit-on : (k ≡ 1 → ⊥) → (k ≡ 2 → ⊥) → BitFrom s from i n x next
+        unfolding judged
+        bit-on n1 n2 = rw (h, third, ← ex) at bit-judged
+          where
+            third : k ≡ 3
+            third =
+                eqb-true k 3
+                (true-of (eqb k 3)
+                (λ g. let u : v ≡ Wrong Unknown = ev ∙ ap (λ (y : Rule). judged y b l) (em ∙ sym (rule-other k n1 n2 (eqb-false k 3 g))) in
+                let c : _≡_ {A = ℕ} 0 1 = cc in
+                omega arith))
 
 pub ruleset bit-laws = (bit-start, bit-end, bit-broken, bit-less, bit-wrong, bit-index, bit-name, bit-on)
+
+-- what is walked, then judged
+module _ (s names : List ℕ) (from : ℕ) (w : BitWalk) (e : w ≡ bitWalked s from) where
+  pub bit-refused : (y : Refusal) → w ≡ W.Refused y → B.Refused y ≡ bitReading s names from
+  unfolding bitWalked bitReading
+  bit-refused y q = go (walked bitPolicy s from .stop) (sym q ∙ e)
+    where
+      go : (t : Stop)
+          → W.Refused y
+          ≡ onStop t W.Refused (W.Parts (getD (walked bitPolicy s from .slots) 1 absent) (getD (walked bitPolicy s from .slots) 2 absent) (getD (walked bitPolicy s from .slots) 3 absent))
+          → B.Refused y
+          ≡ onStop t B.Refused
+          (partsReading s names (from - 4) (getD (walked bitPolicy s from .slots) 1 absent) (getD (walked bitPolicy s from .slots) 2 absent) (getD (walked bitPolicy s from .slots) 3 absent))
+      go S.Whole q = absurd (let c : _≡_ {A = ℕ} 0 1 = cc in omega arith)
+      go (S.At f at) q = ap B.Refused cc
+
+  pub bit-parts : (i n o : Slot) (p : ℕ) (y : BitRead) → w ≡ W.Parts i n o → p ≡ from - 4 → y ≡ partsReading s names p i n o → y ≡ bitReading s names from
+  unfolding bitWalked bitReading
+  bit-parts i n o p y q ep ey = ey ∙ ap (λ (x : ℕ). partsReading s names x i n o) ep ∙ go (walked bitPolicy s from .stop) (sym q ∙ e)
+    where
+      go : (t : Stop)
+          → W.Parts i n o
+          ≡ onStop t W.Refused (W.Parts (getD (walked bitPolicy s from .slots) 1 absent) (getD (walked bitPolicy s from .slots) 2 absent) (getD (walked bitPolicy s from .slots) 3 absent))
+          → partsReading s names (from - 4) i n o
+          ≡ onStop t B.Refused
+          (partsReading s names (from - 4) (getD (walked bitPolicy s from .slots) 1 absent) (getD (walked bitPolicy s from .slots) 2 absent) (getD (walked bitPolicy s from .slots) 3 absent))
+      go S.Whole q = cc
+      go (S.At f at) q = absurd (let c : _≡_ {A = ℕ} 0 1 = cc in omega arith)
+
+pub ruleset judge-bit-laws = (bit-refused, bit-parts)
 
 -- The loop over the BITs: the form of what is listed so far, and what is left.
 unfoldable pub formAfter : Form → List Listed → Form
@@ -302,13 +331,13 @@ module _ (s names : List ℕ) (from : ℕ) (f : Form) (at : ℕ) (inv : BitsFrom
   step : listJudged (bitsReading s names (attributes s from)) ≡ judgedAfter f (bitsReading s names (onRead r at (attributes s)))
   step = inv ∙ ap (λ (x : Attributes). judgedAfter f (bitsReading s names x)) (attributes-step s at ∙ ap (λ (x : AttributeRead). onRead x at (attributes s)) (sym e))
 
-  pub bits-end : r ≡ End → record { judgement = Accepted; form = f } ≡ listJudged (bitsReading s names (attributes s from))
+  pub bits-end : (y : Judged) → r ≡ End → y ≡ record { judgement = Accepted; form = f } → y ≡ listJudged (bitsReading s names (attributes s from))
   unfolding bitsReading judgedAfter formAfter
-  bits-end q = sym (rw q at step)
+  bits-end y q ey = ey ∙ sym (rw q at step)
 
-  pub bits-broken : r ≡ Broken → record { judgement = Accepted; form = f } ≡ listJudged (bitsReading s names (attributes s from))
+  pub bits-broken : (y : Judged) → r ≡ Broken → y ≡ record { judgement = Accepted; form = f } → y ≡ listJudged (bitsReading s names (attributes s from))
   unfolding bitsReading judgedAfter formAfter
-  bits-broken q = sym (rw q at step)
+  bits-broken y q ey = ey ∙ sym (rw q at step)
 
   module _ (k b a z n : ℕ) (q : r ≡ Attribute k b a z n) where
     inside : Bounded s at (Attribute k b a z n)

@@ -22,11 +22,17 @@ read-attribute-requires c κs = search (needs, bits-laws)
 enum-told : tie.Need-enum-told Inv-loop μ-loop
 enum-told c = search (needs, bits-laws)
 
+accepted-requires : tie.Need-accepted-requires Inv-loop μ-loop
+accepted-requires c κs = search (needs, bits-laws)
+
 returns : tie.Need-returns Inv-loop μ-loop
 returns c = search (needs, bits-laws)
 
 enum-told-2 : tie.Need-enum-told-2 Inv-loop μ-loop
 enum-told-2 c = search (needs, bits-laws)
+
+accepted-requires-2 : tie.Need-accepted-requires-2 Inv-loop μ-loop
+accepted-requires-2 c κs = search (needs, bits-laws)
 
 returns-2 : tie.Need-returns-2 Inv-loop μ-loop
 returns-2 c = search (needs, bits-laws)
@@ -86,8 +92,10 @@ judge-bits-spec =
     loop-holds
     read-attribute-requires
     enum-told
+    accepted-requires
     returns
     enum-told-2
+    accepted-requires-2
     returns-2
     enum-known-start
     payload-requires
