@@ -3,7 +3,9 @@ ghost use mathlib.Core.Path.{_≡_};
 ghost use Rattle.netlink.specs.Attributes.{attributes};
 ghost use Rattle.bitset.specs.Bitset.{judgedAs};
 ghost use Rattle.bitset.specs.BitList.{bitWalked, byIndex, byName, identified, partsReading, bitReading, bitsReading, listReading, listJudged};
+ghost use Rattle.netlink.specs.Policy.{ruleOf, judged};
 ghost use Rattle.netlink.specs.Walk.{absent, found};
+ghost use Rattle.bitset.specs.Policies.{bitPolicy};
 ghost use Rattle.bitset.specs.declared.form.Judgement.the-variants.{Accepted};
 ghost use Rattle.entries.specs.Entry.{count};
 ghost use Rattle.entries.specs.Chain.{IndexedIf};
@@ -12,14 +14,15 @@ use crate::form::Judged;
 use crate::form::Judgement;
 use crate::form::refused;
 use crate::form::under_nomask;
-use crate::policies::bit_rule;
 use crate::policies::bits_policy;
 use netlink::attributes::AttributeRead;
 use netlink::attributes::payload;
 use netlink::attributes::place;
 use netlink::attributes::read_attribute;
 use netlink::policy::Fault;
+use netlink::policy::Rule;
 use netlink::policy::Verdict;
+use netlink::policy::judge;
 use netlink::walk::Slot;
 use netlink::walk::Stop;
 use netlink::walk::slot_number;
@@ -145,6 +148,18 @@ fn judge_parts(
     }
 }
 
+// Judges one attribute of a BIT. The rule is written out for each type, so that each is judged by short code of its own.
+fn judge_attribute(kind: u16, bits: u16, payload: &[u8]) -> Verdict
+    ensures { λ r. ⌜ r ≡ judged (ruleOf bitPolicy kind) bits (now (payload .entry)) ⌝ }
+{
+    match kind {
+        1 => judge(Rule::Number, bits, payload),
+        2 => judge(Rule::Name(32), bits, payload),
+        3 => judge(Rule::Flag, bits, payload),
+        _ => judge(Rule::Unlisted, bits, payload),
+    }
+}
+
 // Walks the BIT whose contents are the bytes of s from `from` on, keeping only the slots of its three types.
 fn walk_bit(s: &[u8], from: usize) -> BitWalk
     ensures { λ r. ⌜ r ≡ bitWalked (now (s .entry)) from ⌝ }
@@ -167,7 +182,7 @@ fn walk_bit(s: &[u8], from: usize) -> BitWalk
                 start,
                 end,
                 next: after,
-            } => match netlink::policy::judge(bit_rule(kind), bits, payload(s, start, end)) {
+            } => match judge_attribute(kind, bits, payload(s, start, end)) {
                 Verdict::Wrong(fault) => {
                     return BitWalk::Refused(of_fault(fault, at));
                 }

@@ -1,7 +1,6 @@
 // What stands in a bitset, in its BITS and in a BIT.
 ghost use mathlib.Core.Path.{_≡_};
-ghost use Rattle.netlink.specs.Policy.{ruleOf};
-ghost use Rattle.bitset.specs.Policies.{bitsetPolicy, bitsPolicy, bitPolicy};
+ghost use Rattle.bitset.specs.Policies.{bitsetPolicy, bitsPolicy};
 use netlink::policy::Rule;
 
 // Types in a bitset.
@@ -50,16 +49,4 @@ pub fn bits_policy() -> [Rule; 8]
         Rule::Unlisted,
         Rule::Unlisted,
     ]
-}
-
-// The rule for a type in a BIT.
-pub fn bit_rule(kind: u16) -> Rule
-    ensures { λ r. ⌜ r ≡ ruleOf bitPolicy kind ⌝ }
-{
-    match kind {
-        1 => Rule::Number,
-        2 => Rule::Name(32),
-        3 => Rule::Flag,
-        _ => Rule::Unlisted,
-    }
 }

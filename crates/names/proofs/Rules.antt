@@ -14,7 +14,7 @@ use Rattle.basics.proofs.Order.{lt-or-ge}
 use mathlib.Core.Logic.{⊎-elim}
 use Rattle.entries.specs.Entry.{count, entryAt, distinct}
 use Rattle.entries.proofs.Entries.{entry-byte}
-use Rattle.names.specs.Rule.{nulThenNul, entryRight, pairAt, halfRight, endRight, rightAt, namesRight}
+use Rattle.names.specs.Rule.{nulThenNul, entryRight, pairAt, lowRight, highRight, rightAt, namesRight}
 
 -- sixteen pairs
 module _ (s : List ℕ) (at : ℕ) where
@@ -43,19 +43,26 @@ module _ (n : ℕ) (f : ℕ → Bool) where
   each-done i h l u = sym (all-done f n i h l u)
 
 module _ (names : List ℕ) where
-  pub half-is : (from i k : ℕ) (b : Bool) → k ≡ i * 32 + from → b ≡ all 16 (pairAt names k) → b ≡ halfRight names from i
-  unfolding halfRight
-  half-is from i k b ek e = e ∙ ap (λ (x : ℕ). all 16 (pairAt names x)) ek
+  pub low-end : (i : ℕ) → i < count names → (getD names (i * 32 + 31) 0 ≡ 0 → ⊥) → false ≡ all (count names) (lowRight names)
+  unfolding lowRight
+  low-end i l n = sym (all-fails (lowRight names) (count names) i l (rw (ne-eqb _ 0 n)))
 
-  pub end-more : (i : ℕ) → all i (endRight names) ≡ true → getD names (i * 32 + 31) 0 ≡ 0 → all (i + 1) (endRight names) ≡ true
-  unfolding endRight
-  end-more i h z = all-more (endRight names) i h (eq-eqb _ 0 z)
+  module _ (i : ℕ) (b : Bool) (e : b ≡ all 16 (pairAt names (i * 32))) (z : getD names (i * 32 + 31) 0 ≡ 0) where
+    low-is : b ≡ lowRight names i
+    unfolding lowRight
+    low-is = e ∙ sym (rw (eq-eqb _ 0 z))
 
-  pub end-not : (i : ℕ) → i < count names → (getD names (i * 32 + 31) 0 ≡ 0 → ⊥) → false ≡ all (count names) (endRight names)
-  unfolding endRight
-  end-not i l n = sym (all-fails (endRight names) (count names) i l (ne-eqb _ 0 n))
+    pub low-not : i < count names → not b ≡ true → false ≡ all (count names) (lowRight names)
+    low-not l q = each-not (count names) (lowRight names) i b l low-is q
 
-  -- an entry is right exactly when its end is and both halves are
+    pub low-more : all i (lowRight names) ≡ true → not b ≡ false → all (i + 1) (lowRight names) ≡ true
+    low-more h q = each-more (count names) (lowRight names) i b h low-is q
+
+  pub high-is : (i : ℕ) (b : Bool) → b ≡ all 16 (pairAt names (i * 32 + 15)) → b ≡ highRight names i
+  unfolding highRight
+  high-is i b e = e
+
+  -- an entry is right exactly when both halves are
   module _ (i : ℕ) (h : i < count names) where
     pair-is : (j : ℕ) → j < 31 → nulThenNul names (i * 32 + j) ≡ nulThenNul (entryAt names i) j
     unfolding nulThenNul
@@ -63,27 +70,36 @@ module _ (names : List ℕ) where
         let k : i * 32 + (j + 1) ≡ i * 32 + j + 1 = omega arith in
         sym (rw (entry-byte names i h j (omega arith), entry-byte names i h (j + 1) (omega arith), k))
 
-    right-end : rightAt names i ≡ true → endRight names i ≡ true
-    unfolding rightAt entryRight endRight
-    right-end r = rw (entry-byte names i h 31 (omega arith)) at (both-true (eqb (getD (entryAt names i) 31 0) 0) (all 31 (nulThenNul (entryAt names i))) r .0)
-
-    right-half : (from : ℕ) → from ≤ 15 → rightAt names i ≡ true → halfRight names from i ≡ true
-    unfolding rightAt entryRight halfRight pairAt
-    right-half from u r =
+    right-pairs : (from : ℕ) → from ≤ 15 → rightAt names i ≡ true → all 16 (pairAt names (i * 32 + from)) ≡ true
+    unfolding rightAt entryRight pairAt
+    right-pairs from u r =
         all-of (pairAt names (i * 32 + from)) 16
         (λ j l. let k : i * 32 + from + j ≡ i * 32 + (from + j) = omega arith in
         ap (nulThenNul names) k ∙ pair-is (from + j) (omega arith)
-        ∙ all-each (nulThenNul (entryAt names i)) 31 (from + j) (both-true (eqb (getD (entryAt names i) 31 0) 0) _ r .1) (omega arith))
+        ∙ all-each (nulThenNul (entryAt names i)) 31 (from + j) (both-true (eqb (getD (entryAt names i) 31 0) 0) (all 31 (nulThenNul (entryAt names i))) r .1) (omega arith))
 
-    halves-right : endRight names i ≡ true → halfRight names 0 i ≡ true → halfRight names 15 i ≡ true → rightAt names i ≡ true
-    unfolding rightAt entryRight endRight halfRight pairAt
-    halves-right e a b =
-        rw (rw (← entry-byte names i h 31 (omega arith)) at e, all-of (nulThenNul (entryAt names i)) 31 (λ j l. ⊎-elim (λ (u : j < 16). low j u) (λ (u : 16 ≤ j). high j u l) (lt-or-ge j 16)))
+    right-low : rightAt names i ≡ true → lowRight names i ≡ true
+    unfolding rightAt entryRight lowRight
+    right-low r =
+        let k : i * 32 + 0 ≡ i * 32 = omega arith in
+        let e : eqb (getD names (i * 32 + 31) 0) 0 ≡ true =
+        rw (entry-byte names i h 31 (omega arith)) at (both-true (eqb (getD (entryAt names i) 31 0) 0) (all 31 (nulThenNul (entryAt names i))) r .0) in
+        rw (e, rw k at (right-pairs 0 (omega arith) r))
+
+    right-high : rightAt names i ≡ true → highRight names i ≡ true
+    unfolding highRight
+    right-high r = right-pairs 15 (omega arith) r
+
+    halves-right : lowRight names i ≡ true → highRight names i ≡ true → rightAt names i ≡ true
+    unfolding rightAt entryRight lowRight highRight pairAt
+    halves-right a b =
+        rw (rw (← entry-byte names i h 31 (omega arith)) at (ends .0), all-of (nulThenNul (entryAt names i)) 31 (λ j l. ⊎-elim (λ (u : j < 16). low j u) (λ (u : 16 ≤ j). high j u l) (lt-or-ge j 16)))
       where
+        ends : (eqb (getD names (i * 32 + 31) 0) 0 ≡ true) × (all 16 (pairAt names (i * 32)) ≡ true)
+        ends = both-true (eqb (getD names (i * 32 + 31) 0) 0) (all 16 (pairAt names (i * 32))) a
+
         low : (j : ℕ) → j < 16 → nulThenNul (entryAt names i) j ≡ true
-        low j u =
-            let k : i * 32 + j ≡ i * 32 + 0 + j = omega arith in
-            sym (pair-is j (omega arith)) ∙ ap (nulThenNul names) k ∙ all-each (pairAt names (i * 32 + 0)) 16 j a u
+        low j u = sym (pair-is j (omega arith)) ∙ all-each (pairAt names (i * 32)) 16 j (ends .1) u
 
         high : (j : ℕ) → 16 ≤ j → j < 31 → nulThenNul (entryAt names i) j ≡ true
         high j u l =
@@ -93,24 +109,21 @@ module _ (names : List ℕ) where
   each : (f : ℕ → Bool) → ((i : ℕ) → i < count names → rightAt names i ≡ true → f i ≡ true) → all (count names) (rightAt names) ≡ true → all (count names) f ≡ true
   each f g r = all-of f (count names) (λ i l. g i l (all-each (rightAt names) (count names) i r l))
 
-  pub entries-end : (b : Bool) → b ≡ all (count names) (endRight names) → not b ≡ true → false ≡ all (count names) (rightAt names)
-  entries-end b e q = sym (false-of (all (count names) (rightAt names)) (λ r. clash (e ∙ each (endRight names) right-end r) (not-true b q)))
+  module _ (b : Bool) (e : b ≡ all (count names) (lowRight names)) where
+    pub entries-low : not b ≡ true → false ≡ all (count names) (rightAt names)
+    entries-low q = sym (false-of (all (count names) (rightAt names)) (λ r. clash (e ∙ each (lowRight names) right-low r) (not-true b q)))
 
-  pub entries-half : (from : ℕ) (b : Bool) → from ≤ 15 → b ≡ all (count names) (halfRight names from) → not b ≡ true → false ≡ all (count names) (rightAt names)
-  entries-half from b u e q = sym (false-of (all (count names) (rightAt names)) (λ r. clash (e ∙ each (halfRight names from) (λ i l. right-half i l from u) r) (not-true b q)))
+    pub entries-high : (r : Bool) → not b ≡ false → r ≡ all (count names) (highRight names) → r ≡ all (count names) (rightAt names)
+    entries-high r q er = go r er
+      where
+        go : (r : Bool) → r ≡ all (count names) (highRight names) → r ≡ all (count names) (rightAt names)
+        go true k =
+            sym
+            (all-of (rightAt names) (count names)
+            (λ i l. halves-right i l (all-each (lowRight names) (count names) i (sym e ∙ not-false b q) l) (all-each (highRight names) (count names) i (sym k) l)))
+        go false k = sym (false-of (all (count names) (rightAt names)) (λ t. clash (each (highRight names) right-high t) (sym k)))
 
-  pub entries-rest : (a b r : Bool) → a ≡ all (count names) (endRight names) → not a ≡ false → b ≡ all (count names) (halfRight names 0) → not b ≡ false
-      → r ≡ all (count names) (halfRight names 15) → r ≡ all (count names) (rightAt names)
-  entries-rest a b r ea qa eb qb er = go r er
-    where
-      go : (r : Bool) → r ≡ all (count names) (halfRight names 15) → r ≡ all (count names) (rightAt names)
-      go true e =
-          sym
-          (all-of (rightAt names) (count names)
-          (λ i l. halves-right i l (all-each (endRight names) (count names) i (sym ea ∙ not-false a qa) l) (all-each (halfRight names 0) (count names) i (sym eb ∙ not-false b qb) l) (all-each (halfRight names 15) (count names) i (sym e) l)))
-      go false e = sym (false-of (all (count names) (rightAt names)) (λ t. clash (each (halfRight names 15) (λ i l. right-half i l 15 (omega arith)) t) (sym e)))
-
-pub ruleset entries-laws = (entries-end, entries-half, entries-rest)
+pub ruleset entries-laws = (entries-low, entries-high)
 
 -- the list
 module _ (names : List ℕ) where

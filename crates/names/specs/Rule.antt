@@ -19,13 +19,13 @@ entryRight e = eqb (getD e 31 0) 0 && all 31 (nulThenNul e)
 unfoldable pub pairAt : List ℕ → ℕ → ℕ → Bool
 pairAt s at j = nulThenNul s (at + j)
 
--- so are the sixteen bytes of entry i from a place in it on
-unfoldable pub halfRight : List ℕ → ℕ → ℕ → Bool
-halfRight names from i = all 16 (pairAt names (i * 32 + from))
+-- so it is in the first half of entry i, and its last byte is NUL
+unfoldable pub lowRight : List ℕ → ℕ → Bool
+lowRight names i = eqb (getD names (i * 32 + 31) 0) 0 && all 16 (pairAt names (i * 32))
 
--- the last byte of entry i is NUL
-unfoldable pub endRight : List ℕ → ℕ → Bool
-endRight names i = eqb (getD names (i * 32 + 31) 0) 0
+-- so it is in its second half, which begins with the last byte of the first
+unfoldable pub highRight : List ℕ → ℕ → Bool
+highRight names i = all 16 (pairAt names (i * 32 + 15))
 
 -- whether entry i is so
 unfoldable pub rightAt : List ℕ → ℕ → Bool

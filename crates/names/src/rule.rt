@@ -4,7 +4,7 @@ ghost use Prim.Native.Nat.{_+_, _≤_};
 ghost use lib.ListN.{length};
 ghost use Rattle.basics.specs.Scan.{all};
 ghost use Rattle.entries.specs.Entry.{count};
-ghost use Rattle.names.specs.Rule.{pairAt, halfRight, endRight, rightAt, namesRight};
+ghost use Rattle.names.specs.Rule.{pairAt, lowRight, highRight, rightAt, namesRight};
 
 // Whether each NUL among the sixteen bytes from `at` on is followed by a NUL. No early exit: all bytes are compared at once.
 fn sixteen_right(names: &[u8], at: usize) -> bool
@@ -18,43 +18,42 @@ fn sixteen_right(names: &[u8], at: usize) -> bool
     right
 }
 
-// Whether it is so in each entry, from a place in it on.
-fn halves_right(names: &[u8], from: usize) -> bool
-    requires { ⌜ from ≤ 15 ⌝ }
-    ensures { λ r. ⌜ r ≡ all (count (now (names .entry))) (halfRight (now (names .entry)) from) ⌝ }
-{
-    for i in 0..names.len() / 32 {
-        if !sixteen_right(names, i * 32 + from) {
-            return false;
-        }
-    }
-    true
-}
-
-// Whether the last byte of each entry is NUL.
-fn ends_right(names: &[u8]) -> bool
-    ensures { λ r. ⌜ r ≡ all (count (now (names .entry))) (endRight (now (names .entry))) ⌝ }
+// Whether it is so in the first half of each entry, whose last byte is NUL.
+fn low_right(names: &[u8]) -> bool
+    ensures { λ r. ⌜ r ≡ all (count (now (names .entry))) (lowRight (now (names .entry))) ⌝ }
 {
     for i in 0..names.len() / 32 {
         if names[i * 32 + 31] != 0 {
             return false;
         }
+        if !sixteen_right(names, i * 32) {
+            return false;
+        }
     }
     true
 }
 
-// Whether each entry is up to 31 bytes that are not NUL, then NULs only. Three loops cost less than one that does all: the halves overlap by
-// a byte, and what is known of one would only hinder comparing the other sixteen bytes at once.
+// Whether it is so in the second half, which begins with the last byte of the first.
+fn high_right(names: &[u8]) -> bool
+    ensures { λ r. ⌜ r ≡ all (count (now (names .entry))) (highRight (now (names .entry))) ⌝ }
+{
+    for i in 0..names.len() / 32 {
+        if !sixteen_right(names, i * 32 + 15) {
+            return false;
+        }
+    }
+    true
+}
+
+// Whether each entry is up to 31 bytes that are not NUL, then NULs only. Two loops cost half of one: what is known of a byte from the first half
+// or from the entry's end would keep the compiler from comparing the second half's sixteen bytes at once.
 fn entries_right(names: &[u8]) -> bool
     ensures { λ r. ⌜ r ≡ all (count (now (names .entry))) (rightAt (now (names .entry))) ⌝ }
 {
-    if !ends_right(names) {
+    if !low_right(names) {
         return false;
     }
-    if !halves_right(names, 0) {
-        return false;
-    }
-    halves_right(names, 15)
+    high_right(names)
 }
 
 // Whether a list breaks no rule.

@@ -138,7 +138,10 @@ rule-other (suc (suc (suc (suc (suc (suc zero)))))) a b c = refl
 rule-other (suc (suc (suc (suc (suc (suc (suc zero))))))) a b c = refl
 rule-other (suc (suc (suc (suc (suc (suc (suc (suc k)))))))) a b c = refl
 
-pub ruleset rule-laws = (rule-index, rule-name, rule-on, rule-other)
+pub by-rule : (k b : ℕ) (p : List ℕ) (m : Rule) (v : Verdict) → m ≡ ruleOf bitPolicy k → v ≡ judged m b p → v ≡ judged (ruleOf bitPolicy k) b p
+by-rule k b p m v em ev = ev ∙ ap (λ (x : Rule). judged x b p) em
+
+pub ruleset rule-laws = (rule-index, rule-name, rule-on, rule-other, by-rule)
 
 -- the slots of a BIT whose walk is whole: the last of each type, the slots given where there is none
 abbrev lastParts : Attributes → Slot → Slot → Slot → BitWalk
@@ -181,7 +184,7 @@ module _ (s : List ℕ) (from : ℕ) (i n o : Slot) (at : ℕ) (inv : BitFrom s 
     pub bit-less : length s - next < length s - at
     bit-less = let i = within in omega arith
 
-    module _ (m : Rule) (l : List ℕ) (v : Verdict) (em : m ≡ ruleOf bitPolicy k) (el : l ≡ partOf s a z) (ev : v ≡ judged m b l) where
+    module _ (l : List ℕ) (v : Verdict) (el : l ≡ partOf s a z) (ev : v ≡ judged (ruleOf bitPolicy k) b l) where
       bit-judged : bitWalked s from
           ≡ onStop (onVerdict v at (firstFault bitPolicy s (attributes s next))) W.Refused
           (lastParts (attributes s next) (cond (eqb k 1) (found a z) i) (cond (eqb k 2) (found a z) n) (cond (eqb k 3) (found a z) o))
@@ -189,7 +192,7 @@ module _ (s : List ℕ) (from : ℕ) (i n o : Slot) (at : ℕ) (inv : BitFrom s 
       bit-judged = rw q at bit-step ∙ rw (verdict, here)
         where
           verdict : judged (ruleOf bitPolicy k) b (partOf s a z) ≡ v
-          verdict = sym (ev ∙ ap (λ (x : Rule). judged x b l) em ∙ ap (λ (x : List ℕ). judged (ruleOf bitPolicy k) b x) el)
+          verdict = sym (ev ∙ ap (λ (x : List ℕ). judged (ruleOf bitPolicy k) b x) el)
 
           here : a - 4 ≡ at
           here = let i = within in omega arith
@@ -213,7 +216,7 @@ module _ (s : List ℕ) (from : ℕ) (i n o : Slot) (at : ℕ) (inv : BitFrom s 
             third =
                 eqb-true k 3
                 (true-of (eqb k 3)
-                (λ g. let u : v ≡ Wrong Unknown = ev ∙ ap (λ (y : Rule). judged y b l) (em ∙ sym (rule-other k n1 n2 (eqb-false k 3 g))) in
+                (λ g. let u : v ≡ Wrong Unknown = ev ∙ ap (λ (y : Rule). judged y b l) (sym (rule-other k n1 n2 (eqb-false k 3 g))) in
                 let c : _≡_ {A = ℕ} 0 1 = cc in
                 omega arith))
 

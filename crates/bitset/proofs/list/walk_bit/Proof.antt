@@ -44,14 +44,11 @@ returns-2 c = search (needs, bit-laws)
 enum-known-kind : tie.Need-enum-known-kind Inv-loop μ-loop
 enum-known-kind c = search (needs, bit-laws)
 
-bit-rule-requires : tie.Need-bit-rule-requires Inv-loop μ-loop
-bit-rule-requires c κs = search (needs, bit-laws)
-
 payload-requires : tie.Need-payload-requires Inv-loop μ-loop
 payload-requires c κs = search (needs, bit-laws)
 
-judge-requires : tie.Need-judge-requires Inv-loop μ-loop
-judge-requires c κs = search (needs, bit-laws)
+judge-attribute-requires : tie.Need-judge-attribute-requires Inv-loop μ-loop
+judge-attribute-requires c κs = search (needs, bit-laws)
 
 enum-known-fault : tie.Need-enum-known-fault Inv-loop μ-loop
 enum-known-fault c = search (needs, bit-laws)
@@ -109,9 +106,8 @@ walk-bit-spec =
     of-fault-requires
     returns-2
     enum-known-kind
-    bit-rule-requires
     payload-requires
-    judge-requires
+    judge-attribute-requires
     enum-known-fault
     of-fault-requires-2
     returns-3
