@@ -1,3 +1,4 @@
 pub mod Entries
 pub mod Eights
 pub mod Chains
+pub mod Keys

@@ -1,5 +1,6 @@
 -- Lists of 32-byte entries (document 01, "Two bit-name lists .. 32 bytes an entry, N entries").
-use Prim.Native.Nat.{ℕ, _*_, _/_}
+use Prim.Native.Nat.{ℕ, _*_, _/_, _<_}
+use mathlib.Core.Path.{_≡_}
 use mathlib.Core.Bool.{Bool, _||_, not, cond}
 use mathlib.Core.List.{List, []}
 use lib.ListN.{length, getD, take, drop}
@@ -37,3 +38,8 @@ entryNew list i = isEmpty (entryAt list i) || all i (differs list i)
 -- the entries are distinct, those that are empty aside (document 01, "Empty entries .. may repeat; the others in one list are distinct")
 unfoldable pub distinct : List ℕ → Bool
 distinct list = all (count list) (entryNew list)
+
+-- the first n bytes of a key of 32 are those of a name, NULs after it
+pub record Spelt (name key : List ℕ) (n : ℕ) : Type 0 where
+  pub long : length key ≡ 32
+  pub each : (j : ℕ) → j < n → getD key j 0 ≡ getD name j 0

@@ -1,5 +1,6 @@
 // Lists of 32-byte entries: how many, each of them, and whether they are distinct.
 pub mod chain;
+pub mod key;
 mod same;
 
 pub use chain::all_distinct;

@@ -8,11 +8,12 @@ use native.Mathlib.Omega.{arith}
 use lib.ListN.{length, getD}
 use Rattle.basics.proofs.Order.{lt-or-ge}
 use Rattle.basics.proofs.Truth.{false-of}
-use Rattle.entries.specs.Entry.{count, entryAt, same}
+use Rattle.entries.specs.Entry.{count, entryAt, same, Spelt}
 use Rattle.entries.specs.Chain.{hashOf, lastOf, Indexed}
 use Rattle.entries.proofs.Chains.{hash-same, last-none, last-le, last-fix, last-hash}
+use Rattle.entries.proofs.Keys.{spelt-same}
 use Rattle.names.specs.Search.{isName, notFound, foundAt, lookup}
-use Rattle.names.proofs.Search.{SameBefore, name-other, name-alone, name-gone}
+use Rattle.names.proofs.Search.{SameBefore, same-more, name-other, name-alone, name-gone}
 
 pub record Along (names name : List ℕ) (p : ℕ) : Type 0 where
   pub inside : p ≤ count names
@@ -32,9 +33,10 @@ module _ (names name : List ℕ) where
   other-hash k n = false-of (same (entryAt names k) name) (λ e. n (hash-same (entryAt names k) name e))
 
   module _ (head next : List ℕ) (x : Indexed names head next) where
-    pub along-start : (h p : ℕ) → h ≡ hashOf name → h < 1025 → p ≡ getD head h 0 → Along names name p
-    along-start h p eh l ep =
-        let e : p ≡ lastOf names (hashOf name) (count names) = ep ∙ x .heads h l ∙ ap (λ (y : ℕ). lastOf names y (count names)) eh in
+    pub along-start : (key : List ℕ) (h p : ℕ) → Spelt name key 32 → h ≡ hashOf key → h < 1025 → p ≡ getD head h 0 → Along names name p
+    along-start key h p s eh l ep =
+        let e : p ≡ lastOf names (hashOf name) (count names) =
+        ep ∙ x .heads h l ∙ ap (λ (y : ℕ). lastOf names y (count names)) (eh ∙ hash-same key name (spelt-same name key s)) in
         record {
           inside = omega (arith, e, last-le names (hashOf name) (count names));
           own = rw e (last-fix names (hashOf name) (count names));
@@ -76,8 +78,12 @@ module _ (names name : List ℕ) where
         → foundAt i ≡ lookup names name
     along-found b i j q e z l w s u v = name-alone names name b e z l (x .apart) i j (w .here) s u v
 
-  pub along-on : (i j y q : ℕ) → Looking names name i q → j < 32 → y ≡ getD name j 0 → (getD names (i * 32 + j) 0 ≡ y → ⊥) → Along names name q
-  along-on i j y q w l e n = w .then (name-other names name i j y (w .here) l e n)
+  pub along-on : (key : List ℕ) (i j q : ℕ) → Spelt name key 32 → Looking names name i q → j < 32 → (getD names (i * 32 + j) 0 ≡ getD key j 0 → ⊥) → Along names name q
+  along-on key i j q s w l n = w .then (name-other names name i j (getD key j 0) (w .here) l (s .each j l) n)
+
+  pub along-more : (key : List ℕ) (i j q : ℕ) → Spelt name key 32 → Looking names name i q → j < 32 → SameBefore names name i j → getD names (i * 32 + j) 0 ≡ getD key j 0
+      → SameBefore names name i (j + 1)
+  along-more key i j q s w l h e = same-more names name i j (getD key j 0) (w .here) l h (s .each j l) e
 
   pub along-end : (b p : ℕ) → b ≡ getD name 0 0 → (b ≡ 0 → ⊥) → length name ≤ 32 → Along names name p → p ≡ 0 → notFound ≡ lookup names name
   along-end b p e z l a q = name-gone names name b e z l (λ k u. a .others k (omega (arith, q)) u)

@@ -10,6 +10,7 @@ use entries::chain::distinct_in;
 use entries::chain::hash_of;
 use entries::chain::place;
 use entries::count;
+use entries::key::spell;
 
 // Fills the tables that lead to each name, and says whether they do: where the names are distinct, and not too many.
 pub fn index(names: &[u8], head: &mut [u16], next: &mut [u16]) -> bool
@@ -23,7 +24,8 @@ pub fn index(names: &[u8], head: &mut [u16], next: &mut [u16]) -> bool
     distinct_in(names, head, next)
 }
 
-// The same search where tables lead to each name: it goes along the name's chain alone.
+// The entry that equals the name, which may end in NULs, where tables lead to each: the search goes along the name's chain alone, and passes
+// to the next entry at the first byte that differs.
 pub fn find(names: &[u8], head: &[u16], next: &[u16], name: &[u8]) -> Lookup
     requires { ⌜ Indexed (now names) (now head) (now next) ⌝ }
     ensures { λ r. ⌜ r ≡ lookup (now (names .entry)) (now (name .entry)) ⌝ }
@@ -40,7 +42,12 @@ pub fn find(names: &[u8], head: &[u16], next: &[u16], name: &[u8]) -> Lookup
             bit: 0,
         };
     }
-    let mut p = place(head[hash_of(name)]);
+    let mut key = [0u8; 32];
+    spell(&mut key, name, 0);
+    spell(&mut key, name, 8);
+    spell(&mut key, name, 16);
+    spell(&mut key, name, 24);
+    let mut p = place(head[hash_of(&key)]);
     'entries: loop {
         if p == 0 {
             return Lookup {
@@ -51,7 +58,7 @@ pub fn find(names: &[u8], head: &[u16], next: &[u16], name: &[u8]) -> Lookup
         let i = p - 1;
         p = place(next[i]);
         for j in 0..32 {
-            if names[i * 32 + j] != byte_at(name, j) {
+            if names[i * 32 + j] != key[j] {
                 continue 'entries;
             }
         }

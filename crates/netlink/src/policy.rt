@@ -44,28 +44,28 @@ impl Fault {
     }
 }
 
-// Whether one of the eight bytes from `at` on is NUL. No early exit: all are compared at once.
+// Whether one of the four bytes from `at` on is NUL. No early exit: all are compared at once.
 fn some_nul(s: &[u8], at: usize) -> bool
-    requires { ⌜ at + 8 ≤ length (now s) ⌝ }
-    ensures { λ r. ⌜ r ≡ any 8 (isNul (now (s .entry)) at) ⌝ }
+    requires { ⌜ at + 4 ≤ length (now s) ⌝ }
+    ensures { λ r. ⌜ r ≡ any 4 (isNul (now (s .entry)) at) ⌝ }
 {
     let mut some = false;
-    for j in 0..8 {
+    for j in 0..4 {
         some = some | (s[at + j] == 0);
     }
     some
 }
 
-// How many bytes before the first NUL are passed eight at a time.
+// How many bytes before the first NUL are passed four at a time.
 fn nul_free(s: &[u8]) -> usize
     ensures { λ r. ⌜ (r ≤ length (now (s .entry))) × NulFrom (now (s .entry)) r ⌝ }
 {
     let mut i = 0;
-    while 8 <= s.len() - i {
+    while 4 <= s.len() - i {
         if some_nul(s, i) {
             return i;
         }
-        i += 8;
+        i += 4;
     }
     i
 }

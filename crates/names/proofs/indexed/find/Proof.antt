@@ -1,23 +1,26 @@
 -- Every entry from p on is another name, and the bytes before j of entry i are the name's.
 use Prim.Native.Nat.{_≤_, _-_}
+use mathlib.Core.Path.{refl}
 use native.Mathlib.Omega.{arith}
 use borrow.Author.Needs.{needs}
-use Rattle.names.proofs.Search.{SameBefore, name-empty, name-long, same-start, same-more}
-use Rattle.names.proofs.Along.{Along, Looking, along-on, along-laws}
+use Rattle.entries.specs.Entry.{Spelt}
+use Rattle.entries.proofs.Keys.{spelt-none}
+use Rattle.names.proofs.Search.{SameBefore, name-empty, name-long, same-start}
+use Rattle.names.proofs.Along.{Along, Looking, along-start, along-look, along-on, along-more, along-laws}
 use Rattle.names.proofs.indexed.find.Statement.{statement}
 use Rattle.names.proofs.indexed.find.Tie as tie
 
 abbrev Inv-loop : tie.InvT-loop
-Inv-loop names head next name p i j₀ j = (j ≤ 32) × SameBefore names name i j × Looking names name i p
+Inv-loop names head next name key p i j₀ j = (j ≤ 32) × SameBefore names name i j × Looking names name i p × Spelt name key 32
 
 abbrev μ-loop : tie.MeasureT-loop
-μ-loop names head next name p i j₀ j = 32 - j
+μ-loop names head next name key p i j₀ j = 32 - j
 
 abbrev Inv-entries : tie.InvT-entries
-Inv-entries names head next name p₀ p = Along names name p
+Inv-entries names head next name key p₀ p = Along names name p × Spelt name key 32
 
 abbrev μ-entries : tie.MeasureT-entries
-μ-entries names head next name p₀ p = p
+μ-entries names head next name key p₀ p = p
 
 byte-at-requires : tie.Need-byte-at-requires Inv-loop μ-loop Inv-entries μ-entries
 byte-at-requires c κs = search needs
@@ -27,6 +30,33 @@ returns c = search (needs, name-empty)
 
 returns-2 : tie.Need-returns-2 Inv-loop μ-loop Inv-entries μ-entries
 returns-2 c = search (needs, name-long)
+
+slice-aggregate-spell : tie.Need-slice-aggregate-spell Inv-loop μ-loop Inv-entries μ-entries
+slice-aggregate-spell c = search needs
+
+spell-requires : tie.Need-spell-requires Inv-loop μ-loop Inv-entries μ-entries
+spell-requires c κs = (omega arith, spelt-none _ _ (search needs))
+
+slice-aggregate-spell-2 : tie.Need-slice-aggregate-spell-2 Inv-loop μ-loop Inv-entries μ-entries
+slice-aggregate-spell-2 c = search needs
+
+spell-requires-2 : tie.Need-spell-requires-2 Inv-loop μ-loop Inv-entries μ-entries
+spell-requires-2 c κs = search needs
+
+slice-aggregate-spell-3 : tie.Need-slice-aggregate-spell-3 Inv-loop μ-loop Inv-entries μ-entries
+slice-aggregate-spell-3 c = search needs
+
+spell-requires-3 : tie.Need-spell-requires-3 Inv-loop μ-loop Inv-entries μ-entries
+spell-requires-3 c κs = search needs
+
+slice-aggregate-spell-4 : tie.Need-slice-aggregate-spell-4 Inv-loop μ-loop Inv-entries μ-entries
+slice-aggregate-spell-4 c = search needs
+
+spell-requires-4 : tie.Need-spell-requires-4 Inv-loop μ-loop Inv-entries μ-entries
+spell-requires-4 c κs = search needs
+
+slice-aggregate-hash-of : tie.Need-slice-aggregate-hash-of Inv-loop μ-loop Inv-entries μ-entries
+slice-aggregate-hash-of c = search needs
 
 hash-of-requires : tie.Need-hash-of-requires Inv-loop μ-loop Inv-entries μ-entries
 hash-of-requires c κs = search needs
@@ -41,7 +71,10 @@ place-requires : tie.Need-place-requires Inv-loop μ-loop Inv-entries μ-entries
 place-requires c κs = search needs
 
 entries-holds : tie.Need-entries-holds Inv-loop μ-loop Inv-entries μ-entries
-entries-holds c = search (needs, along-laws)
+entries-holds c =
+    let s = c .before .before .before .before .before .spell4 .ensures in
+    let h = c .before .before .hash-of .ensures in
+    (along-start _ _ _ _ (c .before .before .before .before .before .before .before .before .before .before .before .before .before .before .before .before .before .before .before .before .before .before .before .pre) _ _ _ s (h .0) (h .1) (c .place .ensures), s)
 
 returns-3 : tie.Need-returns-3 Inv-loop μ-loop Inv-entries μ-entries
 returns-3 c = search (needs, along-laws)
@@ -54,13 +87,15 @@ mul-place-2 c = search needs
 
 shared-slice-read-place-2 :
     tie.Need-shared-slice-read-place-2 Inv-loop μ-loop Inv-entries μ-entries
-shared-slice-read-place-2 c = let x = c .before .before .before .before .before .before .before .before .before .before .before .before .before .pre in let a = c .before .before .entries .inv in omega (arith, x .next-room, a .inside)
+shared-slice-read-place-2 c = let x = c .before .before .before .before .before .before .before .before .before .before .before .before .before .before .before .before .before .before .before .before .before .before .before .before .before .before .pre in let a = c .before .before .entries .inv .0 in omega (arith, x .next-room, a .inside)
 
 place-requires-2 : tie.Need-place-requires-2 Inv-loop μ-loop Inv-entries μ-entries
 place-requires-2 c κs = search needs
 
 loop-holds : tie.Need-loop-holds Inv-loop μ-loop Inv-entries μ-entries
-loop-holds c = search (needs, same-start, along-laws)
+loop-holds c =
+    let e = c .before .before .before .entries .inv in
+    (omega arith, same-start _ _ _, along-look _ _ _ _ (c .before .before .before .before .before .before .before .before .before .before .before .before .before .before .before .before .before .before .before .before .before .before .before .before .before .before .before .pre) _ _ _ (e .0) (c .before .before .if3 .left) refl (c .place2 .ensures), e .1)
 
 mul-if4 : tie.Need-mul-if4 Inv-loop μ-loop Inv-entries μ-entries
 mul-if4 c = search needs
@@ -71,14 +106,16 @@ add-if4 c = search needs
 shared-slice-read-if4 : tie.Need-shared-slice-read-if4 Inv-loop μ-loop Inv-entries μ-entries
 shared-slice-read-if4 c = search needs
 
-byte-at-requires-2 : tie.Need-byte-at-requires-2 Inv-loop μ-loop Inv-entries μ-entries
-byte-at-requires-2 c κs = search needs
+array-read-if4 : tie.Need-array-read-if4 Inv-loop μ-loop Inv-entries μ-entries
+array-read-if4 c = search needs
 
 entries-less : tie.Need-entries-less Inv-loop μ-loop Inv-entries μ-entries
 entries-less c = search needs
 
 entries-again : tie.Need-entries-again Inv-loop μ-loop Inv-entries μ-entries
-entries-again c = let w = c .before .before .before .before .loop .inv in along-on _ _ _ _ _ _ (w .2) (search needs) (c .before .byte-at2 .ensures) (c .if4 .taken)
+entries-again c =
+    let l = c .before .before .before .loop .inv in
+    (along-on _ _ _ _ _ _ (l .3) (l .2) (search needs) (c .if4 .taken), l .3)
 
 add-j : tie.Need-add-j Inv-loop μ-loop Inv-entries μ-entries
 add-j c = search needs
@@ -87,7 +124,9 @@ loop-less : tie.Need-loop-less Inv-loop μ-loop Inv-entries μ-entries
 loop-less c = search needs
 
 loop-again : tie.Need-loop-again Inv-loop μ-loop Inv-entries μ-entries
-loop-again c = let w = c .before .before .before .before .loop .inv in (omega arith, same-more _ _ _ _ _ (w .2 .here) (search needs) (w .1) (c .before .byte-at2 .ensures) (c .if4 .left), w .2)
+loop-again c =
+    let l = c .before .before .before .loop .inv in
+    (omega arith, along-more _ _ _ _ _ _ (l .3) (l .2) (search needs) (l .1) (c .if4 .left), l .2, l .3)
 
 returns-4 : tie.Need-returns-4 Inv-loop μ-loop Inv-entries μ-entries
 returns-4 c = search (needs, along-laws)
@@ -103,6 +142,15 @@ find-spec =
     byte-at-requires
     returns
     returns-2
+    slice-aggregate-spell
+    spell-requires
+    slice-aggregate-spell-2
+    spell-requires-2
+    slice-aggregate-spell-3
+    spell-requires-3
+    slice-aggregate-spell-4
+    spell-requires-4
+    slice-aggregate-hash-of
     hash-of-requires
     mul-place
     shared-slice-read-place
@@ -117,7 +165,7 @@ find-spec =
     mul-if4
     add-if4
     shared-slice-read-if4
-    byte-at-requires-2
+    array-read-if4
     entries-less
     entries-again
     add-j
