@@ -2,7 +2,7 @@
 ghost use mathlib.Core.Path.{_≡_};
 ghost use Prim.Native.Nat.{_+_, _≤_, _<_};
 ghost use mathlib.Core.List.{[]};
-ghost use lib.ListN.{length};
+ghost use lib.ListN.{length, take};
 ghost use Rattle.basics.specs.Numbers.{le32};
 ghost use Rattle.basics.specs.Put.{put};
 ghost use Rattle.netlink.specs.Policy.{nulAt};
@@ -25,7 +25,8 @@ pub fn put_attribute(page: &mut [u8], kind: u16, payload: &[u8]) -> usize
     ensures { λ r. ⌜ Wrote (attr kind (now (payload .entry))) (now (page .entry)) (now (page .exit)) r ⌝ }
     ensures { λ r. ⌜ r ≤ length (now (payload .entry)) + 7 ⌝ }
 {
-    put_stated(page, kind, payload, payload.len() + AttributeHeader::SIZE)
+    let n = payload.len();
+    put_stated(page, kind, payload, n, n + AttributeHeader::SIZE)
 }
 
 // A name: its bytes before the first NUL, and one NUL.
@@ -45,20 +46,21 @@ fn put_named(page: &mut [u8], kind: u16, name: &[u8], n: usize) -> usize
     ensures { λ r. ⌜ r ≤ length (now (name .entry)) + 8 ⌝ }
 {
     // four bytes of header, and the NUL
-    put_stated(page, kind, &name[..n], n + 5)
+    put_stated(page, kind, name, n, n + 5)
 }
 
-// An attribute of a stated length: the payload, then zeros up to the step.
-fn put_stated(page: &mut [u8], kind: u16, payload: &[u8], stated: usize) -> usize
-    requires { ⌜ (length (now payload) + 4 ≤ stated) × (stated ≤ 65535) × (stated + 3 ≤ length (now page)) ⌝ }
-    ensures { λ r. ⌜ Wrote (filled kind stated (now (payload .entry))) (now (page .entry)) (now (page .exit)) r ⌝ }
+// An attribute of a stated length: the first k bytes, then zeros up to the step.
+fn put_stated(page: &mut [u8], kind: u16, bytes: &[u8], k: usize, stated: usize) -> usize
+    requires { ⌜ (k ≤ length (now bytes)) × (k + 4 ≤ stated) × (stated ≤ 65535) × (stated + 3 ≤ length (now page)) ⌝ }
+    ensures { λ r. ⌜ Wrote (filled kind stated (take k (now (bytes .entry)))) (now (page .entry)) (now (page .exit)) r ⌝ }
     ensures { λ r. ⌜ r ≤ stated + 3 ⌝ }
 {
     let step = Stated(stated as u32).step();
     let next = step.0;
     put_filled(
         &mut page[AttributeHeader::SIZE..],
-        payload,
+        bytes,
+        k,
         next - AttributeHeader::SIZE,
     );
     put_attribute_header(page, stated as u16, kind);

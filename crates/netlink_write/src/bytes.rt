@@ -2,8 +2,9 @@
 ghost use mathlib.Core.Path.{_≡_};
 ghost use Prim.Native.Nat.{_≤_, _-_};
 ghost use mathlib.Core.List.{_++_};
-ghost use lib.ListN.{length, replicate};
+ghost use lib.ListN.{length, take, replicate};
 ghost use Rattle.basics.specs.Put.{put};
+use netlink::lengths::capped;
 
 // A copy of the bytes.
 pub fn put_bytes(page: &mut [u8], bytes: &[u8])
@@ -56,12 +57,13 @@ pub fn put_zeros(page: &mut [u8], n: usize)
     }
 }
 
-// A copy of the bytes, then zero bytes up to a total of n.
-pub fn put_filled(page: &mut [u8], bytes: &[u8], n: usize)
-    requires { ⌜ (length (now bytes) ≤ n) × (n ≤ length (now page)) ⌝ }
-    ensures { λ _. ⌜ now (page .exit) ≡ put (now (page .entry)) (now (bytes .entry) ++ replicate (n - length (now (bytes .entry))) 0) ⌝ }
+// The first k bytes, then zero bytes up to a total of n. As many of the n as there are bytes are copied, and those from k on cleared: whole words are
+// copied faster.
+pub fn put_filled(page: &mut [u8], bytes: &[u8], k: usize, n: usize)
+    requires { ⌜ (k ≤ length (now bytes)) × (k ≤ n) × (n ≤ length (now page)) ⌝ }
+    ensures { λ _. ⌜ now (page .exit) ≡ put (now (page .entry)) (take k (now (bytes .entry)) ++ replicate (n - k) 0) ⌝ }
 {
-    let k = bytes.len();
-    put_bytes(page, bytes);
+    let m = capped(n, bytes.len());
+    put_bytes(page, &bytes[..m]);
     put_zeros(&mut page[k..], n - k);
 }

@@ -6,7 +6,7 @@ use native.Mathlib.Omega.{arith}
 use borrow.Rule.Slice.PartMut.{putMid}
 use borrow.Author.Tests.{eq-eqb, ne-eqb}
 use lib.ListN.{length, take, drop, replicate, length-append, length-replicate}
-use lib.Seq.{length-take-le}
+use lib.Seq.{length-take-le, take-all}
 use Rattle.basics.specs.Numbers.{le32}
 use Rattle.netlink.specs.Lengths.{roundUp4}
 use Rattle.netlink.specs.Policy.{nulAt}
@@ -82,6 +82,15 @@ filled-wrote P payload B C kind stated next room fits en b c =
       page = then-front P head (payload ++ zs) 4 (length-attribute-header stated kind) (omega arith) (rw en at b) c;
     }
 
+-- so of the first k bytes
+pub filled-cut : (P bytes B C : List ℕ) (kind k stated next : ℕ) → k ≤ length bytes → k + 4 ≤ stated → stated + 3 ≤ length P → next ≡ roundUp4 stated
+    → B ≡ put (take (length P - 4) (drop 4 P)) (take k bytes ++ replicate (next - 4 - k) 0)
+    → C ≡ put (putMid 4 (length P - 4) P B) (attributeHeaderBytes stated kind) → Wrote (filled kind stated (take k bytes)) P C next
+filled-cut P bytes B C kind k stated next h fits room en b c =
+    let long : length (take k bytes) ≡ k = length-take-le k bytes h in
+    let rest : B ≡ put (take (length P - 4) (drop 4 P)) (take k bytes ++ replicate (next - 4 - length (take k bytes)) 0) = rw long b in
+    filled-wrote P (take k bytes) B C kind stated next room (omega arith) en rest c
+
 -- it is an attribute where the payload fills it
 filled-attr : (kind stated : ℕ) (payload : List ℕ) → stated ≡ length payload + 4 → filled kind stated payload ≡ attr kind payload
 unfolding filled attr padding
@@ -91,8 +100,9 @@ filled-attr kind stated payload e =
     ∙ ap (λ (k : ℕ). attributeHeaderBytes k kind ++ (payload ++ replicate (roundUp4 k - k) 0)) e
 
 pub attribute-filled : (P Q payload : List ℕ) (kind stated r : ℕ) → stated ≡ length payload + 4
-    → Wrote (filled kind stated payload) P Q r → Wrote (attr kind payload) P Q r
-attribute-filled P Q payload kind stated r e w = rw (filled-attr kind stated payload e) at w
+    → Wrote (filled kind stated (take (length payload) payload)) P Q r → Wrote (attr kind payload) P Q r
+attribute-filled P Q payload kind stated r e w =
+    rw (take-all (length payload) payload (omega arith), filled-attr kind stated payload e) at w
 
 -- one zero more than the payload: the NUL of a name
 filled-nul : (kind : ℕ) (p : List ℕ) → filled kind (length p + 5) p ≡ attr kind (p ++ (0 ∷ []))

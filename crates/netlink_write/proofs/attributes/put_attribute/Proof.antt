@@ -5,7 +5,7 @@ use Rattle.netlink_write.proofs.attributes.put_attribute.Statement.{sta
 use Rattle.netlink_write.proofs.attributes.put_attribute.Tie as tie
 
 add-put-stated : tie.Need-add-put-stated
-add-put-stated c = omega arith
+add-put-stated c = search needs
 
 put-stated-requires : tie.Need-put-stated-requires
 put-stated-requires c κs = search needs

@@ -1,11 +1,11 @@
 use native.Mathlib.Omega.{arith}
-use Rattle.netlink_write.proofs.attributes.Laws.{filled-wrote}
+use Rattle.netlink_write.proofs.attributes.Laws.{filled-cut}
 use borrow.Author.Needs.{needs}
 use Rattle.netlink_write.proofs.attributes.put_stated.Statement.{statement}
 use Rattle.netlink_write.proofs.attributes.put_stated.Tie as tie
 
-cast-t7 : tie.Need-cast-t7
-cast-t7 c = search needs
+cast-t8 : tie.Need-cast-t8
+cast-t8 c = search needs
 
 step-requires : tie.Need-step-requires
 step-requires c κs = search needs
@@ -35,16 +35,13 @@ same-length : tie.Need-same-length
 same-length c = search needs
 
 returns : tie.Need-returns
-returns c =
-    let start = c .before .before .before .before .before .before .before .before .before .before .before in
-    let step = c .before .before .before .before .before .before .before .before .step .ensures in
-    (filled-wrote _ _ _ _ _ _ _ (start .pre .2) (start .pre .0) step (c .before .before .before .before .before .before .put-filled .ensures) (c .before .before .put-attribute-header .ensures), omega (arith, step))
+returns c = let s = c .before .before .before .before .before .before .before .before .before .before .before in let step = c .before .before .before .before .before .before .before .before .step .ensures in (filled-cut _ _ _ _ _ _ _ _ (s .pre .0) (s .pre .1) (s .pre .3) step (c .before .before .before .before .before .before .put-filled .ensures) (c .before .before .put-attribute-header .ensures), omega (arith, step))
 
 pub put-stated-spec : {M : Type 1} → statement M
 put-stated-spec =
     tie.close
     (tie.spec
-    cast-t7
+    cast-t8
     step-requires
     sub-put-filled
     part-put-filled-start
