@@ -6,7 +6,7 @@ use mathlib.Core.Logic.{⊎-elim}
 use mathlib.Core.List.{List, []}
 use native.Mathlib.Omega.{arith}
 use lib.Dec.{eqb}
-use lib.ListN.{length, getD, take, drop, length-drop}
+use lib.ListN.{length, getD, take, drop, length-drop, List·getD-eq-default}
 use lib.Seq.{length-take-le, getD-take, getD-drop, ext-getD}
 use borrow.Author.Tests.{lt-ltb, le-ltb, eq-eqb, eqb-true, not-true}
 use Rattle.basics.specs.Numbers.{u32At, u64At}
@@ -45,6 +45,15 @@ module _ (list : List ℕ) (i : ℕ) where
         λ j n u q. entry-byte j u ∙ ap (λ (m : ℕ). getD list m 0) q in
         rw
         (byte p k (omega arith) e, byte (p + 1) (k + 1) (omega arith) (omega arith), byte (p + 2) (k + 2) (omega arith) (omega arith), byte (p + 3) (k + 3) (omega arith) (omega arith), byte (p + 4) (k + 4) (omega arith) (omega arith), byte (p + 4 + 1) (k + 4 + 1) (omega arith) (omega arith), byte (p + 4 + 2) (k + 4 + 2) (omega arith) (omega arith), byte (p + 4 + 3) (k + 4 + 3) (omega arith) (omega arith))
+
+-- past the end every byte is 0
+pub eight-past : (s : List ℕ) (at : ℕ) → length s ≤ at → 0 ≡ u64At s at
+unfolding u32At
+eight-past s at h =
+    let gone : (k : ℕ) → at ≤ k → getD s k 0 ≡ 0 = λ k l. List·getD-eq-default s 0 (omega arith) in
+    sym
+    (rw
+    (gone at (omega arith), gone (at + 1) (omega arith), gone (at + 2) (omega arith), gone (at + 3) (omega arith), gone (at + 4) (omega arith), gone (at + 4 + 1) (omega arith), gone (at + 4 + 2) (omega arith), gone (at + 4 + 3) (omega arith)))
 
 -- the same bytes are the same entry
 pub equal-same : (a b : List ℕ) → a ≡ b → same a b ≡ true

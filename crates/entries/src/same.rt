@@ -38,6 +38,9 @@ fn four_or_less(s: &[u8], at: usize) -> u64
     requires { ⌜ at < 256 ⌝ }
     ensures { λ r. ⌜ (r ≡ u32At (now (s .entry)) at) × (r < 4294967296) ⌝ }
 {
+    if at + 4 <= s.len() {
+        return four(s, at);
+    }
     wide(byte_at(s, at))
         + wide(byte_at(s, at + 1)) * 256
         + wide(byte_at(s, at + 2)) * 65536
@@ -49,6 +52,9 @@ pub fn eight_or_less(s: &[u8], at: usize) -> u64
     requires { ⌜ at < 128 ⌝ }
     ensures { λ r. ⌜ r ≡ u64At (now (s .entry)) at ⌝ }
 {
+    if s.len() <= at {
+        return 0;
+    }
     if s.len() < at + 8 {
         return four_or_less(s, at) + four_or_less(s, at + 4) * 4294967296;
     }

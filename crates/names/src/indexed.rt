@@ -30,17 +30,15 @@ pub fn find(names: &[u8], head: &[u16], next: &[u16], name: &[u8]) -> Lookup
     requires { ⌜ Indexed (now names) (now head) (now next) ⌝ }
     ensures { λ r. ⌜ r ≡ lookup (now (names .entry)) (now (name .entry)) ⌝ }
 {
+    let none = Lookup {
+        found: false,
+        bit: 0,
+    };
     if byte_at(name, 0) == 0 {
-        return Lookup {
-            found: false,
-            bit: 0,
-        };
+        return none;
     }
     if 32 < name.len() {
-        return Lookup {
-            found: false,
-            bit: 0,
-        };
+        return none;
     }
     let mut key = [0u8; 32];
     spell(&mut key, name, 0);
@@ -50,10 +48,7 @@ pub fn find(names: &[u8], head: &[u16], next: &[u16], name: &[u8]) -> Lookup
     let mut p = place(head[hash_of(&key)]);
     'entries: loop {
         if p == 0 {
-            return Lookup {
-                found: false,
-                bit: 0,
-            };
+            return none;
         }
         let i = p - 1;
         p = place(next[i]);

@@ -3,6 +3,15 @@ use borrow.Author.Needs.{needs}
 use Rattle.entries.proofs.same.four_or_less.Statement.{statement}
 use Rattle.entries.proofs.same.four_or_less.Tie as tie
 
+add-if1 : tie.Need-add-if1
+add-if1 c = search needs
+
+four-requires : tie.Need-four-requires
+four-requires c κs = search needs
+
+returns : tie.Need-returns
+returns c = search needs
+
 byte-at-requires : tie.Need-byte-at-requires
 byte-at-requires c κs = search needs
 
@@ -54,14 +63,17 @@ mul-result-3 c = search needs
 add-result-3 : tie.Need-add-result-3
 add-result-3 c = search needs
 
-returns : tie.Need-returns
+returns-2 : tie.Need-returns-2
 unfolding u32At
-returns c = search needs
+returns-2 c = search needs
 
 pub four-or-less-spec : {M : Type 1} → statement M
 four-or-less-spec =
     tie.close
     (tie.spec
+    add-if1
+    four-requires
+    returns
     byte-at-requires
     wide-requires
     add-byte-at
@@ -79,4 +91,4 @@ four-or-less-spec =
     wide-requires-4
     mul-result-3
     add-result-3
-    returns)
+    returns-2)

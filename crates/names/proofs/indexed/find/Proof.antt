@@ -11,16 +11,16 @@ use Rattle.names.proofs.indexed.find.Statement.{statement}
 use Rattle.names.proofs.indexed.find.Tie as tie
 
 abbrev Inv-loop : tie.InvT-loop
-Inv-loop names head next name key p i j₀ j = (j ≤ 32) × SameBefore names name i j × Looking names name i p × Spelt name key 32
+Inv-loop names head next name none key p i j₀ j = (j ≤ 32) × SameBefore names name i j × Looking names name i p × Spelt name key 32
 
 abbrev μ-loop : tie.MeasureT-loop
-μ-loop names head next name key p i j₀ j = 32 - j
+μ-loop names head next name none key p i j₀ j = 32 - j
 
 abbrev Inv-entries : tie.InvT-entries
-Inv-entries names head next name key p₀ p = Along names name p × Spelt name key 32
+Inv-entries names head next name none key p₀ p = Along names name p × Spelt name key 32
 
 abbrev μ-entries : tie.MeasureT-entries
-μ-entries names head next name key p₀ p = p
+μ-entries names head next name none key p₀ p = p
 
 byte-at-requires : tie.Need-byte-at-requires Inv-loop μ-loop Inv-entries μ-entries
 byte-at-requires c κs = search needs
