@@ -70,6 +70,9 @@ fn heading(h: MessageHeader, command: Command) -> Heading
     }
 }
 
+// The most ports of a box: where a set lies does not depend on how many ports follow.
+const PORTS: usize = 64;
+
 // The first word of a set of the port at a position.
 fn place_of(roll: &[u8], debug: &[u8], flags: &[u8], position: usize, set: Set) -> usize
     requires { ⌜ (position < portCount (now roll)) × (portCount (now roll) ≤ 64) × (count (now debug) ≤ 512) × (count (now flags) ≤ 512) ⌝ }
@@ -77,7 +80,7 @@ fn place_of(roll: &[u8], debug: &[u8], flags: &[u8], position: usize, set: Set) 
 {
     let wd = bits::words_for(entries::count(debug));
     let wf = bits::words_for(entries::count(flags));
-    place(roll::count::ports(roll), wd, wf, position, set)
+    place(PORTS, wd, wf, position, set)
 }
 
 // How many words a set has.

@@ -54,16 +54,16 @@ of-few Flags a b n h g = g
 pub leaves-did : (s : Speech) (P Q ws : List ℕ) (r : Answer) → Said s P Q r → Did (leaves s ws) P Q ws r
 leaves-did s P Q ws r h = record { said = h; settings = refl }
 
--- where a set lies
-module _ (roll debug flags : List ℕ) (ports nd nf wd wf : ℕ) (ep : ports ≡ portCount roll) (end : nd ≡ count debug) (enf : nf ≡ count flags)
+-- where a set lies, however many ports follow
+module _ (roll debug flags : List ℕ) (ports nd nf wd wf : ℕ) (end : nd ≡ count debug) (enf : nf ≡ count flags)
     (ewd : wd ≡ wordsFor nd) (ewf : wf ≡ wordsFor nf) (set : Set) where
   pub place-told : (position at : ℕ) → at ≡ place ports wd wf position set → at ≡ placeIn roll debug flags position set
-  unfolding placeIn
-  place-told position at e = e ∙ rw (ep, ewd, ewf, end, enf)
+  unfolding placeIn place
+  place-told position at e = e ∙ rw (ewd, ewf, end, enf)
 
-  pub held-told : (ws h : List ℕ) (position : ℕ) → h ≡ setAt ws ports wd wf position set → h ≡ setOf roll debug flags ws position set
+  pub held-told : ports ≡ portCount roll → (ws h : List ℕ) (position : ℕ) → h ≡ setAt ws ports wd wf position set → h ≡ setOf roll debug flags ws position set
   unfolding setOf
-  held-told ws h position e = e ∙ rw (ep, ewd, ewf, end, enf)
+  held-told ep ws h position e = e ∙ rw (ep, ewd, ewf, end, enf)
 
 pub width-told : (debug flags : List ℕ) (nd nf wd wf w : ℕ) (set : Set) → nd ≡ count debug → nf ≡ count flags → wd ≡ wordsFor nd → wf ≡ wordsFor nf
     → w ≡ ofSet set wd wf → w ≡ widthIn debug flags set

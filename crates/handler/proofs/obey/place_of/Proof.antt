@@ -15,9 +15,6 @@ count-requires-2 c κs = search needs
 words-for-requires-2 : tie.Need-words-for-requires-2
 words-for-requires-2 c κs = search needs
 
-ports-requires : tie.Need-ports-requires
-ports-requires c κs = search needs
-
 place-requires : tie.Need-place-requires
 place-requires c κs = search needs
 
@@ -32,6 +29,5 @@ place-of-spec =
     words-for-requires
     count-requires-2
     words-for-requires-2
-    ports-requires
     place-requires
     returns)
