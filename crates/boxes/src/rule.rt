@@ -23,7 +23,8 @@ pub fn box_right(
     if 1 < admin {
         return false;
     }
-    if !roll::roll_right(roll) {
+    let ports = roll::ports(roll);
+    if !roll::roll_right_of(roll, ports) {
         return false;
     }
     if !names::names_right(debug) {
@@ -32,10 +33,5 @@ pub fn box_right(
     if !names::names_right(flags) {
         return false;
     }
-    settings_right(
-        settings,
-        roll::ports(roll),
-        names::count(debug),
-        names::count(flags),
-    )
+    settings_right(settings, ports, names::count(debug), names::count(flags))
 }

@@ -15,3 +15,4 @@ pub use name::same_name;
 pub use record::RecordRead;
 pub use record::read_record;
 pub use rule::roll_right;
+pub use rule::roll_right_of;

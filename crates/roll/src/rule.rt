@@ -1,6 +1,6 @@
 // The rule of a roll.
 ghost use mathlib.Core.Path.{_≡_};
-ghost use Rattle.roll.specs.Record.{records};
+ghost use Rattle.roll.specs.Record.{records, portCount};
 ghost use Rattle.roll.specs.Rule.{whole, each, portRight, another, distinct, rollRight};
 use crate::count::ports;
 use crate::marks::many_distinct;
@@ -143,10 +143,17 @@ fn few_distinct(roll: &[u8]) -> bool
 pub fn roll_right(roll: &[u8]) -> bool
     ensures { λ r. ⌜ r ≡ rollRight (now (roll .entry)) ⌝ }
 {
+    roll_right_of(roll, ports(roll))
+}
+
+// The same where it is known that the roll has n ports.
+pub fn roll_right_of(roll: &[u8], n: usize) -> bool
+    requires { ⌜ n ≡ portCount (now roll) ⌝ }
+    ensures { λ r. ⌜ r ≡ rollRight (now (roll .entry)) ⌝ }
+{
     if !all_whole(roll) {
         return false;
     }
-    let n = ports(roll);
     if n < 1 {
         return false;
     }

@@ -12,8 +12,11 @@ returns-2 c = search (needs, box-laws)
 returns-3 : tie.Need-returns-3
 returns-3 c = search (needs, box-laws)
 
-roll-right-requires : tie.Need-roll-right-requires
-roll-right-requires c κs = search needs
+ports-requires : tie.Need-ports-requires
+ports-requires c κs = search needs
+
+roll-right-of-requires : tie.Need-roll-right-of-requires
+roll-right-of-requires c κs = search needs
 
 returns-4 : tie.Need-returns-4
 returns-4 c = search (needs, box-laws)
@@ -29,9 +32,6 @@ names-right-requires-2 c κs = search needs
 
 returns-6 : tie.Need-returns-6
 returns-6 c = search (needs, box-laws)
-
-ports-requires : tie.Need-ports-requires
-ports-requires c κs = search needs
 
 count-requires : tie.Need-count-requires
 count-requires c κs = search needs
@@ -52,13 +52,13 @@ box-right-spec =
     returns
     returns-2
     returns-3
-    roll-right-requires
+    ports-requires
+    roll-right-of-requires
     returns-4
     names-right-requires
     returns-5
     names-right-requires-2
     returns-6
-    ports-requires
     count-requires
     count-requires-2
     settings-right-requires

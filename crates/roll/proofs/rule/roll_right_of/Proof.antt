@@ -1,16 +1,13 @@
 use Rattle.roll.proofs.rule.Laws.{roll-laws}
 use borrow.Author.Needs.{needs}
-use Rattle.roll.proofs.rule.roll_right.Statement.{statement}
-use Rattle.roll.proofs.rule.roll_right.Tie as tie
+use Rattle.roll.proofs.rule.roll_right_of.Statement.{statement}
+use Rattle.roll.proofs.rule.roll_right_of.Tie as tie
 
 all-whole-requires : tie.Need-all-whole-requires
 all-whole-requires c κs = search needs
 
 returns : tie.Need-returns
 returns c = search (needs, roll-laws)
-
-ports-requires : tie.Need-ports-requires
-ports-requires c κs = search needs
 
 returns-2 : tie.Need-returns-2
 returns-2 c = search (needs, roll-laws)
@@ -36,13 +33,12 @@ many-distinct-requires c κs = search needs
 returns-6 : tie.Need-returns-6
 returns-6 c = search (needs, roll-laws)
 
-pub roll-right-spec : {M : Type 1} → statement M
-roll-right-spec =
+pub roll-right-of-spec : {M : Type 1} → statement M
+roll-right-of-spec =
     tie.close
     (tie.spec
     all-whole-requires
     returns
-    ports-requires
     returns-2
     returns-3
     ports-right-requires
