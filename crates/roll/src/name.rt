@@ -19,17 +19,17 @@ pub fn name_at(roll: &[u8], at: usize) -> &[u8]
     payload(roll, at, at + 16)
 }
 
-// Whether two fields hold the same name, four bytes at a time. NULs follow the shorter one.
+// Whether two fields hold the same name, four bytes at a time, those in which the names of one box differ first. NULs follow the shorter one.
 fn same(a: &[u8], b: &[u8]) -> bool
     ensures { λ r. ⌜ r ≡ sameName (now (a .entry)) (now (b .entry)) ⌝ }
 {
-    if u32_at(a, 0) != u32_at(b, 0) {
+    if u32_at(a, 8) != u32_at(b, 8) {
         return false;
     }
     if u32_at(a, 4) != u32_at(b, 4) {
         return false;
     }
-    if u32_at(a, 8) != u32_at(b, 8) {
+    if u32_at(a, 0) != u32_at(b, 0) {
         return false;
     }
     u32_at(a, 12) == u32_at(b, 12)
