@@ -47,6 +47,14 @@ fn every_refusal_but_9_is_met() {
     }
 }
 
+/// The program's sender is admin: only another sender can meet 9, by the same datagram.
+#[test]
+fn a_sender_who_is_not_admin_meets_9() {
+    let met = |admin| reader::answers_to(admin, &stored("stdin")).iter().filter(|(answer, _)| answer.refusal == 9).count();
+    assert_eq!(met(1), 0);
+    assert!(met(0) > 10);
+}
+
 /// The type of the attribute behind SIZE in a reply: BITS (3) if verbose, VALUE (4) if compact.
 fn form(reply: &[u8]) -> Option<u8> {
     (reply.len() > 58 && reply[4..6] == [25, 0]).then(|| reply[58])

@@ -2,7 +2,7 @@
 //!
 //! It answers the same calls as the proved library: one message at a time ([`handle`]), one bitset at a time
 //! ([`normalise`]), or a whole datagram for a fixed box ([`run`]). Inputs are plain numbers and byte slices; every
-//! input has an answer. Nothing here allocates but [`answers`] and [`run`].
+//! input has an answer. Nothing here allocates but [`answers`], [`answers_to`] and [`run`].
 
 #![forbid(unsafe_code)]
 
@@ -27,4 +27,4 @@ pub mod wire;
 
 pub use handler::{handle, Answer, DONE, END, REFUSED, SKIPPED};
 pub use normaliser::normalise;
-pub use program::{answers, run};
+pub use program::{answers, answers_to, run};

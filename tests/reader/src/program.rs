@@ -24,15 +24,20 @@ impl Fixed {
     }
 }
 
-/// All answers to a datagram in order, up to the end or a refusal 1 to 4, each with its bytes.
+/// All answers to a datagram in order, up to the end or a refusal 1 to 4, each with its bytes. The program's sender is admin.
 pub fn answers(datagram: &[u8]) -> Vec<(Answer, Vec<u8>)> {
+    answers_to(1, datagram)
+}
+
+/// The same to a sender who is admin (1) or not (0).
+pub fn answers_to(admin: u32, datagram: &[u8]) -> Vec<(Answer, Vec<u8>)> {
     let mut fixed = Fixed::new();
     let mut page = vec![0; ANSWER_PAGE];
     let mut answers = Vec::new();
     let mut position = 0;
     loop {
         let (roll, debug, flags) = (&fixed.roll, &fixed.debug_names, &fixed.flag_names);
-        let answer = handle(25, 1, roll, debug, flags, &mut fixed.settings, datagram, position, &mut page);
+        let answer = handle(25, admin, roll, debug, flags, &mut fixed.settings, datagram, position, &mut page);
         if answer.kind == END || (1..=4).contains(&answer.refusal) {
             return answers;
         }
