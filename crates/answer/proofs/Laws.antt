@@ -10,14 +10,13 @@ use native.Mathlib.Omega.{arith}
 use borrow.Author.Tests.{not-true, not-false}
 use Rattle.basics.specs.Put.{put}
 use Rattle.basics.proofs.Put.{take-put}
-use Rattle.basics.proofs.Truth.{clash}
 use Rattle.refusal.specs.Refusal.{numberOf}
 use Rattle.refusal.specs.declared.Refusal.{Refusal}
-use Rattle.handler.specs.Answer.{Outcome, Did}
+use Rattle.response.specs.Answer.{Outcome, Did}
 use Rattle.handler.specs.Call.{outcome}
-use Rattle.handler.specs.declared.answer.Kind.{Kind}
-use Rattle.handler.specs.declared.answer.Kind.the-variants.{Refused}
-use Rattle.handler.specs.declared.answer.Answer.{Answer}
+use Rattle.response.specs.declared.Kind.{Kind}
+use Rattle.response.specs.declared.Kind.the-variants.{Refused}
+use Rattle.response.specs.declared.Answer.{Answer}
 use Rattle.answer.specs.Box.{IsBox, firstWords}
 use Rattle.answer.specs.Run.{call, goesOn, onward, onCall, answersUpTo, answersFrom, answers, IsNext}
 use Rattle.answer.proofs.Moves.{Moves, call-moves}

@@ -8,9 +8,9 @@ use native.Mathlib.Omega.{arith}
 use borrow.Author.Tests.{ltb-true, le-ltb}
 use Rattle.basics.proofs.Truth.{clash}
 use Rattle.refusal.specs.Refusal.{numberOf}
-use Rattle.handler.specs.Answer.{Outcome}
-use Rattle.handler.specs.declared.answer.Kind.{Kind}
-use Rattle.handler.specs.declared.answer.Kind.the-variants.{End, Skipped, Done, Refused}
+use Rattle.response.specs.Answer.{Outcome}
+use Rattle.response.specs.declared.Kind.{Kind}
+use Rattle.response.specs.declared.Kind.the-variants.{End, Skipped, Done, Refused}
 use Rattle.demands.specs.Run.{isOver}
 use Rattle.demands.proofs.Demand1.{moves}
 use Rattle.answer.specs.Box.{portRoll, debugNames, flagNames}

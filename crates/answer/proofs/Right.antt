@@ -3,7 +3,6 @@ use mathlib.Core.Path.{_≡_, refl}
 use mathlib.Core.Bool.{true}
 use Rattle.basics.specs.Scan.{all}
 use Rattle.basics.specs.Numbers.{byteAt, u32At}
-use Rattle.bits.specs.Bit.{test}
 use Rattle.bits.specs.Set as B
 use Rattle.entries.specs.Entry as E
 use Rattle.names.specs.Rule as N

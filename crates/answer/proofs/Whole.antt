@@ -8,8 +8,8 @@ use Rattle.basics.specs.Numbers.{byteAt, u16At, u32At}
 use Rattle.basics.specs.Scan.{all, first}
 use Rattle.bits.specs.Bytes.{bytesOf}
 use Rattle.netlink.specs.Attributes as T
-use Rattle.netlink.specs.Headers as H
-use Rattle.netlink.specs.Messages.{messageAt}
+use Rattle.netlink_headers.specs.Headers as H
+use Rattle.netlink_headers.specs.Messages.{messageAt}
 use Rattle.netlink.specs.Policy as Y
 use Rattle.netlink.specs.Walk as W
 use Rattle.netlink_write.specs.Headers as HW
@@ -19,22 +19,22 @@ use Rattle.roll.specs.Record as P
 use Rattle.roll.specs.Name as M
 use Rattle.roll.specs.Find as F
 use Rattle.boxes.specs.Layout as L
-use Rattle.request.specs.Admission as Q
-use Rattle.request.specs.Commands as C
+use Rattle.admission.specs.Admission as Q
+use Rattle.admission.specs.Commands as C
 use Rattle.request.specs.Policies.{topPolicy}
 use Rattle.request.specs.Top as O
 use Rattle.request.specs.Header as HR
 use Rattle.request.specs.Target as G
 use Rattle.request.specs.Aim as I
 use Rattle.reply.proofs.Whole.{wholeReply}
-use Rattle.reply.specs.Set as RS
+use Rattle.bitset_reply.specs.Set as RS
 use Rattle.reply.specs.Message as RM
-use Rattle.handler.specs.Answer as A
+use Rattle.response.specs.Answer as A
 use Rattle.handler.specs.Obey as OB
 use Rattle.handler.specs.Call as K
 use Rattle.answer.specs.Box.{portRoll, debugNames, flagNames, firstWords}
 use Rattle.answer.specs.Run.{call, onCall, answersFrom, answers}
-use Rattle.handler.specs.declared.answer.Kind.the-variants.{Done, End}
+use Rattle.response.specs.declared.Kind.the-variants.{Done, End}
 use Rattle.answer.proofs.Laws.{answers-step}
 use Rattle.answer.proofs.Right.{box-right}
 
@@ -46,7 +46,7 @@ request =
     ∷ 0x08 ∷ 0x00 ∷ 0x03 ∷ 0x00 ∷ 0x01 ∷ 0x00 ∷ 0x00 ∷ 0x00 ∷ []
 
 first-call : call request firstWords 0 ≡ A.leaves (A.speech Done 40 wholeReply) firstWords
-unfolding call K.outcome K.positionOutcome K.messageOutcome OB.obeyed OB.aimed OB.deed OB.gotten OB.setOf A.shown A.ackBytes portRoll debugNames flagNames firstWords messageAt H.messageHeaderAt H.genericHeaderAt H.attributeHeaderAt T.attributeAt T.partOf T.attributesUpTo T.attributes Y.ruleOf Y.nulAt Y.isName Y.plain Y.nested Y.judged W.firstFault W.lastOf W.walked W.slotNumber Q.barred Q.permitted Q.admitted C.rowOf C.commandOf topPolicy O.nestsOf O.topOf HR.flagsJudged HR.partsOf HR.headerOf G.otherName G.portByIndex G.portByName G.targetOf I.withFlags I.aimOf F.find F.isIndex F.byIndex P.portCount P.portsIn P.records P.recordsUpTo P.recordAt M.nameAt L.ofSet L.words L.place L.setAt byteAt u16At u32At all first RM.replyBytes RM.headersBytes RM.attributesBytes RS.setBytes RS.contentsBytes RS.compactBytes RS.openingBytes TW.numbered TW.identity TW.named TW.nameBytes TW.nest TW.attr TW.padding HW.messageHeaderBytes HW.genericHeaderBytes HW.attributeHeaderBytes bytesOf
+unfolding call K.outcome K.positionOutcome K.messageOutcome OB.obeyed OB.aimed OB.deed OB.gotten OB.setOf OB.shown A.ackBytes portRoll debugNames flagNames firstWords messageAt H.messageHeaderAt H.genericHeaderAt H.attributeHeaderAt T.attributeAt T.partOf T.attributesUpTo T.attributes Y.ruleOf Y.nulAt Y.isName Y.plain Y.nested Y.judged W.firstFault W.lastOf W.walked W.slotNumber Q.barred Q.permitted Q.admitted C.rowOf C.commandOf topPolicy O.nestsOf O.topOf HR.flagsJudged HR.partsOf HR.headerOf G.otherName G.portByIndex G.portByName G.targetOf I.withFlags I.aimOf F.find F.isIndex F.byIndex P.portCount P.portsIn P.records P.recordsUpTo P.recordAt M.nameAt L.ofSet L.words L.place L.setAt byteAt u16At u32At all first RM.replyBytes RM.headersBytes RM.attributesBytes RS.setBytes RS.contentsBytes RS.compactBytes RS.openingBytes TW.numbered TW.identity TW.named TW.nameBytes TW.nest TW.attr TW.padding HW.messageHeaderBytes HW.genericHeaderBytes HW.attributeHeaderBytes bytesOf
 first-call = rw box-right refl
 
 last-call : call request firstWords 40 ≡ A.leaves (A.quiet End 40) firstWords

@@ -6,10 +6,10 @@ use mathlib.Core.Bool.{Bool, true, false}
 use lib.ListN.{length, getD}
 use lib.Dec.{ltb}
 use Rattle.refusal.specs.Refusal.{numberOf}
-use Rattle.handler.specs.Answer.{Speech, Outcome}
+use Rattle.response.specs.Answer.{Outcome}
 use Rattle.handler.specs.Call.{outcome}
-use Rattle.handler.specs.declared.answer.Kind.{Kind}
-use Rattle.handler.specs.declared.answer.Kind.the-variants.{End, Skipped, Done, Refused}
+use Rattle.response.specs.declared.Kind.{Kind}
+use Rattle.response.specs.declared.Kind.the-variants.{End, Skipped, Done, Refused}
 use Rattle.answer.specs.Box.{portRoll, debugNames, flagNames, firstWords}
 
 -- one call for the program's box, as admin, with these settings, at this position of the datagram

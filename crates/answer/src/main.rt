@@ -1,16 +1,16 @@
 // The program of document 01: standard input is one datagram, the answers go to standard output.
 ghost use mathlib.Core.Path.{_≡_};
 ghost use lib.ListN.{length};
-ghost use Rattle.handler.specs.Answer.{Did};
+ghost use Rattle.response.specs.Answer.{Did};
 ghost use Rattle.answer.specs.Box.{IsBox, firstWords};
 ghost use Rattle.answer.specs.Run.{call, goesOn, answers};
 
 mod output;
 
 use crate::output::Written;
-use handler::answer::Answer;
-use handler::answer::Kind;
 use handler::call::handle;
+use response::Answer;
+use response::Kind;
 
 // One byte more than the longest datagram, so that a longer one is seen to be too long.
 const INPUT: usize = 32769;

@@ -1,30 +1,13 @@
 // Words as their little-endian bytes.
 use crate::word::bit_between;
+use numbers::four;
 ghost use mathlib.Core.Path.{_≡_};
 ghost use Prim.Native.Nat.{_+_, _*_, _/_, _≤_, _<_};
 ghost use lib.ListN.{length, getD};
-ghost use Rattle.basics.specs.Numbers.{le32, u32At};
+ghost use Rattle.basics.specs.Numbers.{le32};
 ghost use Rattle.basics.specs.Put.{put};
 ghost use Rattle.bits.specs.Set.{has, somePast};
 ghost use Rattle.bits.specs.Bytes.{wordsIn, bytesOf};
-
-// A byte as a word.
-fn wide(b: u8) -> u32
-    ensures { λ r. ⌜ (r ≡ b) × (r < 256) ⌝ }
-{
-    b as u32
-}
-
-// The number in the four bytes from `at` on.
-fn four(bytes: &[u8], at: usize) -> u32
-    requires { ⌜ at + 4 ≤ length (now bytes) ⌝ }
-    ensures { λ r. ⌜ r ≡ u32At (now (bytes .entry)) at ⌝ }
-{
-    wide(bytes[at])
-        + wide(bytes[at + 1]) * 256
-        + wide(bytes[at + 2]) * 65536
-        + wide(bytes[at + 3]) * 16777216
-}
 
 // Word j of the bytes, 0 past the last whole one.
 pub fn word_in(bytes: &[u8], j: usize) -> u32

@@ -1,17 +1,18 @@
 -- Document 01, "Bitsets": the contents of a bitset judged. It is walked whole; 18 first; with BITS it is a bit list, else compact.
 use Prim.Native.Nat.{ℕ, _-_}
-use mathlib.Core.Bool.{Bool, _&&_, cond}
+use mathlib.Core.Bool.{_&&_, cond}
 use mathlib.Core.List.{List}
 use lib.ListN.{getD}
 use Rattle.entries.specs.Entry.{count}
 use Rattle.netlink.specs.Walk.{absent, walked}
 use Rattle.netlink.specs.declared.walk.Slot.{Slot}
 use Rattle.refusal.specs.declared.Refusal.the-variants.{Mixed}
-use Rattle.bitset.specs.Policies.{bitsetPolicy}
-use Rattle.bitset.specs.Bitset.{Reading}
-use Rattle.bitset.specs.Bitset.Reading.{refused}
-use Rattle.bitset.specs.Compact.{compactReading}
-use Rattle.bitset.specs.BitList.{onStop, listReading}
+use Rattle.bitset_form.specs.Policies.{bitsetPolicy}
+use Rattle.bitset_form.specs.Bitset.{Reading}
+use Rattle.bitset_form.specs.Bitset.Reading.{refused}
+use Rattle.bitset_compact.specs.Compact.{compactReading}
+use Rattle.refusal.specs.Refusal.{onStop}
+use Rattle.bitset.specs.BitList.{listReading}
 use Rattle.bitset.specs.declared.judge.Mixing.{Mixing}
 use Rattle.bitset.specs.declared.judge.Mixing.the-variants.{Pure, At}
 

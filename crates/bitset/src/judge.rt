@@ -1,18 +1,18 @@
 // A bitset's contents judged: a refusal with its place, or the form of its change.
 ghost use mathlib.Core.Path.{_≡_};
 ghost use Rattle.entries.specs.Entry.{count};
-ghost use Rattle.bitset.specs.Bitset.{judgedAs};
+ghost use Rattle.bitset_form.specs.Bitset.{judgedAs};
 ghost use Rattle.bitset.specs.Judge.{mixedAt, partsReading, bitsetReading};
-use crate::compact::judge_compact;
-use crate::form::Judged;
-use crate::form::refused;
 use crate::list::judge_list;
-use crate::policies::BITS;
-use crate::policies::MASK;
-use crate::policies::NOMASK;
-use crate::policies::SIZE;
-use crate::policies::VALUE;
-use crate::policies::bitset_policy;
+use bitset_compact::judge_compact;
+use bitset_form::Judged;
+use bitset_form::policies::BITS;
+use bitset_form::policies::MASK;
+use bitset_form::policies::NOMASK;
+use bitset_form::policies::SIZE;
+use bitset_form::policies::VALUE;
+use bitset_form::policies::bitset_policy;
+use bitset_form::refused;
 use netlink::attributes::place;
 use netlink::walk::Slot;
 use netlink::walk::Stop;

@@ -1,223 +1,27 @@
 // A bit list: BITS, and in it any number of BITs.
 ghost use mathlib.Core.Path.{_≡_};
 ghost use Rattle.netlink.specs.Attributes.{attributes};
-ghost use Rattle.bitset.specs.Bitset.{judgedAs};
-ghost use Rattle.bitset.specs.BitList.{bitWalked, byIndex, byName, identified, partsReading, bitReading, bitsReading, listReading, listJudged};
-ghost use Rattle.netlink.specs.Policy.{ruleOf, judged};
-ghost use Rattle.netlink.specs.Walk.{absent, found};
-ghost use Rattle.bitset.specs.Policies.{bitPolicy};
-ghost use Rattle.bitset.specs.declared.form.Judgement.the-variants.{Accepted};
+ghost use Rattle.bitset_form.specs.Bitset.{judgedAs};
+ghost use Rattle.bitset.specs.BitList.{bitsReading, listReading, listJudged};
+ghost use Rattle.netlink.specs.Policy.{judged};
+ghost use Rattle.bitset_form.specs.declared.Judgement.the-variants.{Accepted};
 ghost use Rattle.entries.specs.Entry.{count};
 ghost use Rattle.entries.specs.Chain.{IndexedIf};
-use crate::form::Form;
-use crate::form::Judged;
-use crate::form::Judgement;
-use crate::form::refused;
-use crate::form::under_nomask;
-use crate::policies::bits_policy;
+use bitset_bit::BitRead;
+use bitset_bit::judge_bit;
+use bitset_form::Form;
+use bitset_form::Judged;
+use bitset_form::Judgement;
+use bitset_form::policies::bits_policy;
+use bitset_form::refused;
+use bitset_form::under_nomask;
 use netlink::attributes::AttributeRead;
 use netlink::attributes::payload;
-use netlink::attributes::place;
 use netlink::attributes::read_attribute;
-use netlink::policy::Fault;
-use netlink::policy::Rule;
-use netlink::policy::Verdict;
-use netlink::policy::judge;
 use netlink::walk::Slot;
 use netlink::walk::Stop;
-use netlink::walk::slot_number;
 use netlink::walk::walk;
-use refusal::Refusal;
 use refusal::of_fault;
-
-// Which bit a BIT means: its number, or nothing where it has neither INDEX nor NAME.
-pub enum Identity {
-    Number(usize),
-    Neither,
-}
-
-// An INDEX or a NAME looked up.
-pub enum Looked {
-    Up(Identity),
-    Refused(Refusal),
-}
-
-// A BIT judged: the bit, and whether its VALUE flag stands.
-pub enum BitRead {
-    Bit { number: usize, on: bool },
-    Refused(Refusal),
-}
-
-// What walking a BIT gives: the slots of its three types, or the first fault.
-pub enum BitWalk {
-    Parts { index: Slot, name: Slot, on: Slot },
-    Refused(Refusal),
-}
-
-fn absent() -> Slot
-    ensures { λ r. ⌜ r ≡ absent ⌝ }
-{
-    Slot {
-        present: false,
-        start: 0,
-        end: 0,
-    }
-}
-
-fn found(start: usize, end: usize) -> Slot
-    ensures { λ r. ⌜ r ≡ found start end ⌝ }
-{
-    Slot {
-        present: true,
-        start,
-        end,
-    }
-}
-
-fn by_index(s: &[u8], n: usize, index: Slot) -> Looked
-    ensures { λ r. ⌜ r ≡ byIndex (now (s .entry)) n index ⌝ }
-{
-    let number = slot_number(s, index) as usize;
-    if n <= number {
-        return Looked::Refused(Refusal::PastLength(place(index.start)));
-    }
-    Looked::Up(Identity::Number(number))
-}
-
-fn by_name(s: &[u8], names: &[u8], indexed: bool, head: &[u16], links: &[u16], name: Slot) -> Looked
-    requires { ⌜ IndexedIf indexed (now names) (now head) (now links) ⌝ }
-    ensures { λ r. ⌜ r ≡ byName (now (s .entry)) (now (names .entry)) name ⌝ }
-{
-    let start = name.start;
-    let end = name.end;
-    let lookup = names::look_up(names, indexed, head, links, payload(s, start, end));
-    if lookup.found {
-        return Looked::Up(Identity::Number(lookup.bit));
-    }
-    Looked::Refused(Refusal::UnknownBit(place(start)))
-}
-
-// INDEX decides where both stand.
-fn identify(
-    s: &[u8],
-    names: &[u8],
-    indexed: bool,
-    head: &[u16],
-    links: &[u16],
-    index: Slot,
-    name: Slot,
-) -> Looked
-    requires { ⌜ IndexedIf indexed (now names) (now head) (now links) ⌝ }
-    ensures { λ r. ⌜ r ≡ identified (now (s .entry)) (now (names .entry)) index name ⌝ }
-{
-    if index.present {
-        return by_index(s, names::count(names), index);
-    }
-    if name.present {
-        return by_name(s, names, indexed, head, links, name);
-    }
-    Looked::Up(Identity::Neither)
-}
-
-// Judges the parts of the BIT that stands at `at`.
-fn judge_parts(
-    s: &[u8],
-    names: &[u8],
-    indexed: bool,
-    head: &[u16],
-    links: &[u16],
-    at: usize,
-    index: Slot,
-    name: Slot,
-    on: Slot,
-) -> BitRead
-    requires { ⌜ IndexedIf indexed (now names) (now head) (now links) ⌝ }
-    ensures { λ r. ⌜ r ≡ partsReading (now (s .entry)) (now (names .entry)) at index name on ⌝ }
-{
-    match identify(s, names, indexed, head, links, index, name) {
-        Looked::Refused(why) => BitRead::Refused(why),
-        Looked::Up(identity) => {
-            let Identity::Number(number) = identity else {
-                return BitRead::Refused(Refusal::NoBit(at));
-            };
-            BitRead::Bit {
-                number,
-                on: on.present,
-            }
-        }
-    }
-}
-
-// Judges one attribute of a BIT. The rule is written out for each type, so that each is judged by short code of its own.
-fn judge_attribute(kind: u16, bits: u16, payload: &[u8]) -> Verdict
-    ensures { λ r. ⌜ r ≡ judged (ruleOf bitPolicy kind) bits (now (payload .entry)) ⌝ }
-{
-    match kind {
-        1 => judge(Rule::Number, bits, payload),
-        2 => judge(Rule::Name(32), bits, payload),
-        3 => judge(Rule::Flag, bits, payload),
-        _ => judge(Rule::Unlisted, bits, payload),
-    }
-}
-
-// Walks the BIT whose contents are the bytes of s from `from` on, keeping only the slots of its three types.
-fn walk_bit(s: &[u8], from: usize) -> BitWalk
-    ensures { λ r. ⌜ r ≡ bitWalked (now (s .entry)) from ⌝ }
-{
-    let mut index = absent();
-    let mut name = absent();
-    let mut on = absent();
-    let mut at = from;
-    loop {
-        match read_attribute(s, at) {
-            AttributeRead::End => {
-                return BitWalk::Parts { index, name, on };
-            }
-            AttributeRead::Broken => {
-                return BitWalk::Refused(of_fault(Fault::Length, at));
-            }
-            AttributeRead::Attribute {
-                kind,
-                bits,
-                start,
-                end,
-                next: after,
-            } => match judge_attribute(kind, bits, payload(s, start, end)) {
-                Verdict::Wrong(fault) => {
-                    return BitWalk::Refused(of_fault(fault, at));
-                }
-                Verdict::Right => {
-                    at = after;
-                    match kind {
-                        1 => index = found(start, end),
-                        2 => name = found(start, end),
-                        _ => on = found(start, end),
-                    }
-                }
-            },
-        }
-    }
-}
-
-// Judges that BIT.
-fn judge_bit(
-    s: &[u8],
-    names: &[u8],
-    indexed: bool,
-    head: &[u16],
-    links: &[u16],
-    from: usize,
-) -> BitRead
-    requires { ⌜ IndexedIf indexed (now names) (now head) (now links) ⌝ }
-    ensures { λ r. ⌜ r ≡ bitReading (now (s .entry)) (now (names .entry)) from ⌝ }
-{
-    match walk_bit(s, from) {
-        BitWalk::Refused(why) => BitRead::Refused(why),
-        BitWalk::Parts { index, name, on } => {
-            judge_parts(s, names, indexed, head, links, place(from), index, name, on)
-        }
-    }
-}
 
 fn accepted(mask: [u32; 16], value: [u32; 16]) -> Judged
     ensures { λ r. ⌜ r ≡ record { judgement = Accepted; form = record { mask = mask; value = value } } ⌝ }

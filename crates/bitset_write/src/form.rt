@@ -5,9 +5,9 @@ ghost use lib.ListN.{length};
 ghost use Rattle.netlink_write.specs.Page.{Wrote};
 ghost use Rattle.bitset_write.specs.Form.{partsBytes, formBytes};
 use crate::bitmap::put_bitmap;
-use bitset::policies::MASK;
-use bitset::policies::SIZE;
-use bitset::policies::VALUE;
+use bitset_form::policies::MASK;
+use bitset_form::policies::SIZE;
+use bitset_form::policies::VALUE;
 use netlink_write::attributes::put_low_number;
 
 // SIZE, then the words of VALUE, then those of MASK.

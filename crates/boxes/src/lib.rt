@@ -1,8 +1,10 @@
 // The box that a call is given: where the sets of its ports lie in the settings, and the rules that it must keep.
+pub mod change;
 pub mod layout;
 pub mod rule;
 pub mod settings;
 
+pub use change::apply;
 pub use layout::Set;
 pub use layout::number_of;
 pub use layout::place;

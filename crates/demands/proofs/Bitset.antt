@@ -13,20 +13,22 @@ use Rattle.netlink.specs.Walk.{absent, walked, slotNumber}
 use Rattle.netlink.specs.declared.walk.Slot.{Slot}
 use Rattle.refusal.specs.declared.Refusal.{Refusal}
 use Rattle.refusal.specs.declared.Refusal.the-variants.{MissingIn, ShortBitmap, PastLength, UnknownBit, NoBit}
-use Rattle.bitset.specs.Policies.{bitsetPolicy, bitsPolicy, bitPolicy}
-use Rattle.bitset.specs.Bitset.{Reading}
-use Rattle.bitset.specs.Bitset.Reading.{refused, accepted}
-use Rattle.bitset.specs.Compact.{wholeReading, maskedReading, compactReading}
-use Rattle.bitset.specs.BitList.{byIndex, byName, identified, onLooked, onStop, partsReading, bitReading, ListReading, onBit, bitsReading, asBitset, listReading}
+use Rattle.bitset_form.specs.Policies.{bitsetPolicy, bitsPolicy, bitPolicy}
+use Rattle.bitset_form.specs.Bitset.{Reading}
+use Rattle.bitset_form.specs.Bitset.Reading.{refused, accepted}
+use Rattle.bitset_compact.specs.Compact.{wholeReading, maskedReading, compactReading}
+use Rattle.bitset_bit.specs.Bit.{byIndex, byName, identified, onLooked, partsReading, bitReading}
+use Rattle.refusal.specs.Refusal.{onStop}
+use Rattle.bitset.specs.BitList.{ListReading, onBit, bitsReading, asBitset, listReading}
 use Rattle.bitset.specs.BitList.ListReading.{stopped, entries}
 use Rattle.bitset.specs.Judge as J
 use Rattle.bitset.specs.declared.judge.Mixing.{Mixing}
-use Rattle.bitset.specs.declared.list.Identity.the-variants.{Number, Neither}
-use Rattle.bitset.specs.declared.list.Looked.{Looked}
-use Rattle.bitset.specs.declared.list.Looked.the-variants as L
-use Rattle.bitset.specs.declared.list.BitRead.the-variants as B
-use Rattle.handler.specs.declared.answer.Kind.{Kind}
-use Rattle.handler.specs.declared.answer.Kind.the-variants.{Done, Refused}
+use Rattle.bitset_bit.specs.declared.Identity.the-variants.{Number, Neither}
+use Rattle.bitset_bit.specs.declared.Looked.{Looked}
+use Rattle.bitset_bit.specs.declared.Looked.the-variants as L
+use Rattle.bitset_bit.specs.declared.BitRead.the-variants as B
+use Rattle.response.specs.declared.Kind.{Kind}
+use Rattle.response.specs.declared.Kind.the-variants.{Done, Refused}
 use Rattle.demands.specs.Check.{Check, refuseIf, first}
 use Rattle.demands.specs.Bitset.{mixedChecks, tooShort, pastEnd, compactChecks, partChecks, bitChecks, eachBit, listChecks, formChecks, bitsetChecks}
 use Rattle.demands.proofs.First.{step, walk-step, pass, fault, no-more, first-append}

@@ -12,18 +12,18 @@ use Rattle.bits.specs.Set.{wordsFor}
 use Rattle.entries.specs.Entry.{count}
 use Rattle.names.specs.Rule.{namesRight}
 use Rattle.netlink.specs.Policy.{nulAt}
-use Rattle.netlink.specs.declared.headers.MessageHeader.{MessageHeader}
+use Rattle.netlink_headers.specs.declared.headers.MessageHeader.{MessageHeader}
 use Rattle.netlink_write.specs.Attributes.{attr}
-use Rattle.netlink_write.specs.Error.{detailBytes, flagsOf, errorHeader, errorStart, errorMessage}
+use Rattle.netlink_error.specs.Error.{detailBytes, flagsOf, errorHeader, errorStart, errorMessage}
 use Rattle.netlink_write.specs.Headers.{messageHeaderBytes}
-use Rattle.netlink_write.specs.declared.error.Detail.{Detail}
-use Rattle.netlink_write.specs.declared.error.Detail.the-variants.{Nothing, Offset, MissTop, MissIn}
+use Rattle.netlink_error.specs.declared.Detail.{Detail}
+use Rattle.netlink_error.specs.declared.Detail.the-variants.{Nothing, Offset, MissTop, MissIn}
 use Rattle.netlink_write.proofs.attributes.Laws.{length-attr}
-use Rattle.netlink_write.proofs.error.Laws.{length-start}
+use Rattle.netlink_error.proofs.Laws.{length-start}
 use Rattle.reply.proofs.message.Lengths.{length-reply, reply-whole, longest}
 use Rattle.reply.specs.Message.{headersBytes, attributesBytes, replyBytes}
 use Rattle.reply.specs.declared.message.Heading.{Heading}
-use Rattle.handler.specs.Answer.{ackBytes}
+use Rattle.response.specs.Answer.{ackBytes}
 use Rattle.demands.specs.Answer.{Messages, Counted}
 use Rattle.demands.specs.Answer.Messages.{none, next}
 

@@ -14,13 +14,13 @@ use lib.ListN.{length}
 use native.Mathlib.Omega.{arith}
 use borrow.Author.Tests.{lt-ltb, le-ltb}
 use Rattle.basics.proofs.Truth.{clash}
-use Rattle.netlink.specs.Headers.{messageHeader}
-use Rattle.netlink_write.specs.Error.{errorMessage}
+use Rattle.netlink_headers.specs.Headers.{messageHeader}
+use Rattle.netlink_error.specs.Error.{errorMessage}
 use Rattle.refusal.specs.Refusal.{numberOf, errnoOf, detailOf}
 use Rattle.refusal.specs.declared.Refusal.{Refusal}
-use Rattle.handler.specs.Answer.{Outcome}
+use Rattle.response.specs.Answer.{Outcome}
 use Rattle.handler.specs.Call.{outcome}
-use Rattle.handler.specs.declared.answer.Kind.the-variants.{End, Skipped, Done, Refused}
+use Rattle.response.specs.declared.Kind.the-variants.{End, Skipped, Done, Refused}
 use Rattle.demands.specs.Answer.{refusalBytes}
 use Rattle.demands.specs.Call.{messageOf}
 use Rattle.demands.specs.Message.MessageCase.{skipped, refused, got, set}

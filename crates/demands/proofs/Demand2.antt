@@ -19,12 +19,12 @@ use Rattle.bits.proofs.Cut.{none-below}
 use Rattle.bits.proofs.WordBytes.{Small}
 use Rattle.entries.specs.Entry.{count}
 use Rattle.names.specs.Rule.{namesRight}
-use Rattle.netlink.specs.Headers.{messageHeader}
+use Rattle.netlink_headers.specs.Headers.{messageHeader}
 use Rattle.netlink.specs.Policy.{nulAt}
-use Rattle.netlink.specs.declared.headers.MessageHeader.{MessageHeader}
+use Rattle.netlink_headers.specs.declared.headers.MessageHeader.{MessageHeader}
 use Rattle.netlink_write.specs.Attributes.{numbered}
 use Rattle.refusal.specs.Refusal.{errnoOf, detailOf}
-use Rattle.bitset.specs.Bitset.{Bitset}
+use Rattle.bitset_form.specs.Bitset.{Bitset}
 use Rattle.normal.specs.Claims.{Fits}
 use Rattle.normal.proofs.Fits.{accepted-fits}
 use Rattle.roll.specs.Name.{nameAt}
@@ -36,13 +36,15 @@ use Rattle.boxes.specs.declared.layout.Set.the-variants.{Debug, Flags}
 use Rattle.boxes.proofs.layout.Laws.{of-map, place-inside, set-length}
 use Rattle.boxes.proofs.rule.Meaning.{Right, box-means}
 use Rattle.boxes.proofs.settings.Laws as S
-use Rattle.reply.proofs.message.ReadBack.{reply-attributes, reply-back}
-use Rattle.request.specs.Commands.{commandOf}
+use Rattle.read_back.proofs.Reply.{reply-attributes, reply-back}
+use Rattle.admission.specs.Commands.{commandOf}
 use Rattle.request.proofs.aim.Place.{aimed-in}
-use Rattle.handler.specs.Answer.{Outcome, ackBytes, shown}
+use Rattle.response.specs.Answer.{Outcome, ackBytes}
+use Rattle.handler.specs.Obey.{shown}
 use Rattle.handler.specs.Call.{outcome}
-use Rattle.handler.specs.Obey.{heading, setOf, gotten}
-use Rattle.handler.specs.declared.answer.Kind.the-variants.{Done}
+use Rattle.reply.specs.Message.{headingOf}
+use Rattle.handler.specs.Obey.{setOf, gotten}
+use Rattle.response.specs.declared.Kind.the-variants.{Done}
 use Rattle.demands.specs.Answer.{Counted}
 use Rattle.demands.specs.Call.{messageOf}
 use Rattle.demands.specs.CallCase.{CallCase}
@@ -170,7 +172,7 @@ module _ (family admin : ℕ) (roll debug flags ws datagram : List ℕ) (positio
         let inside = here roll m n in
         let right = names-right family admin roll debug flags ws box (n .position) inside set in
         let long = stored-long family admin roll debug flags ws box (n .position) inside set in
-        let parts = reply-attributes (heading h (n .command)) x name-of compact names words-of bits-of right (of-map count set debug flags) long short in
+        let parts = reply-attributes (headingOf h (n .command .reply)) x name-of compact names words-of bits-of right (of-map count set debug flags) long short in
         let at : 24 + length (numbered 1 x name-of) - 4 ≡ 20 + length (numbered 1 x name-of) = omega arith in
         record {
           named = n;
@@ -180,7 +182,7 @@ module _ (family admin : ℕ) (roll debug flags ws datagram : List ℕ) (positio
           contents = 24 + length (numbered 1 x name-of);
           parts = rw at parts;
           reads-back =
-              reply-back (heading h (n .command)) x name-of compact names words-of bits-of right (of-map count set debug flags) long
+              reply-back (headingOf h (n .command .reply)) x name-of compact names words-of bits-of right (of-map count set debug flags) long
               (stored-small family admin roll debug flags ws box (n .position) inside set small)
               (stored-below family admin roll debug flags ws box (n .position) inside set);
         }
@@ -191,7 +193,7 @@ module _ (family admin : ℕ) (roll debug flags ws datagram : List ℕ) (positio
         let inside = here roll m n in
         let ack = ack-counted m h long in
         rw got-bytes
-        (reply-counted (heading h (n .command)) (u32At roll (n .index)) name-of (eqb (n .asked % 2) 1) (ofSet set debug flags) words-of bits-of short
+        (reply-counted (headingOf h (n .command .reply)) (u32At roll (n .index)) name-of (eqb (n .asked % 2) 1) (ofSet set debug flags) words-of bits-of short
         (names-right family admin roll debug flags ws box (n .position) inside set) (of-map count set debug flags)
         (stored-long family admin roll debug flags ws box (n .position) inside set) (ackBytes m h) (ack .0) (ack .1))
 

@@ -12,7 +12,7 @@ use Rattle.bits.specs.Change.{Same, Below}
 use Rattle.bits.proofs.Words.{length-wordsOf, has-all}
 use Rattle.bits.proofs.Cut.{none-below, below-none}
 use Rattle.entries.specs.Entry.{count}
-use Rattle.bitset.specs.Bitset.{Bitset, effect, valueOf}
+use Rattle.bitset_form.specs.Bitset.{Bitset, effect, valueOf}
 use Rattle.normal.specs.Claims.{Fits}
 use Rattle.normal.proofs.Effect.{form-keeps-effect, mask-below}
 use Rattle.roll.specs.Record.{portCount}

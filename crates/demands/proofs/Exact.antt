@@ -10,18 +10,18 @@ use lib.ListN.{length}
 use lib.Dec.{eqb, ltb}
 use Rattle.basics.specs.Numbers.{u32At}
 use Rattle.netlink.specs.Attributes.{partOf}
-use Rattle.netlink.specs.Headers.{messageHeader}
-use Rattle.netlink.specs.Lengths.{roundUp4}
-use Rattle.netlink.specs.Messages.{messageAt}
-use Rattle.netlink.specs.declared.messages.MessageRead.{MessageRead}
-use Rattle.netlink.specs.declared.messages.MessageRead.the-variants.{Message, Misstated, Cut, AtEnd, Outside}
+use Rattle.netlink_headers.specs.Headers.{messageHeader}
+use Rattle.netlink_headers.specs.Lengths.{roundUp4}
+use Rattle.netlink_headers.specs.Messages.{messageAt}
+use Rattle.netlink_headers.specs.declared.messages.MessageRead.{MessageRead}
+use Rattle.netlink_headers.specs.declared.messages.MessageRead.the-variants.{Message, Misstated, Cut, AtEnd, Outside}
 use Rattle.refusal.specs.declared.Refusal.{Refusal}
 use Rattle.refusal.specs.declared.Refusal.the-variants as R
 use Rattle.boxes.specs.Box.{boxRight}
-use Rattle.handler.specs.Answer.{Outcome}
+use Rattle.response.specs.Answer.{Outcome}
 use Rattle.handler.specs.Call.{stays, onMessage, messageOutcome, positionOutcome, outcome}
-use Rattle.handler.specs.declared.answer.Kind.{Kind}
-use Rattle.handler.specs.declared.answer.Kind.the-variants.{Done, Refused}
+use Rattle.response.specs.declared.Kind.{Kind}
+use Rattle.response.specs.declared.Kind.the-variants.{Done, Refused}
 use Rattle.demands.specs.Check.{Check, refuseIf, first, AllPass, FirstIs}
 use Rattle.demands.specs.Check.Check.{ends}
 use Rattle.demands.specs.Request.{messageChecks}

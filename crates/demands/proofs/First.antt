@@ -9,8 +9,8 @@ use Rattle.netlink.specs.declared.walk.Stop.{Stop}
 use Rattle.netlink.specs.declared.walk.Stop.the-variants.{Whole, At}
 use Rattle.refusal.specs.Refusal.{ofFault}
 use Rattle.refusal.specs.declared.Refusal.{Refusal}
-use Rattle.handler.specs.declared.answer.Kind.{Kind}
-use Rattle.handler.specs.declared.answer.Kind.the-variants.{End, Skipped, Done, Refused}
+use Rattle.response.specs.declared.Kind.{Kind}
+use Rattle.response.specs.declared.Kind.the-variants.{End, Skipped, Done, Refused}
 use Rattle.demands.specs.Check.{Check, refuseIf, walks, first, AllPass, FirstIs}
 use Rattle.demands.specs.Check.Check.{passes, refuses, ends, skips}
 use Rattle.demands.specs.Check.AllPass.{none, next}

@@ -6,7 +6,7 @@ use lib.Dec.{eqb, ltb}
 use native.Mathlib.Omega.{arith}
 use Rattle.netlink.specs.Attributes.{Attributes}
 use Rattle.netlink.specs.Attributes.Attributes.{done, broken, attribute}
-use Rattle.netlink.specs.declared.headers.MessageHeader.{MessageHeader}
+use Rattle.netlink_headers.specs.declared.headers.MessageHeader.{MessageHeader}
 use Rattle.netlink.specs.declared.policy.Fault.the-variants as W
 use Rattle.netlink.specs.declared.walk.Slot.{Slot}
 use Rattle.netlink.specs.declared.walk.Stop.{Stop}

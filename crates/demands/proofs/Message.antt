@@ -8,27 +8,27 @@ use lib.Dec.{eqb, ltb}
 use native.Mathlib.Omega.{arith}
 use Rattle.basics.specs.Numbers.{byteAt}
 use Rattle.netlink.specs.Attributes.{partOf}
-use Rattle.netlink.specs.declared.headers.MessageHeader.{MessageHeader}
+use Rattle.netlink_headers.specs.declared.headers.MessageHeader.{MessageHeader}
 use Rattle.netlink.specs.declared.walk.Slot.{Slot}
 use Rattle.refusal.specs.declared.Refusal.the-variants as R
-use Rattle.bitset.specs.Bitset.{Reading}
-use Rattle.bitset.specs.Bitset.Reading.{refused as turned-down, accepted}
+use Rattle.bitset_form.specs.Bitset.{Reading}
+use Rattle.bitset_form.specs.Bitset.Reading.{refused as turned-down, accepted}
 use Rattle.bitset.specs.Judge.{bitsetReading}
 use Rattle.boxes.specs.Layout.{ofSet}
-use Rattle.request.specs.Admission.{barred, permitted, onCommand, admitted}
+use Rattle.admission.specs.Admission.{barred, permitted, onCommand, admitted}
 use Rattle.request.specs.Aim.{aimOf}
-use Rattle.request.specs.Commands.{commandOf}
+use Rattle.admission.specs.Commands.{commandOf}
 use Rattle.request.specs.Top.{topOf}
-use Rattle.request.specs.declared.admission.Admission.{Admission}
-use Rattle.request.specs.declared.admission.Admission.the-variants as A
+use Rattle.admission.specs.declared.Admission.{Admission}
+use Rattle.admission.specs.declared.Admission.the-variants as A
 use Rattle.request.specs.declared.aim.Aim.{Aim}
 use Rattle.request.specs.declared.aim.Aim.the-variants as P
-use Rattle.request.specs.declared.commands.Command.{Command}
-use Rattle.request.specs.declared.commands.CommandRead.{CommandRead}
-use Rattle.request.specs.declared.commands.CommandRead.the-variants.{Listed, Unlisted}
+use Rattle.admission.specs.declared.commands.Command.{Command}
+use Rattle.admission.specs.declared.commands.CommandRead.{CommandRead}
+use Rattle.admission.specs.declared.commands.CommandRead.the-variants.{Listed, Unlisted}
 use Rattle.request.specs.declared.top.Top.{Top}
 use Rattle.request.specs.declared.top.Top.the-variants as T
-use Rattle.handler.specs.Answer.{Outcome, speech, done, leaves}
+use Rattle.response.specs.Answer.{Outcome, speech, done, leaves}
 use Rattle.handler.specs.Obey.{gotten, onReading, setOutcome, deed, onAim, aimed, onTop, obeyed}
 use Rattle.handler.specs.Call.{onAdmission, messageOutcome}
 use Rattle.demands.specs.Message.{Named, MessageCase}

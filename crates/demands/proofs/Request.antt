@@ -8,41 +8,42 @@ use lib.Dec.{eqb, ltb}
 use Rattle.basics.specs.Numbers.{byteAt}
 use Rattle.netlink.specs.Attributes.{partOf}
 use Rattle.netlink.specs.Walk.{absent, walked, slotNumber}
-use Rattle.netlink.specs.declared.headers.MessageHeader.{MessageHeader}
+use Rattle.netlink_headers.specs.declared.headers.MessageHeader.{MessageHeader}
 use Rattle.netlink.specs.declared.walk.Slot.{Slot}
 use Rattle.refusal.specs.declared.Refusal.{Refusal}
 use Rattle.refusal.specs.declared.Refusal.the-variants as R
-use Rattle.bitset.specs.Bitset.{Reading}
-use Rattle.bitset.specs.Bitset.Reading.{refused, accepted}
+use Rattle.bitset_form.specs.Bitset.{Reading}
+use Rattle.bitset_form.specs.Bitset.Reading.{refused, accepted}
 use Rattle.bitset.specs.Judge.{bitsetReading}
 use Rattle.roll.specs.Find.{byIndex, byName}
 use Rattle.roll.specs.declared.find.Found.{Found}
 use Rattle.roll.specs.declared.find.Found.the-variants as F
 use Rattle.boxes.specs.Layout.{ofSet}
 use Rattle.boxes.specs.declared.layout.Set.{Set}
-use Rattle.request.specs.Admission.{barred, permitted, onCommand, admitted}
+use Rattle.admission.specs.Admission.{barred, permitted, onCommand, admitted}
 use Rattle.request.specs.Aim.{withFlags, onHeader, aimOf}
-use Rattle.request.specs.Commands.{commandOf}
+use Rattle.admission.specs.Commands.{commandOf}
 use Rattle.request.specs.Header.{flagsJudged, partsOf, headerOf}
 use Rattle.request.specs.Policies.{topPolicy, headerPolicy}
 use Rattle.request.specs.Target.{onFound, otherName, portByIndex, portByName, targetOf}
-use Rattle.request.specs.Top.{onStop, nestsOf, topOf}
-use Rattle.request.specs.declared.admission.Admission.{Admission}
-use Rattle.request.specs.declared.admission.Admission.the-variants as A
-use Rattle.request.specs.declared.commands.Command.{Command}
-use Rattle.request.specs.declared.commands.CommandRead.{CommandRead}
-use Rattle.request.specs.declared.commands.CommandRead.the-variants.{Listed, Unlisted}
+use Rattle.refusal.specs.Refusal.{onStop}
+use Rattle.request.specs.Top.{nestsOf, topOf}
+use Rattle.admission.specs.declared.Admission.{Admission}
+use Rattle.admission.specs.declared.Admission.the-variants as A
+use Rattle.admission.specs.declared.commands.Command.{Command}
+use Rattle.admission.specs.declared.commands.CommandRead.{CommandRead}
+use Rattle.admission.specs.declared.commands.CommandRead.the-variants.{Listed, Unlisted}
 use Rattle.request.specs.declared.header.Header.{Header}
 use Rattle.request.specs.declared.header.Header.the-variants as H
 use Rattle.request.specs.declared.target.Target.{Target}
 use Rattle.request.specs.declared.target.Target.the-variants as P
 use Rattle.request.specs.declared.top.Top.{Top}
 use Rattle.request.specs.declared.top.Top.the-variants as T
-use Rattle.handler.specs.Answer.{Outcome, speech, done, leaves}
+use Rattle.response.specs.Answer.{Outcome, speech, done, leaves}
 use Rattle.handler.specs.Obey.{gotten, onReading, setOutcome, deed, onAim, aimed, onTop, obeyed}
 use Rattle.handler.specs.Call.{onAdmission, messageOutcome}
-use Rattle.handler.specs.declared.answer.Kind.{Kind}
-use Rattle.handler.specs.declared.answer.Kind.the-variants.{Done, Refused}
+use Rattle.response.specs.declared.Kind.{Kind}
+use Rattle.response.specs.declared.Kind.the-variants.{Done, Refused}
 use Rattle.demands.specs.Check.{Check, refuseIf, first}
 use Rattle.demands.specs.Check.Check.{skips}
 use Rattle.demands.specs.Bitset.{bitsetChecks}

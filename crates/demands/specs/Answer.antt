@@ -6,7 +6,7 @@ use mathlib.Core.Bool.{cond}
 use lib.ListN.{length}
 use lib.Dec.{ltb}
 use Rattle.basics.specs.Numbers.{u32At}
-use Rattle.netlink_write.specs.Error.{errorMessage}
+use Rattle.netlink_error.specs.Error.{errorMessage}
 use Rattle.refusal.specs.Refusal.{numberOf, errnoOf, detailOf}
 use Rattle.refusal.specs.declared.Refusal.{Refusal}
 

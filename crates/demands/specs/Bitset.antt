@@ -14,8 +14,8 @@ use Rattle.netlink.specs.Attributes.Attributes.{done, broken, attribute}
 use Rattle.netlink.specs.Walk.{absent, walked, slotNumber}
 use Rattle.netlink.specs.declared.walk.Slot.{Slot}
 use Rattle.refusal.specs.declared.Refusal.the-variants.{Mixed, MissingIn, ShortBitmap, PastLength, UnknownBit, NoBit}
-use Rattle.bitset.specs.Policies.{bitsetPolicy, bitsPolicy, bitPolicy}
-use Rattle.bitset.specs.Compact.{bitmap}
+use Rattle.bitset_form.specs.Policies.{bitsetPolicy, bitsPolicy, bitPolicy}
+use Rattle.bitset_compact.specs.Compact.{bitmap}
 use Rattle.demands.specs.Check.{Check, refuseIf, walks}
 
 -- "18, in order: BITS with VALUE; BITS with MASK; NOMASK with MASK"

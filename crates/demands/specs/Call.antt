@@ -6,7 +6,7 @@ use lib.ListN.{length}
 use lib.Dec.{eqb, ltb}
 use Rattle.basics.specs.Numbers.{u32At}
 use Rattle.netlink.specs.Attributes.{partOf}
-use Rattle.netlink.specs.Headers.{messageHeader}
+use Rattle.netlink_headers.specs.Headers.{messageHeader}
 use Rattle.refusal.specs.declared.Refusal.the-variants as R
 use Rattle.boxes.specs.Box.{boxRight}
 use Rattle.demands.specs.Check.{Check, refuseIf}

@@ -5,12 +5,12 @@ use mathlib.Core.Path.{_≡_}
 use mathlib.Core.List.{List}
 use mathlib.Core.Bool.{true}
 use lib.ListN.{length}
-use Rattle.netlink.specs.Headers.{messageHeader}
+use Rattle.netlink_headers.specs.Headers.{messageHeader}
 use Rattle.refusal.specs.Refusal.{numberOf}
 use Rattle.refusal.specs.declared.Refusal.{Refusal}
 use Rattle.boxes.specs.Box.{boxRight}
-use Rattle.handler.specs.Answer.{Outcome, quiet, leaves}
-use Rattle.handler.specs.declared.answer.Kind.the-variants.{End, Done, Refused}
+use Rattle.response.specs.Answer.{Outcome, quiet, leaves}
+use Rattle.response.specs.declared.Kind.the-variants.{End, Done, Refused}
 use Rattle.demands.specs.Check.{first}
 use Rattle.demands.specs.Request.{messageChecks}
 use Rattle.demands.specs.Call.{messageOf}

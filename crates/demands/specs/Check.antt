@@ -5,8 +5,8 @@ use Rattle.netlink.specs.declared.walk.Stop.{Stop}
 use Rattle.netlink.specs.declared.walk.Stop.the-variants.{Whole, At}
 use Rattle.refusal.specs.Refusal.{ofFault}
 use Rattle.refusal.specs.declared.Refusal.{Refusal}
-use Rattle.handler.specs.declared.answer.Kind.{Kind}
-use Rattle.handler.specs.declared.answer.Kind.the-variants.{End, Skipped, Refused}
+use Rattle.response.specs.declared.Kind.{Kind}
+use Rattle.response.specs.declared.Kind.the-variants.{End, Skipped, Refused}
 
 -- what one check comes to: it passes, it refuses, or the call is over as the end or as skipped
 pub data Check : Type 0 where

@@ -13,17 +13,18 @@ use Rattle.bits.specs.Change.{Same}
 use Rattle.entries.specs.Entry.{count}
 use Rattle.netlink.specs.Attributes.{attributes}
 use Rattle.netlink.specs.Attributes.Attributes.{done, attribute}
-use Rattle.netlink.specs.declared.headers.MessageHeader.{MessageHeader}
-use Rattle.bitset.specs.Bitset.{Bitset, effect}
+use Rattle.netlink_headers.specs.declared.headers.MessageHeader.{MessageHeader}
+use Rattle.bitset_form.specs.Bitset.{Bitset, effect}
 use Rattle.roll.specs.Name.{nameAt}
 use Rattle.roll.specs.Record.{portCount}
 use Rattle.boxes.specs.Box.{boxRight}
 use Rattle.boxes.specs.Layout.{ofSet}
 use Rattle.boxes.specs.declared.layout.Set.{Set}
-use Rattle.reply.specs.Claims.{ReadsBack}
+use Rattle.read_back.specs.Claims.{ReadsBack}
 use Rattle.reply.specs.Message.{replyBytes}
-use Rattle.handler.specs.Answer.{Outcome, ackBytes}
-use Rattle.handler.specs.Obey.{heading, placeIn, widthIn, setOf}
+use Rattle.response.specs.Answer.{Outcome, ackBytes}
+use Rattle.reply.specs.Message.{headingOf}
+use Rattle.handler.specs.Obey.{placeIn, widthIn, setOf}
 use Rattle.demands.specs.Message.{Named, Carries}
 
 -- a done SET: the named set of the named port is what the bitset makes of it, every other set and every other word is as before, and the box
@@ -47,7 +48,7 @@ pub record DoneSet (family admin : ℕ) (roll debug flags ws m : List ℕ) (h : 
 -- the reply to a GET: the named set of the named port, compact with header flag 1
 abbrev pub replyTo : (roll debug flags ws m : List ℕ) → MessageHeader → Named roll m → List ℕ
 replyTo roll debug flags ws m h n =
-    replyBytes (heading h (n .command)) (u32At roll (n .index)) (nameAt roll (n .name)) (eqb (n .asked % 2) 1) (ofSet (n .command .set) debug flags)
+    replyBytes (headingOf h (n .command .reply)) (u32At roll (n .index)) (nameAt roll (n .name)) (eqb (n .asked % 2) 1) (ofSet (n .command .set) debug flags)
     (setOf roll debug flags ws (n .position) (n .command .set)) (ofSet (n .command .set) (count debug) (count flags))
 
 -- a done GET: the settings stay; the reply is written, then the ACK if asked; the reply's two attributes are the port's nest and the set's,

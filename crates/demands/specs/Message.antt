@@ -7,23 +7,23 @@ use Rattle.basics.specs.Numbers.{byteAt}
 use Rattle.basics.specs.Put.{splice}
 use Rattle.bits.specs.Set.{has, wordsOf}
 use Rattle.netlink.specs.Attributes.{partOf}
-use Rattle.netlink.specs.declared.headers.MessageHeader.{MessageHeader}
+use Rattle.netlink_headers.specs.declared.headers.MessageHeader.{MessageHeader}
 use Rattle.netlink.specs.declared.walk.Slot.{Slot}
 use Rattle.refusal.specs.declared.Refusal.{Refusal}
-use Rattle.bitset.specs.Bitset.{Bitset, effect}
-use Rattle.bitset.specs.Bitset.Reading.{accepted}
+use Rattle.bitset_form.specs.Bitset.{Bitset, effect}
+use Rattle.bitset_form.specs.Bitset.Reading.{accepted}
 use Rattle.bitset.specs.Judge.{bitsetReading}
 use Rattle.boxes.specs.Layout.{ofSet}
 use Rattle.request.specs.Aim.{aimOf}
-use Rattle.request.specs.Commands.{commandOf}
+use Rattle.admission.specs.Commands.{commandOf}
 use Rattle.request.specs.Top.{topOf}
 use Rattle.request.specs.declared.aim.Aim.the-variants.{Port}
-use Rattle.request.specs.declared.commands.Command.{Command}
-use Rattle.request.specs.declared.commands.CommandRead.the-variants.{Listed}
+use Rattle.admission.specs.declared.commands.Command.{Command}
+use Rattle.admission.specs.declared.commands.CommandRead.the-variants.{Listed}
 use Rattle.request.specs.declared.top.Top.the-variants.{Nests}
-use Rattle.handler.specs.Answer.{Outcome, speech, done, quiet, refusal, ackBytes, leaves}
+use Rattle.response.specs.Answer.{Outcome, speech, done, quiet, refusal, ackBytes, leaves}
 use Rattle.handler.specs.Obey.{placeIn, widthIn, setOf, gotten}
-use Rattle.handler.specs.declared.answer.Kind.the-variants.{Skipped}
+use Rattle.response.specs.declared.Kind.the-variants.{Skipped}
 
 -- what the request m names: a listed command, its header and bitset, and the port of the roll that its header gives
 pub record Named (roll m : List ℕ) : Type 0 where

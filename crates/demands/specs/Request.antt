@@ -8,7 +8,7 @@ use lib.Dec.{eqb, ltb}
 use Rattle.basics.specs.Numbers.{byteAt}
 use Rattle.netlink.specs.Attributes.{partOf}
 use Rattle.netlink.specs.Walk.{absent, walked, slotNumber}
-use Rattle.netlink.specs.declared.headers.MessageHeader.{MessageHeader}
+use Rattle.netlink_headers.specs.declared.headers.MessageHeader.{MessageHeader}
 use Rattle.netlink.specs.declared.walk.Slot.{Slot}
 use Rattle.refusal.specs.declared.Refusal.the-variants as R
 use Rattle.roll.specs.Find.{byIndex, byName}
@@ -17,12 +17,12 @@ use Rattle.roll.specs.declared.find.Found.the-variants as F
 use Rattle.boxes.specs.Layout.{ofSet}
 use Rattle.boxes.specs.declared.layout.Set.{Set}
 use Rattle.boxes.specs.declared.layout.Set.the-variants.{Debug}
-use Rattle.request.specs.Commands.{commandOf}
+use Rattle.admission.specs.Commands.{commandOf}
 use Rattle.request.specs.Policies.{topPolicy, headerPolicy}
 use Rattle.request.specs.Target.{otherName}
-use Rattle.request.specs.declared.commands.Command.{Command}
-use Rattle.request.specs.declared.commands.CommandRead.{CommandRead}
-use Rattle.request.specs.declared.commands.CommandRead.the-variants.{Listed, Unlisted}
+use Rattle.admission.specs.declared.commands.Command.{Command}
+use Rattle.admission.specs.declared.commands.CommandRead.{CommandRead}
+use Rattle.admission.specs.declared.commands.CommandRead.the-variants.{Listed, Unlisted}
 use Rattle.demands.specs.Check.{Check, refuseIf, walks}
 use Rattle.demands.specs.Check.Check.{skips, passes}
 use Rattle.demands.specs.Bitset.{bitsetChecks}

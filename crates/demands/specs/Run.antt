@@ -6,8 +6,8 @@ use mathlib.Core.Bool.{Bool, true, false, _||_}
 use lib.Dec.{ltb}
 use Rattle.refusal.specs.Refusal.{numberOf}
 use Rattle.handler.specs.Call.{outcome}
-use Rattle.handler.specs.declared.answer.Kind.{Kind}
-use Rattle.handler.specs.declared.answer.Kind.the-variants.{End, Skipped, Done, Refused}
+use Rattle.response.specs.declared.Kind.{Kind}
+use Rattle.response.specs.declared.Kind.the-variants.{End, Skipped, Done, Refused}
 
 -- the end, or a refusal by 1 to 4
 abbrev pub isOver : Kind → Bool

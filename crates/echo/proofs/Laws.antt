@@ -1,24 +1,23 @@
 -- The laws by which the family is proved: netlink's contracts are all that they use.
 use Prim.Native.Nat.{ℕ, _+_, _-_, _≤_, _<_}
 use mathlib.Core.Path.{_≡_, refl, sym, ap, _∙_}
-use mathlib.Core.List.{List, [], _∷_, _++_, append-assoc}
-use mathlib.Core.Bool.{Bool, true, false, cond, not}
-use lib.ListN.{length, getD, take, drop, length-append}
-use lib.Dec.{eqb, ltb}
+use mathlib.Core.List.{List, [], _++_}
+use mathlib.Core.Bool.{true, false, not}
+use lib.ListN.{length, getD, take, drop}
 use native.Mathlib.Omega.{arith}
 use borrow.Author.Tests.{lt-ltb, le-ltb, eq-eqb, ne-eqb}
 use borrow.Rule.Slice.PartMut.{putMid}
 use Rattle.basics.specs.Put.{put}
 use Rattle.basics.proofs.Put.{put-nil, then-rest}
-use Rattle.netlink.specs.Headers.{messageHeaderAt, genericHeaderAt}
+use Rattle.netlink_headers.specs.Headers.{messageHeaderAt, genericHeaderAt}
 use Rattle.netlink.specs.Attributes.{partOf}
 use Rattle.netlink.specs.Walk.{absent, walked, slotNumber}
-use Rattle.netlink.specs.declared.headers.MessageHeader.{MessageHeader}
-use Rattle.netlink.specs.declared.headers.MessageHeaderRead.{MessageHeaderRead}
-use Rattle.netlink.specs.declared.headers.MessageHeaderRead.the-variants as M
-use Rattle.netlink.specs.declared.headers.GenericHeader.{GenericHeader}
-use Rattle.netlink.specs.declared.headers.GenericHeaderRead.{GenericHeaderRead}
-use Rattle.netlink.specs.declared.headers.GenericHeaderRead.the-variants as G
+use Rattle.netlink_headers.specs.declared.headers.MessageHeader.{MessageHeader}
+use Rattle.netlink_headers.specs.declared.headers.MessageHeaderRead.{MessageHeaderRead}
+use Rattle.netlink_headers.specs.declared.headers.MessageHeaderRead.the-variants as M
+use Rattle.netlink_headers.specs.declared.headers.GenericHeader.{GenericHeader}
+use Rattle.netlink_headers.specs.declared.headers.GenericHeaderRead.{GenericHeaderRead}
+use Rattle.netlink_headers.specs.declared.headers.GenericHeaderRead.the-variants as G
 use Rattle.netlink.specs.declared.policy.Fault.{Fault}
 use Rattle.netlink.specs.declared.policy.Rule.{Rule}
 use Rattle.netlink.specs.declared.policy.Rule.the-variants as R
@@ -26,14 +25,14 @@ use Rattle.netlink.specs.declared.walk.Slot.{Slot}
 use Rattle.netlink.specs.declared.walk.Stop.{Stop}
 use Rattle.netlink.specs.declared.walk.Stop.the-variants.{Whole, At}
 use Rattle.netlink.specs.declared.walk.Walked.{Walked}
-use Rattle.netlink.proofs.headers.Laws.{message-fits}
+use Rattle.netlink_headers.proofs.headers.Laws.{message-fits}
 use Rattle.netlink_write.specs.Page.{Wrote}
 use Rattle.netlink_write.specs.Headers.{messageHeaderBytes, genericHeaderBytes}
 use Rattle.netlink_write.specs.Attributes.{numbered}
-use Rattle.netlink_write.specs.Error.{errorMessage}
-use Rattle.netlink_write.specs.declared.error.Detail.{Detail}
-use Rattle.netlink_write.specs.declared.error.Detail.the-variants.{Nothing, Offset, MissTop, MissIn}
-use Rattle.echo.specs.Echo.{policy, onStop, numberReading, nestReading, topReading, onGeneric, requestReading, reply, onAsked, answerBytes, onHeader, answered}
+use Rattle.netlink_error.specs.Error.{errorMessage}
+use Rattle.netlink_error.specs.declared.Detail.{Detail}
+use Rattle.netlink_error.specs.declared.Detail.the-variants.{Nothing, Offset, MissTop, MissIn}
+use Rattle.echo.specs.Echo.{policy, onStop, numberReading, nestReading, topReading, onGeneric, requestReading, reply, answerBytes, answered}
 use Rattle.echo.specs.declared.Asked.{Asked}
 use Rattle.echo.specs.declared.Asked.the-variants.{Number, Refused}
 

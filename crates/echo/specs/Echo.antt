@@ -4,15 +4,14 @@ use mathlib.Core.List.{List, [], _∷_, _++_}
 use mathlib.Core.Bool.{cond, not}
 use lib.ListN.{getD}
 use lib.Dec.{eqb, ltb}
-use Rattle.netlink.specs.Headers.{messageHeaderAt, genericHeaderAt}
+use Rattle.netlink_headers.specs.Headers.{messageHeaderAt, genericHeaderAt}
 use Rattle.netlink.specs.Attributes.{partOf}
 use Rattle.netlink.specs.Walk.{absent, walked, slotNumber}
-use Rattle.netlink.specs.declared.headers.MessageHeader.{MessageHeader}
-use Rattle.netlink.specs.declared.headers.MessageHeaderRead.{MessageHeaderRead}
-use Rattle.netlink.specs.declared.headers.MessageHeaderRead.the-variants as M
-use Rattle.netlink.specs.declared.headers.GenericHeader.{GenericHeader}
-use Rattle.netlink.specs.declared.headers.GenericHeaderRead.{GenericHeaderRead}
-use Rattle.netlink.specs.declared.headers.GenericHeaderRead.the-variants as G
+use Rattle.netlink_headers.specs.declared.headers.MessageHeader.{MessageHeader}
+use Rattle.netlink_headers.specs.declared.headers.MessageHeaderRead.{MessageHeaderRead}
+use Rattle.netlink_headers.specs.declared.headers.MessageHeaderRead.the-variants as M
+use Rattle.netlink_headers.specs.declared.headers.GenericHeaderRead.{GenericHeaderRead}
+use Rattle.netlink_headers.specs.declared.headers.GenericHeaderRead.the-variants as G
 use Rattle.netlink.specs.declared.policy.Rule.{Rule}
 use Rattle.netlink.specs.declared.policy.Rule.the-variants as R
 use Rattle.netlink.specs.declared.walk.Slot.{Slot}
@@ -20,9 +19,8 @@ use Rattle.netlink.specs.declared.walk.Stop.{Stop}
 use Rattle.netlink.specs.declared.walk.Stop.the-variants.{Whole, At}
 use Rattle.netlink_write.specs.Headers.{messageHeaderBytes, genericHeaderBytes}
 use Rattle.netlink_write.specs.Attributes.{numbered}
-use Rattle.netlink_write.specs.Error.{errorMessage}
-use Rattle.netlink_write.specs.declared.error.Detail.{Detail}
-use Rattle.netlink_write.specs.declared.error.Detail.the-variants.{Nothing, Offset, MissTop, MissIn}
+use Rattle.netlink_error.specs.Error.{errorMessage}
+use Rattle.netlink_error.specs.declared.Detail.the-variants.{Nothing, Offset, MissTop, MissIn}
 use Rattle.echo.specs.declared.Asked.{Asked}
 use Rattle.echo.specs.declared.Asked.the-variants.{Number, Refused}
 

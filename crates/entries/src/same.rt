@@ -1,28 +1,18 @@
 // Whether two entries are the same.
-use crate::byte_at;
+use numbers::four;
+use numbers::u32_at;
 ghost use mathlib.Core.Path.{_≡_};
 ghost use Prim.Native.Nat.{_+_, _/_, _≤_, _<_};
 ghost use lib.Dec.{eqb};
 ghost use lib.ListN.{length};
-ghost use Rattle.basics.specs.Numbers.{u32At, u64At};
+ghost use Rattle.basics.specs.Numbers.{u64At};
 ghost use Rattle.entries.specs.Entry.{entryAt, same};
 
-// A byte as a number of 64 bits.
-fn wide(b: u8) -> u64
-    ensures { λ r. ⌜ (r ≡ b) × (r < 256) ⌝ }
+// Four bytes as a number of 64 bits.
+fn wide(x: u32) -> u64
+    ensures { λ r. ⌜ (r ≡ x) × (r < 4294967296) ⌝ }
 {
-    b as u64
-}
-
-// The number in the four bytes from `at` on.
-fn four(list: &[u8], at: usize) -> u64
-    requires { ⌜ at + 4 ≤ length (now list) ⌝ }
-    ensures { λ r. ⌜ (r ≡ u32At (now (list .entry)) at) × (r < 4294967296) ⌝ }
-{
-    wide(list[at])
-        + wide(list[at + 1]) * 256
-        + wide(list[at + 2]) * 65536
-        + wide(list[at + 3]) * 16777216
+    x as u64
 }
 
 // The number in the eight bytes from `at` on.
@@ -30,21 +20,7 @@ pub fn eight(list: &[u8], at: usize) -> u64
     requires { ⌜ at + 8 ≤ length (now list) ⌝ }
     ensures { λ r. ⌜ r ≡ u64At (now (list .entry)) at ⌝ }
 {
-    four(list, at) + four(list, at + 4) * 4294967296
-}
-
-// The number in the four bytes from `at` on, of which some may lie past the end.
-fn four_or_less(s: &[u8], at: usize) -> u64
-    requires { ⌜ at < 256 ⌝ }
-    ensures { λ r. ⌜ (r ≡ u32At (now (s .entry)) at) × (r < 4294967296) ⌝ }
-{
-    if at + 4 <= s.len() {
-        return four(s, at);
-    }
-    wide(byte_at(s, at))
-        + wide(byte_at(s, at + 1)) * 256
-        + wide(byte_at(s, at + 2)) * 65536
-        + wide(byte_at(s, at + 3)) * 16777216
+    wide(four(list, at)) + wide(four(list, at + 4)) * 4294967296
 }
 
 // The number in the eight bytes from `at` on, of which some or all may lie past the end.
@@ -56,7 +32,7 @@ pub fn eight_or_less(s: &[u8], at: usize) -> u64
         return 0;
     }
     if s.len() < at + 8 {
-        return four_or_less(s, at) + four_or_less(s, at + 4) * 4294967296;
+        return wide(u32_at(s, at)) + wide(u32_at(s, at + 4)) * 4294967296;
     }
     eight(s, at)
 }

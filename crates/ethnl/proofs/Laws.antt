@@ -1,8 +1,8 @@
 -- The laws of the exported functions.
-use Prim.Native.Nat.{ℕ, _*_, _/_, _%_, _≤_, _<_}
+use Prim.Native.Nat.{ℕ, _*_, _/_, _%_, _≤_}
 use mathlib.Core.Path.{_≡_, refl, sym, ap, _∙_}
-use mathlib.Core.List.{List, []}
-use mathlib.Core.Bool.{Bool, true, false, _&&_, cond, not}
+use mathlib.Core.List.{List}
+use mathlib.Core.Bool.{Bool, true, false, not}
 use lib.ListN.{length}
 use lib.Dec.{eqb, leb}
 use native.Mathlib.Omega.{arith}
@@ -14,10 +14,10 @@ use Rattle.bits.specs.Bytes.{wordsIn, bytesOf}
 use Rattle.bits.proofs.WordBytes.{length-wordsIn, length-bytesOf}
 use Rattle.normal.specs.Normal as N
 use Rattle.normal.specs.declared.Normal.{Normal}
-use Rattle.handler.specs.Answer.{Speech, Outcome, Said, Did, kindNumber, refusalNumber, returned}
+use Rattle.response.specs.Answer.{Outcome, Did, kindNumber, refusalNumber}
 use Rattle.handler.specs.Call.{outcome}
-use Rattle.handler.specs.declared.answer.Answer.{Answer}
-use Rattle.ethnl.specs.Exported.{Normalise, ByteOutcome, asBytes, wordsOutcome, boxBroken, broken, areWords, bytesOutcome, After, Handle}
+use Rattle.response.specs.declared.Answer.{Answer}
+use Rattle.ethnl.specs.Exported.{Normalise, ByteOutcome, wordsOutcome, boxBroken, areWords, bytesOutcome, After, Handle}
 
 pub normalise-told : (o : N.Outcome) (P Q : List ℕ) (x : Normal) → N.Normalised o P Q x → Normalise o P Q (x .written) (x .number)
 normalise-told o P Q x h =

@@ -1,7 +1,7 @@
 -- What the exported functions leave behind their pointers.
 use Prim.Native.Nat.{ℕ, _%_}
 use mathlib.Core.Path.{_≡_}
-use mathlib.Core.List.{List, []}
+use mathlib.Core.List.{List}
 use mathlib.Core.Bool.{Bool, _&&_, cond}
 use lib.ListN.{length}
 use lib.Dec.{eqb, leb}
@@ -9,10 +9,10 @@ use Rattle.basics.specs.Put.{put}
 use Rattle.bits.specs.Bytes.{wordsIn, bytesOf}
 use Rattle.refusal.specs.declared.Refusal.the-variants.{Box}
 use Rattle.normal.specs.Normal as N
-use Rattle.handler.specs.Answer.{Speech, Outcome, Said, kindNumber, refusalNumber, quiet, leaves}
+use Rattle.response.specs.Answer.{Speech, Outcome, Said, kindNumber, refusalNumber, quiet}
 use Rattle.handler.specs.Call.{outcome}
-use Rattle.handler.specs.declared.answer.Kind.the-variants.{Refused}
-use Rattle.handler.specs.declared.answer.Answer.{Answer}
+use Rattle.response.specs.declared.Kind.the-variants.{Refused}
+use Rattle.response.specs.declared.Answer.{Answer}
 
 -- ethnl_normalise: the number, the count of bytes written, and those bytes at the front of the page
 pub record Normalise (o : N.Outcome) (before after : List ℕ) (written r : ℕ) : Type 0 where

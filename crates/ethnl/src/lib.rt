@@ -4,9 +4,9 @@ ghost use Prim.Native.Nat.{_/_, _%_};
 ghost use lib.ListN.{length};
 ghost use Rattle.normal.specs.Normal.{normalised};
 ghost use Rattle.ethnl.specs.Exported.{Normalise, Handle, After, boxBroken, areWords, bytesOutcome, wordsOutcome};
-use handler::answer::Answer;
-use handler::answer::Kind;
 use refusal::Refusal;
+use response::Answer;
+use response::Kind;
 
 // The most bytes that settings can have: 64 ports, two sets of 512 bits each.
 pub const SETTINGS: usize = 8192;

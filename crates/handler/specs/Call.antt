@@ -4,21 +4,21 @@ use mathlib.Core.List.{List}
 use mathlib.Core.Bool.{cond, not}
 use lib.ListN.{length}
 use lib.Dec.{eqb, ltb}
-use Rattle.netlink.specs.Messages.{messageAt}
+use Rattle.netlink_headers.specs.Messages.{messageAt}
 use Rattle.netlink.specs.Attributes.{partOf}
-use Rattle.netlink.specs.declared.headers.MessageHeader.{MessageHeader}
-use Rattle.netlink.specs.declared.messages.MessageRead.{MessageRead}
-use Rattle.netlink.specs.declared.messages.MessageRead.the-variants.{Message, Misstated, Cut, AtEnd, Outside}
+use Rattle.netlink_headers.specs.declared.headers.MessageHeader.{MessageHeader}
+use Rattle.netlink_headers.specs.declared.messages.MessageRead.{MessageRead}
+use Rattle.netlink_headers.specs.declared.messages.MessageRead.the-variants.{Message, Misstated, Cut, AtEnd, Outside}
 use Rattle.refusal.specs.declared.Refusal.{Refusal}
 use Rattle.refusal.specs.declared.Refusal.the-variants as R
 use Rattle.boxes.specs.Box.{boxRight}
-use Rattle.request.specs.Admission.{admitted}
-use Rattle.request.specs.declared.commands.Command.{Command}
-use Rattle.request.specs.declared.admission.Admission.{Admission}
-use Rattle.request.specs.declared.admission.Admission.the-variants as A
-use Rattle.handler.specs.Answer.{Outcome, quiet, refusal, leaves}
+use Rattle.admission.specs.Admission.{admitted}
+use Rattle.admission.specs.declared.commands.Command.{Command}
+use Rattle.admission.specs.declared.Admission.{Admission}
+use Rattle.admission.specs.declared.Admission.the-variants as A
+use Rattle.response.specs.Answer.{Outcome, quiet, refusal, leaves}
 use Rattle.handler.specs.Obey.{obeyed}
-use Rattle.handler.specs.declared.answer.Kind.the-variants.{End, Skipped, Refused}
+use Rattle.response.specs.declared.Kind.the-variants.{End, Skipped, Refused}
 
 -- skipped, 5 to 9, or the command obeyed
 abbrev pub onAdmission : Admission → List ℕ → ℕ → List ℕ → (Command → Outcome) → Outcome

@@ -1,8 +1,8 @@
 -- Document 01, "What a call says back", from the levels on: an admitted command judged level by level, then carried out.
 use Prim.Native.Nat.{ℕ, _≤_, _<_, _%_}
 use mathlib.Core.Path.{_≡_}
-use mathlib.Core.List.{List}
-use mathlib.Core.Bool.{true, cond}
+use mathlib.Core.List.{List, _++_}
+use mathlib.Core.Bool.{Bool, true, cond}
 use lib.ListN.{length, take, drop}
 use lib.Dec.{eqb}
 use Rattle.basics.specs.Numbers.{u32At}
@@ -11,24 +11,25 @@ use Rattle.bits.specs.Set.{has, wordsOf, wordsFor, noneFrom}
 use Rattle.bits.specs.Change.{merge}
 use Rattle.entries.specs.Entry.{count}
 use Rattle.netlink.specs.Attributes.{partOf}
-use Rattle.netlink.specs.declared.headers.MessageHeader.{MessageHeader}
+use Rattle.netlink_headers.specs.declared.headers.MessageHeader.{MessageHeader}
 use Rattle.netlink.specs.declared.walk.Slot.{Slot}
-use Rattle.bitset.specs.Bitset.{Reading, effect}
-use Rattle.bitset.specs.Bitset.Reading.{refused, accepted}
+use Rattle.bitset_form.specs.Bitset.{Reading, effect}
+use Rattle.bitset_form.specs.Bitset.Reading.{refused, accepted}
 use Rattle.bitset.specs.Judge.{bitsetReading}
 use Rattle.roll.specs.Record.{portCount}
 use Rattle.roll.specs.Name.{nameAt}
 use Rattle.boxes.specs.Layout.{ofSet, words, place, setAt}
 use Rattle.boxes.specs.declared.layout.Set.{Set}
+use Rattle.reply.specs.Message.{headingOf, replyBytes}
 use Rattle.reply.specs.declared.message.Heading.{Heading}
 use Rattle.request.specs.Top.{topOf}
 use Rattle.request.specs.Aim.{aimOf}
-use Rattle.request.specs.declared.commands.Command.{Command}
+use Rattle.admission.specs.declared.commands.Command.{Command}
 use Rattle.request.specs.declared.top.Top.{Top}
 use Rattle.request.specs.declared.top.Top.the-variants as T
 use Rattle.request.specs.declared.aim.Aim.{Aim}
 use Rattle.request.specs.declared.aim.Aim.the-variants as A
-use Rattle.handler.specs.Answer.{Outcome, speech, done, refusal, ackBytes, shown, leaves}
+use Rattle.response.specs.Answer.{Outcome, speech, done, refusal, ackBytes, leaves}
 
 -- what a right box says of its parts
 pub record Fit (roll debug flags ws : List ℕ) : Type 0 where
@@ -38,10 +39,6 @@ pub record Fit (roll debug flags ws : List ℕ) : Type 0 where
   pub exact : length ws ≡ words (portCount roll) (wordsFor (count debug)) (wordsFor (count flags))
   pub clear : (position : ℕ) → position < portCount roll → (set : Set)
       → noneFrom (setAt ws (portCount roll) (wordsFor (count debug)) (wordsFor (count flags)) position set) (ofSet set (count debug) (count flags)) ≡ true
-
--- "Message type the family, flags 0; sequence and port id echoed"
-abbrev pub heading : MessageHeader → Command → Heading
-heading h command = record { family = h .kind; flags = 0; sequence = h .sequence; port = h .port; command = command .reply }
 
 -- where a set of the port at a position begins, and how many words it has
 unfoldable pub placeIn : List ℕ → List ℕ → List ℕ → ℕ → Set → ℕ
@@ -62,10 +59,14 @@ changedBy roll debug flags ws position set mask value =
     (merge (has (take (widthIn debug flags set) mask)) (has (take (widthIn debug flags set) value))
     (has (take (widthIn debug flags set) (drop (placeIn roll debug flags position set) ws)))))
 
+-- "A done GET writes the reply, then the ACK if asked"
+unfoldable pub shown : List ℕ → MessageHeader → Heading → ℕ → List ℕ → Bool → List ℕ → List ℕ → ℕ → List ℕ
+shown message h heading index name compact names words n = replyBytes heading index name compact names words n ++ ackBytes message h
+
 -- a done GET: the reply about the port whose index and name stand at these places of the roll, compact with header flag 1
 unfoldable pub gotten : List ℕ → List ℕ → List ℕ → List ℕ → List ℕ → MessageHeader → Command → ℕ → ℕ → ℕ → ℕ → List ℕ
 gotten roll debug flags ws m h command position index name asked =
-    shown m h (heading h command) (u32At roll index) (nameAt roll name) (eqb (asked % 2) 1) (ofSet (command .set) debug flags)
+    shown m h (headingOf h (command .reply)) (u32At roll index) (nameAt roll name) (eqb (asked % 2) 1) (ofSet (command .set) debug flags)
     (setOf roll debug flags ws position (command .set)) (ofSet (command .set) (count debug) (count flags))
 
 -- "Settings change only in a done SET, and there only in the named set of the named port": that set becomes what the bitset makes of it

@@ -2,22 +2,22 @@
 ghost use mathlib.Core.Path.{_≡_};
 ghost use Prim.Native.Nat.{_≤_};
 ghost use lib.ListN.{length};
-ghost use Rattle.handler.specs.Answer.{Did};
+ghost use Rattle.response.specs.Answer.{Did};
 ghost use Rattle.handler.specs.Obey.{Fit, obeyed};
 ghost use Rattle.handler.specs.Call.{onAdmission, positionOutcome, outcome};
-use crate::answer::Answer;
-use crate::answer::Kind;
 use crate::obey::Asked;
 use crate::obey::obey;
-use crate::speak::refuse;
+use admission::Admission;
+use admission::admit;
 use boxes::rule::box_right;
 use netlink::attributes::payload;
-use netlink::headers::MessageHeader;
-use netlink::messages::MessageRead;
-use netlink::messages::read_message;
+use netlink_headers::headers::MessageHeader;
+use netlink_headers::messages::MessageRead;
+use netlink_headers::messages::read_message;
 use refusal::Refusal;
-use request::admission::Admission;
-use request::admission::admit;
+use response::Answer;
+use response::Kind;
+use response::refuse;
 
 // The least page and the longest datagram.
 pub const PAGE: usize = 32768;

@@ -4,30 +4,30 @@ ghost use Prim.Native.Nat.{_≤_, _<_};
 ghost use lib.ListN.{length};
 ghost use Rattle.roll.specs.Record.{portCount};
 ghost use Rattle.boxes.specs.Layout.{ofSet};
-ghost use Rattle.handler.specs.Answer.{Said, Did, speech, done, ackBytes};
-ghost use Rattle.handler.specs.Obey.{Fit, heading, placeIn, widthIn, setOf, changedBy, gotten, setOutcome, deed, aimed, obeyed};
+ghost use Rattle.response.specs.Answer.{Said, Did, speech, done, ackBytes};
+ghost use Rattle.handler.specs.Obey.{Fit, placeIn, widthIn, setOf, changedBy, gotten, setOutcome, deed, aimed, obeyed};
 ghost use Rattle.entries.specs.Entry.{count};
-use crate::answer::Answer;
-use crate::change::apply;
-use crate::speak::acknowledge;
-use crate::speak::refuse;
-use crate::speak::show;
-use bitset::form::Judgement;
+use crate::show::show;
+use admission::commands::Command;
 use bitset::judge::judge;
+use bitset_form::Judgement;
+use boxes::change::apply;
 use boxes::layout::Set;
 use boxes::layout::number_of;
 use boxes::layout::place;
 use boxes::settings::set_at;
 use netlink::attributes::payload;
-use netlink::headers::MessageHeader;
-use netlink::numbers::u32_at;
 use netlink::walk::Slot;
-use reply::message::Heading;
+use netlink_headers::headers::MessageHeader;
+use numbers::u32_at;
+use reply::message::heading_of;
 use request::aim::Aim;
 use request::aim::read_aim;
-use request::commands::Command;
 use request::top::Top;
 use request::top::read_top;
+use response::Answer;
+use response::acknowledge;
+use response::refuse;
 
 // An admitted request: its header, the position after it, and its command.
 pub struct Asked {
@@ -55,18 +55,6 @@ fn names_of<'a>(set: Set, debug: &'a [u8], flags: &'a [u8]) -> &'a [u8]
         Set::Flags => {
             return flags;
         }
-    }
-}
-
-fn heading(h: MessageHeader, command: Command) -> Heading
-    ensures { λ r. ⌜ r ≡ heading h command ⌝ }
-{
-    Heading {
-        family: h.kind,
-        flags: 0,
-        sequence: h.sequence,
-        port: h.port,
-        command: command.reply,
     }
 }
 
@@ -136,7 +124,7 @@ fn get<'a>(
         m,
         h,
         asked.next,
-        heading(h, command),
+        heading_of(h, command.reply),
         u32_at(roll, port.index),
         roll::name::name_at(roll, port.name),
         port.flags % 2 == 1,

@@ -5,7 +5,7 @@ use mathlib.Core.Bool.{cond, _||_, _&&_}
 use lib.ListN.{length, take, drop}
 use lib.Dec.{leb, ltb}
 use Rattle.basics.specs.Numbers.{u16At}
-use Rattle.netlink.specs.Lengths.{roundUp4}
+use Rattle.netlink_headers.specs.Lengths.{roundUp4}
 use Rattle.netlink.specs.declared.attributes.AttributeRead.{AttributeRead}
 use Rattle.netlink.specs.declared.attributes.AttributeRead.the-variants.{Attribute, Broken, End}
 

@@ -2,10 +2,10 @@
 ghost use mathlib.Core.Path.{_≡_};
 ghost use Prim.Native.Nat.{_-_};
 ghost use Rattle.netlink.specs.Attributes.{attributeAt, partOf};
-use crate::headers::AttributeHeader;
-use crate::headers::AttributeHeaderRead;
-use crate::lengths::Stated;
-use crate::lengths::capped;
+use netlink_headers::headers::AttributeHeader;
+use netlink_headers::headers::AttributeHeaderRead;
+use netlink_headers::lengths::Stated;
+use netlink_headers::lengths::capped;
 
 pub enum AttributeRead {
     // Its type, the two bits above the type (2 for a nest, 1 for network byte order), where the payload starts and ends, and the place of

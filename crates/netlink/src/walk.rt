@@ -4,12 +4,12 @@ ghost use Rattle.netlink.specs.Walk.{absentAll, found, stopped, walked, 
 use crate::attributes::AttributeRead;
 use crate::attributes::payload;
 use crate::attributes::read_attribute;
-use crate::numbers::u32_at;
 use crate::policy::Fault;
 use crate::policy::Rule;
 use crate::policy::Verdict;
 use crate::policy::judge;
 use crate::policy::rule_of;
+use numbers::u32_at;
 
 // Where the payload of the last attribute of a type stands.
 pub struct Slot {

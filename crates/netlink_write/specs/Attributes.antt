@@ -6,7 +6,7 @@ use mathlib.Core.Bool.{cond}
 use lib.ListN.{length, take, replicate}
 use lib.Dec.{eqb}
 use Rattle.basics.specs.Numbers.{le32}
-use Rattle.netlink.specs.Lengths.{roundUp4}
+use Rattle.netlink_headers.specs.Lengths.{roundUp4}
 use Rattle.netlink.specs.Policy.{nulAt}
 use Rattle.netlink_write.specs.Headers.{attributeHeaderBytes}
 

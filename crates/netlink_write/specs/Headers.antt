@@ -2,8 +2,8 @@
 use Prim.Native.Nat.{ℕ}
 use mathlib.Core.List.{List, _∷_, _++_}
 use Rattle.basics.specs.Numbers.{le16, le32}
-use Rattle.netlink.specs.declared.headers.MessageHeader.{MessageHeader}
-use Rattle.netlink.specs.declared.headers.GenericHeader.{GenericHeader}
+use Rattle.netlink_headers.specs.declared.headers.MessageHeader.{MessageHeader}
+use Rattle.netlink_headers.specs.declared.headers.GenericHeader.{GenericHeader}
 
 -- 16 bytes: length u32, type u16, flags u16, sequence u32, port id u32
 unfoldable pub messageHeaderBytes : MessageHeader → List ℕ

@@ -1,4 +1,3 @@
 pub mod Page
 pub mod Headers
 pub mod Attributes
-pub mod Error

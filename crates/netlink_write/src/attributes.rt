@@ -12,9 +12,9 @@ ghost use Rattle.netlink_write.specs.Attributes.{attr, filled, nameBytes
 use crate::bytes::put_filled;
 use crate::headers::put_attribute_header;
 use crate::numbers::put_low;
-use netlink::headers::AttributeHeader;
-use netlink::lengths::Stated;
 use netlink::policy::nul_at;
+use netlink_headers::headers::AttributeHeader;
+use netlink_headers::lengths::Stated;
 
 // The type bit that marks a nest.
 const NEST: u16 = 0x8000;

@@ -4,7 +4,7 @@ ghost use Prim.Native.Nat.{_≤_, _-_};
 ghost use mathlib.Core.List.{_++_};
 ghost use lib.ListN.{length, take, replicate};
 ghost use Rattle.basics.specs.Put.{put};
-use netlink::lengths::capped;
+use netlink_headers::lengths::capped;
 
 // A copy of the bytes.
 pub fn put_bytes(page: &mut [u8], bytes: &[u8])

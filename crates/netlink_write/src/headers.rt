@@ -6,8 +6,8 @@ ghost use Rattle.basics.specs.Put.{put};
 ghost use Rattle.netlink_write.specs.Headers.{messageHeaderBytes, genericHeaderBytes, attributeHeaderBytes};
 use crate::numbers::put_u16;
 use crate::numbers::put_u32;
-use netlink::headers::GenericHeader;
-use netlink::headers::MessageHeader;
+use netlink_headers::headers::GenericHeader;
+use netlink_headers::headers::MessageHeader;
 
 // 16 bytes.
 pub fn put_message_header(page: &mut [u8], h: MessageHeader)

@@ -1,6 +1,5 @@
 // Writing netlink. Each function writes at the front of the page that it is lent, and leaves the rest of the page as it was.
 pub mod attributes;
 pub mod bytes;
-pub mod error;
 pub mod headers;
 pub mod numbers;

@@ -8,14 +8,12 @@
 use Prim.Native.Nat.{ℕ, _+_, _*_, _≤_, _<_}
 use mathlib.Core.Path.{_≡_, refl, sym, ap, ap₂, _∙_}
 use mathlib.Core.List.{List, [], _++_}
-use mathlib.Core.Bool.{Bool, true, false, _&&_, not, cond}
+use mathlib.Core.Bool.{Bool, true, false, _&&_}
 use lib.ListN.{length, length-append}
 use lib.Dec.{ltb}
 use native.Mathlib.Omega.{arith}
 use borrow.Author.Tests.{le-ltb, ltb-false}
 use Rattle.basics.specs.Numbers.{le32}
-use Rattle.basics.specs.Put.{put}
-use Rattle.basics.proofs.Put.{put-nil}
 use Rattle.bits.specs.Set.{has, wordsOf, wordsFor}
 use Rattle.bits.specs.Bytes.{bytesOf}
 use Rattle.bits.specs.Change.{Same, Below, merge}
@@ -28,14 +26,13 @@ use Rattle.netlink_write.specs.Attributes.{attr}
 use Rattle.netlink_write.proofs.attributes.Laws.{length-attr}
 use Rattle.refusal.specs.Refusal.{numberOf}
 use Rattle.refusal.specs.declared.Refusal.{Refusal}
-use Rattle.bitset.specs.Bitset.{Bitset, Reading, effect, maskOf, valueOf}
-use Rattle.bitset.specs.Bitset.Bitset.{masked}
-use Rattle.bitset.specs.Bitset.Reading.{refused, accepted}
+use Rattle.bitset_form.specs.Bitset.{Bitset, effect, maskOf, valueOf}
+use Rattle.bitset_form.specs.Bitset.Bitset.{masked}
+use Rattle.bitset_form.specs.Bitset.Reading.{refused, accepted}
 use Rattle.bitset.specs.Judge.{bitsetReading}
 use Rattle.bitset_write.specs.Form.{partsBytes}
-use Rattle.normal.specs.Normal.{normalForm, Outcome, refusedBy, onReading, normalised, shown, Normalised}
+use Rattle.normal.specs.Normal.{normalForm, normalised}
 use Rattle.normal.specs.Claims.{Fits, ActAlike}
-use Rattle.normal.specs.declared.Normal.{Normal}
 use Rattle.normal.proofs.Effect.{form-keeps-effect, mask-below, value-within}
 use Rattle.normal.proofs.Fits.{accepted-fits}
 use Rattle.normal.proofs.Forms.{normal-bytes, alike-forms, forms-alike}

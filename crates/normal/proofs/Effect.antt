@@ -1,20 +1,14 @@
 -- Demand 3: the form has the bitset's effect, two bitsets act alike exactly when their normal forms are equal bytes. Over every N and every list.
-use Prim.Native.Nat.{ℕ, suc, _+_, _*_, _/_, _≤_, _<_}
-use mathlib.Core.Path.{_≡_, refl, sym, ap, _∙_}
-use mathlib.Core.List.{List, [], _∷_, _++_}
-use mathlib.Core.Bool.{Bool, true, false, _&&_, _||_, not, cond}
-use mathlib.Core.Logic.{⊎-elim}
-use lib.ListN.{length, take}
-use lib.Dec.{ltb, leb, eqb}
+use Prim.Native.Nat.{ℕ}
+use mathlib.Core.Path.{_≡_, refl, sym, _∙_}
+use mathlib.Core.Bool.{Bool, true, false, _&&_, cond}
+use lib.Dec.{ltb}
 use native.Mathlib.Omega.{arith}
-use borrow.Author.Tests.{lt-ltb, le-ltb, le-leb, ltb-true, ltb-false}
-use Rattle.basics.specs.Scan.{any}
-use Rattle.basics.proofs.Order.{lt-or-ge}
-use Rattle.bits.specs.Set.{wordsOf, wordsFor, allBelow, somePast, past}
-use Rattle.bits.specs.Change.{merge, Same, Below, Within, Alike, Listed, applied, listMask, listValue}
-use Rattle.bits.proofs.Change.{alike-equal, equal-alike, alike-words, words-alike, list-is-merge, list-within}
-use Rattle.bitset.specs.Bitset.{Bitset, effect, maskOf, valueOf}
-use Rattle.bitset.specs.Bitset.Bitset.{masked, whole, listed, only}
+use borrow.Author.Tests.{le-ltb, ltb-false}
+use Rattle.bits.specs.Change.{merge, Same, Below, Within, Alike, listMask}
+use Rattle.bits.proofs.Change.{list-is-merge, list-within}
+use Rattle.bitset_form.specs.Bitset.{Bitset, effect, maskOf, valueOf}
+use Rattle.bitset_form.specs.Bitset.Bitset.{masked, whole, listed, only}
 use Rattle.normal.specs.Claims.{Fits, ActAlike}
 
 -- the form has the bitset's effect on every starting set

@@ -1,16 +1,13 @@
 -- An accepted bitset speaks of no bit at or past N.
-use Prim.Native.Nat.{ℕ, zero, suc, _-_, _/_, _≤_, _<_}
-use mathlib.Core.Path.{_≡_, refl, sym, ap, _∙_}
+use Prim.Native.Nat.{ℕ, _-_, _/_, _<_}
+use mathlib.Core.Path.{_≡_, refl}
 use mathlib.Core.List.{List, [], _∷_}
-use mathlib.Core.Bool.{Bool, true, false, _&&_, _||_, not, cond}
-use mathlib.Core.Logic.{⊎-elim}
+use mathlib.Core.Bool.{Bool, true, false, _&&_, not, cond}
 use lib.ListN.{length, getD}
 use lib.Dec.{ltb, leb, eqb}
 use native.Mathlib.Omega.{arith}
-use borrow.Author.Tests.{lt-ltb, le-ltb, le-leb, lt-leb, leb-false, ltb-true, ne-eqb}
-use Rattle.basics.specs.Scan.{any}
+use borrow.Author.Tests.{le-leb, leb-false, ltb-true, ne-eqb}
 use Rattle.basics.proofs.Scan.{any-not}
-use Rattle.basics.proofs.Truth.{clash, false-of}
 use Rattle.bits.specs.Set.{has, somePast, past, wordsFor}
 use Rattle.bits.specs.Bytes.{wordsIn}
 use Rattle.bits.specs.Change.{Below, Listed, listMask}
@@ -26,22 +23,23 @@ use Rattle.netlink.specs.declared.walk.Stop.{Stop}
 use Rattle.netlink.specs.declared.walk.Stop.the-variants as S
 use Rattle.refusal.specs.declared.Refusal.{Refusal}
 use Rattle.refusal.specs.declared.Refusal.the-variants.{MissingIn, ShortBitmap, PastLength, UnknownBit}
-use Rattle.bitset.specs.Policies.{bitsetPolicy, bitPolicy, bitsPolicy}
-use Rattle.bitset.specs.Bitset.{Bitset, Reading}
-use Rattle.bitset.specs.Bitset.Bitset.{masked, whole, listed, only}
-use Rattle.bitset.specs.Bitset.Reading.{refused, accepted}
-use Rattle.bitset.specs.Compact.{bitmap, wholeReading, maskedReading, compactReading}
-use Rattle.bitset.specs.BitList.{byIndex, onLookup, byName, identified, onIdentity, onLooked, onStop, partsReading, bitReading, ListReading, onBit, bitsReading, asBitset, listReading}
+use Rattle.bitset_form.specs.Policies.{bitsetPolicy, bitPolicy, bitsPolicy}
+use Rattle.bitset_form.specs.Bitset.{Bitset, Reading}
+use Rattle.bitset_form.specs.Bitset.Bitset.{masked, whole, listed, only}
+use Rattle.bitset_form.specs.Bitset.Reading.{refused, accepted}
+use Rattle.bitset_compact.specs.Compact.{bitmap, wholeReading, maskedReading, compactReading}
+use Rattle.bitset_bit.specs.Bit.{byIndex, onLookup, byName, identified, onLooked, partsReading, bitReading}
+use Rattle.refusal.specs.Refusal.{onStop}
+use Rattle.bitset.specs.BitList.{ListReading, onBit, bitsReading, asBitset, listReading}
 use Rattle.bitset.specs.BitList.ListReading.{stopped, entries}
 use Rattle.bitset.specs.Judge as J
 use Rattle.bitset.specs.declared.judge.Mixing.{Mixing}
 use Rattle.bitset.specs.declared.judge.Mixing.the-variants.{Pure, At}
-use Rattle.bitset.specs.declared.list.Identity.{Identity}
-use Rattle.bitset.specs.declared.list.Identity.the-variants.{Number, Neither}
-use Rattle.bitset.specs.declared.list.Looked.{Looked}
-use Rattle.bitset.specs.declared.list.Looked.the-variants as L
-use Rattle.bitset.specs.declared.list.BitRead.{BitRead}
-use Rattle.bitset.specs.declared.list.BitRead.the-variants as B
+use Rattle.bitset_bit.specs.declared.Identity.the-variants.{Number, Neither}
+use Rattle.bitset_bit.specs.declared.Looked.{Looked}
+use Rattle.bitset_bit.specs.declared.Looked.the-variants as L
+use Rattle.bitset_bit.specs.declared.BitRead.{BitRead}
+use Rattle.bitset_bit.specs.declared.BitRead.the-variants as B
 use Rattle.normal.specs.Claims.{Fits}
 
 -- a refusal is no acceptance

@@ -1,6 +1,6 @@
 -- Demand 3, "forms decide": two bitsets change every starting set alike exactly when their normal forms are equal bytes.
-use Prim.Native.Nat.{ℕ, _+_, _*_, _/_, _%_, _≤_, _<_}
-use mathlib.Core.Path.{_≡_, refl, sym, ap, ap₂, _∙_}
+use Prim.Native.Nat.{ℕ, _+_, _*_, _%_, _≤_}
+use mathlib.Core.Path.{_≡_, sym, ap, ap₂, _∙_}
 use mathlib.Core.List.{List, _++_}
 use mathlib.Core.Bool.{Bool}
 use lib.ListN.{length, take, drop}
@@ -16,7 +16,7 @@ use Rattle.netlink_write.specs.Headers.{attributeHeaderBytes}
 use Rattle.netlink_write.specs.Attributes.{attr}
 use Rattle.netlink_write.proofs.headers.Laws.{length-attribute-header}
 use Rattle.netlink_write.proofs.attributes.Laws.{length-attr, attr-whole}
-use Rattle.bitset.specs.Bitset.{Bitset, effect, maskOf, valueOf}
+use Rattle.bitset_form.specs.Bitset.{Bitset, maskOf, valueOf}
 use Rattle.bitset_write.specs.Form.{partsBytes, formBytes}
 use Rattle.normal.specs.Normal.{normalForm}
 use Rattle.normal.specs.Claims.{Fits, ActAlike}

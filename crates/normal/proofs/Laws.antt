@@ -1,27 +1,24 @@
 -- Laws of the normaliser: one for each return.
 use Prim.Native.Nat.{ℕ, _≤_, _<_}
-use mathlib.Core.Path.{_≡_, refl, sym, ap, _∙_}
-use mathlib.Core.List.{List, []}
-use mathlib.Core.Bool.{Bool, true, false, cond, not}
+use mathlib.Core.Path.{_≡_, sym, ap, _∙_}
+use mathlib.Core.List.{List}
+use mathlib.Core.Bool.{Bool, true, false, not}
 use lib.ListN.{length}
-use lib.Dec.{ltb}
 use native.Mathlib.Omega.{arith}
-use borrow.Author.Tests.{lt-ltb, le-ltb, not-true, not-false}
+use borrow.Author.Tests.{lt-ltb, le-ltb, not-false}
 use Rattle.basics.specs.Put.{put}
 use Rattle.basics.proofs.Put.{put-nil}
 use Rattle.bits.specs.Set.{wordsOf}
 use Rattle.entries.specs.Entry.{count}
 use Rattle.names.specs.Rule.{namesRight}
-use Rattle.names.proofs.Rules.{Right, right-means}
-use Rattle.refusal.specs.Refusal.{numberOf}
+use Rattle.names.proofs.Rules.{right-means}
 use Rattle.refusal.specs.declared.Refusal.{Refusal}
 use Rattle.refusal.specs.declared.Refusal.the-variants.{Box, Page, Datagram}
-use Rattle.bitset.specs.Bitset.{Bitset, Reading, maskOf, valueOf, judgedAs}
-use Rattle.bitset.specs.Bitset.Reading.{refused, accepted}
+use Rattle.bitset_form.specs.Bitset.{Reading, maskOf, valueOf, judgedAs}
+use Rattle.bitset_form.specs.Bitset.Reading.{refused, accepted}
 use Rattle.bitset.specs.Judge.{bitsetReading}
-use Rattle.bitset.specs.declared.form.Judgement.{Judgement}
-use Rattle.bitset.specs.declared.form.Judgement.the-variants.{Accepted, Refused}
-use Rattle.bitset.specs.declared.form.Judged.{Judged}
+use Rattle.bitset_form.specs.declared.Judgement.the-variants.{Accepted, Refused}
+use Rattle.bitset_form.specs.declared.Judged.{Judged}
 use Rattle.netlink_write.specs.Page.{Wrote}
 use Rattle.bitset_write.specs.Form.{formBytes}
 use Rattle.normal.specs.Normal.{normalForm, Outcome, refusedBy, onReading, normalised, shown, Normalised}

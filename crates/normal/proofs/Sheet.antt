@@ -14,8 +14,9 @@ use Rattle.netlink.specs.Policy as P
 use Rattle.netlink.specs.Walk.{firstFault, lastOf, walked, slotNumber}
 use Rattle.netlink_write.specs.Headers.{attributeHeaderBytes}
 use Rattle.netlink_write.specs.Attributes.{padding, attr, nest}
-use Rattle.bitset.specs.Bitset.{effect, maskOf, valueOf}
-use Rattle.bitset.specs.Compact.{wholeReading, maskedReading, compactReading}
+use Rattle.bitset_form.specs.Bitset.{effect, maskOf, valueOf}
+use Rattle.bitset_compact.specs.Compact.{wholeReading, maskedReading, compactReading}
+use Rattle.bitset_bit.specs.Bit as BT
 use Rattle.bitset.specs.BitList as BL
 use Rattle.bitset.specs.Judge.{mixedAt, partsReading, bitsetReading}
 use Rattle.bitset_write.specs.Form.{partsBytes, formBytes}
@@ -23,5 +24,5 @@ use Rattle.normal.specs.Normal.{normalForm}
 use Rattle.normal.specs.Sheet.{sheetNames, sheet, holds}
 
 pub sheet-holds : holds sheet ≡ true
-unfolding sheetNames sheet u16At u32At all any first number has wordsOf somePast past table wordsIn bytesOf applied listMask listValue entryAt sameByte same isName noName lookup attributeAt partOf attributesUpTo attributes P.ruleOf P.nulAt P.isName P.plain P.nested P.judged firstFault lastOf walked slotNumber attributeHeaderBytes padding attr nest effect maskOf valueOf wholeReading maskedReading compactReading BL.byIndex BL.byName BL.identified BL.partsReading BL.bitReading BL.bitsReading BL.listReading mixedAt partsReading bitsetReading partsBytes formBytes normalForm
+unfolding sheetNames sheet u16At u32At all any first number has wordsOf somePast past table wordsIn bytesOf applied listMask listValue entryAt sameByte same isName noName lookup attributeAt partOf attributesUpTo attributes P.ruleOf P.nulAt P.isName P.plain P.nested P.judged firstFault lastOf walked slotNumber attributeHeaderBytes padding attr nest effect maskOf valueOf wholeReading maskedReading compactReading BT.byIndex BT.byName BT.identified BT.partsReading BT.bitReading BL.bitsReading BL.listReading mixedAt partsReading bitsetReading partsBytes formBytes normalForm
 sheet-holds = refl

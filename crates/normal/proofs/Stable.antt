@@ -1,50 +1,39 @@
 -- Demand 3, "form is stable": a normal form is itself accepted, acts as the original, and its normal form is the same bytes.
-use Prim.Native.Nat.{ℕ, _+_, _*_, _-_, _/_, _%_, _≤_, _<_}
+use Prim.Native.Nat.{ℕ, _+_, _*_, _/_, _≤_, _<_}
 use mathlib.Core.Path.{_≡_, refl, sym, ap, ap₂, _∙_}
 use mathlib.Core.List.{List, [], _∷_, _++_, append-assoc, append-nil}
-use mathlib.Core.Bool.{Bool, true, false, _&&_, not, cond, and-false}
-use mathlib.Core.Logic.{⊎-elim}
-use lib.ListN.{length, getD, length-append}
-use lib.Dec.{ltb, leb, eqb}
+use mathlib.Core.Bool.{Bool, true, false, _&&_, not}
+use lib.ListN.{length, length-append}
+use lib.Dec.{ltb}
 use native.Mathlib.Omega.{arith}
-use borrow.Author.Tests.{lt-ltb, le-ltb, lt-leb, ltb-true, ltb-false}
-use Rattle.basics.specs.Numbers.{le32, u32At}
+use borrow.Author.Tests.{le-ltb, lt-leb}
+use Rattle.basics.specs.Numbers.{le32}
 use Rattle.basics.specs.Scan.{any}
 use Rattle.basics.proofs.Numbers.{u32-le32}
-use Rattle.basics.proofs.Order.{lt-or-ge}
 use Rattle.basics.proofs.Scan.{any-none}
 use Rattle.basics.proofs.Truth.{cond-false}
 use Rattle.bits.specs.Set.{has, wordsOf, wordsFor, somePast, past}
-use Rattle.bits.specs.Bytes.{wordsIn, bytesOf}
-use Rattle.bits.specs.Change.{Below, Within}
-use Rattle.bits.proofs.Words.{length-wordsOf, has-wordsOf, wordsOf-cong}
+use Rattle.bits.specs.Bytes.{bytesOf}
+use Rattle.bits.proofs.Words.{length-wordsOf}
 use Rattle.bits.proofs.WordBytes.{Small, small-wordsOf, length-bytesOf, words-of-bytes}
 use Rattle.entries.specs.Entry.{count}
 use Rattle.names.specs.Rule.{namesRight}
 use Rattle.names.proofs.Rules.{right-means}
-use Rattle.netlink.specs.Attributes.{Attributes, attributes, partOf}
+use Rattle.netlink.specs.Attributes.{attributes, partOf}
 use Rattle.netlink.specs.Attributes.Attributes.{done, attribute}
 use Rattle.netlink.specs.Policy.{ruleOf, plain, judged}
-use Rattle.netlink.specs.Walk.{found, absent, onVerdict, firstFault, lastOf, eachType, onStop, walked, slotNumber}
+use Rattle.netlink.specs.Walk.{found, absent, firstFault, lastOf, walked, slotNumber}
 use Rattle.netlink.specs.declared.walk.Slot.{Slot}
 use Rattle.netlink.specs.declared.walk.Stop.the-variants as S
-use Rattle.netlink.specs.declared.walk.Walked.{Walked}
 use Rattle.netlink_write.specs.Attributes.{attr}
 use Rattle.netlink_write.proofs.attributes.Laws.{length-attr}
 use Rattle.netlink_write.proofs.ReadBack.{payload-back, attributes-back, attributes-end}
-use Rattle.bitset.specs.Policies.{bitsetPolicy}
-use Rattle.bitset.specs.Bitset.{Bitset, Reading, effect, maskOf, valueOf}
-use Rattle.bitset.specs.Bitset.Bitset.{masked}
-use Rattle.bitset.specs.Bitset.Reading.{refused, accepted}
-use Rattle.bitset.specs.Compact.{bitmap, maskedReading, compactReading}
-use Rattle.bitset.specs.Judge.{mixedAt, onMixing, partsReading, bitsetReading}
-use Rattle.bitset.specs.BitList as BL
+use Rattle.bitset_form.specs.Policies.{bitsetPolicy}
+use Rattle.bitset_form.specs.Bitset.Bitset.{masked}
+use Rattle.bitset_form.specs.Bitset.Reading.{accepted}
+use Rattle.bitset_compact.specs.Compact.{maskedReading, compactReading}
+use Rattle.bitset.specs.Judge.{mixedAt, partsReading, bitsetReading}
 use Rattle.bitset_write.specs.Form.{partsBytes}
-use Rattle.normal.specs.Normal.{normalForm}
-use Rattle.normal.specs.Claims.{Fits, ActAlike}
-use Rattle.normal.proofs.Effect.{mask-below, value-within}
-use Rattle.normal.proofs.Fits.{accepted-fits}
-use Rattle.normal.proofs.Forms.{normal-bytes, forms-alike}
 
 -- The three attributes of a form, read back.
 module _ (n w : ℕ) (vs ms : List ℕ) (lv : length vs ≡ w) (lm : length ms ≡ w) (few : w ≤ 16) where

@@ -3,8 +3,8 @@ use Prim.Native.Nat.{ℕ}
 use mathlib.Core.Bool.{Bool, _&&_}
 use lib.Dec.{ltb}
 use Rattle.bits.specs.Change.{Same, Below, listMask}
-use Rattle.bitset.specs.Bitset.{Bitset, effect}
-use Rattle.bitset.specs.Bitset.Bitset.{masked, whole, listed, only}
+use Rattle.bitset_form.specs.Bitset.{Bitset, effect}
+use Rattle.bitset_form.specs.Bitset.Bitset.{masked, whole, listed, only}
 
 -- no bit that the bitset speaks of is at or past N: so much 20 and 21 leave of an accepted bitset
 abbrev pub Fits : ℕ → Bitset → Type 0

@@ -2,7 +2,7 @@
 use Prim.Native.Nat.{ℕ}
 use mathlib.Core.Path.{_≡_}
 use mathlib.Core.List.{List, []}
-use mathlib.Core.Bool.{Bool, cond, not}
+use mathlib.Core.Bool.{cond, not}
 use lib.ListN.{length}
 use lib.Dec.{ltb}
 use Rattle.basics.specs.Put.{put}
@@ -12,8 +12,8 @@ use Rattle.names.specs.Rule.{namesRight}
 use Rattle.refusal.specs.Refusal.{numberOf}
 use Rattle.refusal.specs.declared.Refusal.{Refusal}
 use Rattle.refusal.specs.declared.Refusal.the-variants.{Box, Page, Datagram}
-use Rattle.bitset.specs.Bitset.{Bitset, Reading, maskOf, valueOf}
-use Rattle.bitset.specs.Bitset.Reading.{refused, accepted}
+use Rattle.bitset_form.specs.Bitset.{Bitset, Reading, maskOf, valueOf}
+use Rattle.bitset_form.specs.Bitset.Reading.{refused, accepted}
 use Rattle.bitset.specs.Judge.{bitsetReading}
 use Rattle.bitset_write.specs.Form.{formBytes}
 use Rattle.normal.specs.declared.Normal.{Normal}

@@ -8,12 +8,11 @@ use Rattle.basics.specs.Numbers.{le32}
 use Rattle.bits.specs.Set.{has, wordsOf}
 use Rattle.bits.specs.Bytes.{bytesOf}
 use Rattle.netlink_write.specs.Attributes.{attr, nest}
-use Rattle.netlink_write.specs.declared.error.Detail.{Detail}
-use Rattle.netlink_write.specs.declared.error.Detail.the-variants.{Nothing, Offset, MissTop, MissIn}
+use Rattle.netlink_error.specs.declared.Detail.{Detail}
+use Rattle.netlink_error.specs.declared.Detail.the-variants.{Nothing, Offset, MissTop, MissIn}
 use Rattle.refusal.specs.Refusal.{numberOf, detailOf}
-use Rattle.refusal.specs.declared.Refusal.{Refusal}
-use Rattle.bitset.specs.Bitset.{Bitset, Reading, effect}
-use Rattle.bitset.specs.Bitset.Reading.{refused, accepted}
+use Rattle.bitset_form.specs.Bitset.{Bitset, Reading, effect}
+use Rattle.bitset_form.specs.Bitset.Reading.{refused, accepted}
 use Rattle.bitset.specs.Judge.{bitsetReading}
 use Rattle.bitset_write.specs.Form.{partsBytes}
 use Rattle.normal.specs.Normal.{normalForm}

@@ -2,8 +2,8 @@
 ghost use mathlib.Core.Path.{_≡_};
 ghost use lib.ListN.{length};
 ghost use Rattle.normal.specs.Normal.{normalised, Normalised, shown, refusedBy};
-use bitset::form::Judgement;
 use bitset::judge::judge;
+use bitset_form::Judgement;
 use bitset_write::form::put_form;
 use refusal::Refusal;
 

@@ -2,8 +2,10 @@
 use Prim.Native.Nat.{ℕ}
 use Rattle.netlink.specs.declared.policy.Fault.{Fault}
 use Rattle.netlink.specs.declared.policy.Fault.the-variants as F
-use Rattle.netlink_write.specs.declared.error.Detail.{Detail}
-use Rattle.netlink_write.specs.declared.error.Detail.the-variants.{Nothing, Offset, MissTop, MissIn}
+use Rattle.netlink.specs.declared.walk.Stop.{Stop}
+use Rattle.netlink.specs.declared.walk.Stop.the-variants as S
+use Rattle.netlink_error.specs.declared.Detail.{Detail}
+use Rattle.netlink_error.specs.declared.Detail.the-variants.{Nothing, Offset, MissTop, MissIn}
 use Rattle.refusal.specs.declared.Refusal.{Refusal}
 use Rattle.refusal.specs.declared.Row.{Row}
 use Rattle.refusal.specs.declared.Refusal.the-variants.{Box, Page, Datagram, Length, Family, Short, Command, Dump, Permission, Broken, Unlisted, Payload, MissingTop, MissingIn, NoPort, HeaderFlag, UnknownPort, OtherName, Mixed, ShortBitmap, PastLength, UnknownBit, NoBit}
@@ -55,3 +57,8 @@ abbrev pub ofFault : Fault → ℕ → Refusal
 ofFault F.Length at = Broken at
 ofFault F.Unknown at = Unlisted at
 ofFault F.Payload at = Payload at
+
+-- the refusal of a walk's fault, or what comes after a parent that is right as a whole
+abbrev pub onStop : {A : Type 0} → Stop → (Refusal → A) → A → A
+onStop S.Whole f rest = rest
+onStop (S.At fault at) f rest = f (ofFault fault at)

@@ -2,7 +2,7 @@
 ghost use mathlib.Core.Path.{_≡_};
 ghost use Rattle.refusal.specs.Refusal.{rowOf, numberOf, ofFault};
 use netlink::policy::Fault;
-use netlink_write::error::Detail;
+use netlink_error::Detail;
 
 // A place is the offset of an attribute's header from the start of the request.
 pub enum Refusal {

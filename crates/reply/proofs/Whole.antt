@@ -7,7 +7,7 @@ use Rattle.bits.specs.Bytes.{bytesOf}
 use Rattle.netlink.specs.Policy.{nulAt}
 use Rattle.netlink_write.specs.Headers.{messageHeaderBytes, genericHeaderBytes, attributeHeaderBytes}
 use Rattle.netlink_write.specs.Attributes.{padding, attr, nest, nameBytes, named, identity, numbered}
-use Rattle.reply.specs.Set.{openingBytes, compactBytes, contentsBytes, setBytes}
+use Rattle.bitset_reply.specs.Set.{openingBytes, compactBytes, contentsBytes, setBytes}
 use Rattle.reply.specs.Message.{headersBytes, attributesBytes, replyBytes}
 use Rattle.reply.specs.declared.message.Heading.{Heading}
 

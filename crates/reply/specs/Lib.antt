@@ -1,4 +1,1 @@
-pub mod List
-pub mod Set
 pub mod Message
-pub mod Claims

@@ -3,14 +3,18 @@ use Prim.Native.Nat.{ℕ, _+_}
 use mathlib.Core.Bool.{Bool}
 use mathlib.Core.List.{List, _++_}
 use lib.ListN.{length}
-use Rattle.netlink.specs.declared.headers.MessageHeader.{MessageHeader}
-use Rattle.netlink.specs.declared.headers.GenericHeader.{GenericHeader}
+use Rattle.netlink_headers.specs.declared.headers.MessageHeader.{MessageHeader}
+use Rattle.netlink_headers.specs.declared.headers.GenericHeader.{GenericHeader}
 use Rattle.netlink_write.specs.Headers.{messageHeaderBytes, genericHeaderBytes}
 use Rattle.netlink_write.specs.Attributes.{numbered}
-use Rattle.reply.specs.Set.{setBytes}
+use Rattle.bitset_reply.specs.Set.{setBytes}
 use Rattle.reply.specs.declared.message.Heading.{Heading}
 
--- "Message type the family ..; sequence and port id echoed"
+-- "Message type the family, flags 0; sequence and port id echoed": what the headers of the reply to a request say
+abbrev pub headingOf : MessageHeader → ℕ → Heading
+headingOf h command = record { family = h .kind; flags = 0; sequence = h .sequence; port = h .port; command = command }
+
+-- the message header of a length
 abbrev pub messageHeader : Heading → ℕ → MessageHeader
 messageHeader h total = record { length = total; kind = h .family; flags = h .flags; sequence = h .sequence; port = h .port }
 

@@ -5,10 +5,10 @@ ghost use lib.ListN.{length};
 ghost use Rattle.basics.specs.Put.{put};
 ghost use Rattle.bits.specs.Set.{wordsFor};
 ghost use Rattle.netlink_write.specs.Page.{Wrote};
-ghost use Rattle.reply.specs.Message.{headersBytes, attributesBytes, replyBytes};
-use crate::set::put_set;
-use netlink::headers::GenericHeader;
-use netlink::headers::MessageHeader;
+ghost use Rattle.reply.specs.Message.{headingOf, headersBytes, attributesBytes, replyBytes};
+use bitset_reply::set::put_set;
+use netlink_headers::headers::GenericHeader;
+use netlink_headers::headers::MessageHeader;
 use netlink_write::attributes::put_numbered;
 use netlink_write::headers::put_generic_header;
 use netlink_write::headers::put_message_header;
@@ -26,6 +26,19 @@ pub struct Heading {
     pub sequence: u32,
     pub port: u32,
     pub command: u8,
+}
+
+// What the reply to a request says there.
+pub fn heading_of(h: MessageHeader, command: u8) -> Heading
+    ensures { λ r. ⌜ r ≡ headingOf h command ⌝ }
+{
+    Heading {
+        family: h.kind,
+        flags: 0,
+        sequence: h.sequence,
+        port: h.port,
+        command,
+    }
 }
 
 // The two headers of a message whose attributes already stand behind them.

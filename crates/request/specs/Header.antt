@@ -9,7 +9,7 @@ use Rattle.netlink.specs.Walk.{absent, walked, slotNumber}
 use Rattle.netlink.specs.declared.walk.Slot.{Slot}
 use Rattle.refusal.specs.declared.Refusal.the-variants.{NoPort, HeaderFlag}
 use Rattle.request.specs.Policies.{headerPolicy}
-use Rattle.request.specs.Top.{onStop}
+use Rattle.refusal.specs.Refusal.{onStop}
 use Rattle.request.specs.declared.header.Header.{Header}
 use Rattle.request.specs.declared.header.Header.the-variants.{Parts, Refused}
 

@@ -6,19 +6,11 @@ use mathlib.Core.Bool.{Bool, _&&_, not, cond}
 use lib.ListN.{getD}
 use Rattle.netlink.specs.Walk.{absent, walked}
 use Rattle.netlink.specs.declared.walk.Slot.{Slot}
-use Rattle.netlink.specs.declared.walk.Stop.{Stop}
-use Rattle.netlink.specs.declared.walk.Stop.the-variants as S
-use Rattle.refusal.specs.Refusal.{ofFault}
-use Rattle.refusal.specs.declared.Refusal.{Refusal}
+use Rattle.refusal.specs.Refusal.{onStop}
 use Rattle.refusal.specs.declared.Refusal.the-variants.{MissingTop}
 use Rattle.request.specs.Policies.{topPolicy}
 use Rattle.request.specs.declared.top.Top.{Top}
 use Rattle.request.specs.declared.top.Top.the-variants.{Nests, Refused}
-
--- the refusal of a walk's fault, or what comes after a parent that is right as a whole
-abbrev pub onStop : {A : Type 0} → Stop → (Refusal → A) → A → A
-onStop S.Whole f rest = rest
-onStop (S.At fault at) f rest = f (ofFault fault at)
 
 -- the header (1) missing, then the bitset (2) in a SET
 unfoldable pub nestsOf : Bool → Slot → Slot → Top

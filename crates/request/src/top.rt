@@ -4,11 +4,11 @@ ghost use Rattle.request.specs.Top.{nestsOf, topOf};
 use crate::policies::BITSET;
 use crate::policies::HEADER;
 use crate::policies::top_policy;
-use netlink::headers::GenericHeader;
-use netlink::headers::MessageHeader;
 use netlink::walk::Slot;
 use netlink::walk::Stop;
 use netlink::walk::walk;
+use netlink_headers::headers::GenericHeader;
+use netlink_headers::headers::MessageHeader;
 use refusal::Refusal;
 use refusal::of_fault;
 

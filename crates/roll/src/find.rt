@@ -4,7 +4,7 @@ ghost use Rattle.roll.specs.Find.{byIndex, byName};
 use crate::name::same_name;
 use crate::record::RecordRead;
 use crate::record::read_record;
-use netlink::numbers::u32_at;
+use numbers::u32_at;
 
 pub enum Found {
     // Which port it is, from 0; where its index and its name start in the roll, and where its record ends.

@@ -9,7 +9,7 @@ use crate::name::name_at;
 use crate::record::RecordRead;
 use crate::record::read_record;
 use crate::rule::others;
-use netlink::numbers::u32_at;
+use numbers::u32_at;
 
 fn wide(x: u32) -> u64
     ensures { λ r. ⌜ (r ≡ x) × (r < 4294967296) ⌝ }

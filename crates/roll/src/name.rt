@@ -3,8 +3,8 @@ ghost use mathlib.Core.Path.{_≡_};
 ghost use Prim.Native.Nat.{_<_};
 ghost use Rattle.roll.specs.Name.{nameAt, sameName, isNameAt, nulThenNul, nameRight};
 use netlink::attributes::payload;
-use netlink::numbers::byte_at;
-use netlink::numbers::u32_at;
+use numbers::byte_at;
+use numbers::u32_at;
 
 // The 16 bytes at a place of the roll; none where they do not lie in it.
 pub fn name_at(roll: &[u8], at: usize) -> &[u8]

@@ -9,7 +9,7 @@ use crate::name::name_right;
 use crate::name::same_name;
 use crate::record::RecordRead;
 use crate::record::read_record;
-use netlink::numbers::u32_at;
+use numbers::u32_at;
 
 // So many ports are compared pair by pair sooner than by marks.
 const FEW: usize = 8;

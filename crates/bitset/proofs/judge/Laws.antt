@@ -16,12 +16,13 @@ use Rattle.netlink.specs.declared.walk.Walked.{Walked}
 use Rattle.refusal.specs.Refusal.{ofFault}
 use Rattle.refusal.specs.declared.Refusal.{Refusal}
 use Rattle.refusal.specs.declared.Refusal.the-variants.{Mixed}
-use Rattle.bitset.specs.Policies.{bitsetPolicy}
-use Rattle.bitset.specs.Bitset.{Reading, refusedAs, judgedAs}
-use Rattle.bitset.specs.Bitset.Reading.{refused}
-use Rattle.bitset.specs.Compact.{compactReading}
-use Rattle.bitset.specs.BitList.{onStop, listReading}
-use Rattle.bitset.specs.declared.form.Judged.{Judged}
+use Rattle.bitset_form.specs.Policies.{bitsetPolicy}
+use Rattle.bitset_form.specs.Bitset.{Reading, refusedAs, judgedAs}
+use Rattle.bitset_form.specs.Bitset.Reading.{refused}
+use Rattle.bitset_compact.specs.Compact.{compactReading}
+use Rattle.refusal.specs.Refusal.{onStop}
+use Rattle.bitset.specs.BitList.{listReading}
+use Rattle.bitset_form.specs.declared.Judged.{Judged}
 use Rattle.bitset.specs.Judge.{mixedAt, onMixing, partsReading, bitsetReading}
 use Rattle.bitset.specs.declared.judge.Mixing.{Mixing}
 use Rattle.bitset.specs.declared.judge.Mixing.the-variants.{Pure, At}

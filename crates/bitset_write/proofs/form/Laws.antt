@@ -1,11 +1,10 @@
 -- The laws of writing a form: three writers in a row.
-use Prim.Native.Nat.{ℕ, _+_, _*_, _-_, _/_, _≤_}
-use mathlib.Core.Path.{_≡_, refl, sym, ap, _∙_}
+use Prim.Native.Nat.{ℕ, _+_, _*_, _-_, _≤_}
+use mathlib.Core.Path.{_≡_}
 use mathlib.Core.List.{List, _++_, append-assoc}
 use lib.ListN.{length, take, drop, length-take}
 use native.Mathlib.Omega.{arith}
 use borrow.Rule.Slice.PartMut.{putMid}
-use Rattle.basics.specs.Put.{put}
 use Rattle.basics.specs.Numbers.{le32}
 use Rattle.bits.specs.Set.{wordsFor}
 use Rattle.bits.specs.Bytes.{bytesOf}

@@ -11,30 +11,30 @@ use borrow.Author.Tests.{lt-ltb, le-ltb, ltb-false, not-false}
 use Rattle.basics.specs.Numbers.{u32At}
 use Rattle.basics.proofs.Put.{put-nil}
 use Rattle.entries.specs.Entry.{count}
-use Rattle.netlink.specs.Lengths.{roundUp4}
-use Rattle.netlink.specs.Headers.{messageHeader}
-use Rattle.netlink.specs.Messages.{messageAt}
+use Rattle.netlink_headers.specs.Lengths.{roundUp4}
+use Rattle.netlink_headers.specs.Headers.{messageHeader}
+use Rattle.netlink_headers.specs.Messages.{messageAt}
 use Rattle.netlink.proofs.attributes.Laws.{part-in}
 use Rattle.netlink.specs.Attributes.{partOf}
-use Rattle.netlink.specs.declared.headers.MessageHeader.{MessageHeader}
-use Rattle.netlink.specs.declared.messages.MessageRead.{MessageRead}
-use Rattle.netlink.specs.declared.messages.MessageRead.the-variants.{Message, Misstated, Cut, AtEnd, Outside}
+use Rattle.netlink_headers.specs.declared.headers.MessageHeader.{MessageHeader}
+use Rattle.netlink_headers.specs.declared.messages.MessageRead.{MessageRead}
+use Rattle.netlink_headers.specs.declared.messages.MessageRead.the-variants.{Message, Misstated, Cut, AtEnd, Outside}
 use Rattle.refusal.specs.declared.Refusal.{Refusal}
 use Rattle.refusal.specs.declared.Refusal.the-variants as R
 use Rattle.roll.specs.Record.{portCount}
 use Rattle.boxes.specs.Box.{boxRight}
 use Rattle.boxes.proofs.rule.Meaning.{box-means}
 use Rattle.boxes.proofs.settings.Laws as S
-use Rattle.request.specs.Admission.{admitted}
-use Rattle.request.specs.declared.commands.Command.{Command}
-use Rattle.request.specs.declared.admission.Admission.{Admission}
-use Rattle.request.specs.declared.admission.Admission.the-variants as A
-use Rattle.handler.specs.Answer.{Outcome, quiet, refusal, leaves, Said, Did}
+use Rattle.admission.specs.Admission.{admitted}
+use Rattle.admission.specs.declared.commands.Command.{Command}
+use Rattle.admission.specs.declared.Admission.{Admission}
+use Rattle.admission.specs.declared.Admission.the-variants as A
+use Rattle.response.specs.Answer.{Outcome, quiet, refusal, leaves, Said, Did}
 use Rattle.handler.specs.Obey.{Fit, obeyed}
 use Rattle.handler.specs.Call.{onAdmission, messageOutcome, onMessage, positionOutcome, outcome}
-use Rattle.handler.specs.declared.answer.Kind.{Kind}
-use Rattle.handler.specs.declared.answer.Kind.the-variants.{End, Skipped, Refused}
-use Rattle.handler.specs.declared.answer.Answer.{Answer}
+use Rattle.response.specs.declared.Kind.{Kind}
+use Rattle.response.specs.declared.Kind.the-variants.{End, Skipped, Refused}
+use Rattle.response.specs.declared.Answer.{Answer}
 use Rattle.handler.proofs.obey.Laws.{leaves-did}
 
 -- nothing is written, and the settings stay

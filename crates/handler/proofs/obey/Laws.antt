@@ -15,14 +15,14 @@ use Rattle.bits.proofs.Words.{has-wordsOf, wordsOf-cong, take-wordsOf}
 use Rattle.bits.proofs.Cut.{none-below}
 use Rattle.entries.specs.Entry.{count}
 use Rattle.netlink.specs.Attributes.{partOf}
-use Rattle.netlink.specs.declared.headers.MessageHeader.{MessageHeader}
+use Rattle.netlink_headers.specs.declared.headers.MessageHeader.{MessageHeader}
 use Rattle.netlink.specs.declared.walk.Slot.{Slot}
 use Rattle.refusal.specs.declared.Refusal.{Refusal}
-use Rattle.bitset.specs.Bitset.{Bitset, Reading, effect, maskOf, valueOf, judgedAs}
-use Rattle.bitset.specs.Bitset.Reading.{refused, accepted}
+use Rattle.bitset_form.specs.Bitset.{Bitset, Reading, effect, maskOf, valueOf, judgedAs}
+use Rattle.bitset_form.specs.Bitset.Reading.{refused, accepted}
 use Rattle.bitset.specs.Judge.{bitsetReading}
-use Rattle.bitset.specs.declared.form.Judgement.the-variants as J
-use Rattle.bitset.specs.declared.form.Judged.{Judged}
+use Rattle.bitset_form.specs.declared.Judgement.the-variants as J
+use Rattle.bitset_form.specs.declared.Judged.{Judged}
 use Rattle.normal.proofs.Effect.{form-keeps-effect}
 use Rattle.normal.proofs.Fits.{accepted-fits}
 use Rattle.roll.specs.Record.{portCount}
@@ -34,15 +34,17 @@ use Rattle.boxes.proofs.layout.Laws.{of-map, place-inside, set-length}
 use Rattle.reply.specs.declared.message.Heading.{Heading}
 use Rattle.request.specs.Top.{topOf}
 use Rattle.request.specs.Aim.{aimOf}
-use Rattle.request.specs.declared.commands.Command.{Command}
+use Rattle.admission.specs.declared.commands.Command.{Command}
 use Rattle.request.specs.declared.top.Top.{Top}
 use Rattle.request.specs.declared.top.Top.the-variants as T
 use Rattle.request.specs.declared.aim.Aim.{Aim}
 use Rattle.request.specs.declared.aim.Aim.the-variants as A
 use Rattle.request.proofs.aim.Place.{aimed-in}
-use Rattle.handler.specs.Answer.{Speech, speech, done, refusal, ackBytes, shown, leaves, Said, Did}
-use Rattle.handler.specs.Obey.{Fit, heading, placeIn, widthIn, setOf, changedBy, gotten, onReading, setOutcome, deed, aimed, obeyed}
-use Rattle.handler.specs.declared.answer.Answer.{Answer}
+use Rattle.response.specs.Answer.{Speech, speech, done, refusal, ackBytes, leaves, Said, Did}
+use Rattle.handler.specs.Obey.{shown}
+use Rattle.handler.specs.Obey.{Fit, placeIn, widthIn, setOf, changedBy, gotten, onReading, setOutcome, deed, aimed, obeyed}
+use Rattle.reply.specs.Message.{headingOf}
+use Rattle.response.specs.declared.Answer.{Answer}
 
 -- what is the set's
 of-few : (set : Set) (a b n : ℕ) → a ≤ n → b ≤ n → ofSet set a b ≤ n
@@ -110,7 +112,7 @@ show-name roll nm at e = rw e (go (leb at (at + 16) && leb (at + 16) (length rol
     go false = omega arith
 
 pub get-said : (roll debug flags ws m : List ℕ) (h : MessageHeader) (next : ℕ) (command : Command) (position index name asked : ℕ) (hd : Heading) (x : ℕ)
-    (nm ns held : List ℕ) (nd nf n : ℕ) (P Q : List ℕ) (r : Answer) → hd ≡ heading h command
+    (nm ns held : List ℕ) (nd nf n : ℕ) (P Q : List ℕ) (r : Answer) → hd ≡ headingOf h (command .reply)
     → x ≡ u32At roll index → nm ≡ nameAt roll name → ns ≡ ofSet (command .set) debug flags → nd ≡ count debug → nf ≡ count flags
     → held ≡ setOf roll debug flags ws position (command .set) → n ≡ ofSet (command .set) nd nf
     → Said (speech done next (shown m h hd x nm (eqb (asked % 2) 1) ns held n)) P Q r

@@ -1,11 +1,11 @@
 -- Law "apart": the attributes of a parent lie inside it, in order and without overlap, and each payload is the part where it stands.
-use Prim.Native.Nat.{ℕ, _+_, _-_, _≤_, _<_}
+use Prim.Native.Nat.{ℕ, _+_, _-_, _<_}
 use mathlib.Core.Path.{_≡_, refl, sym, ap, _∙_}
 use mathlib.Core.List.{List}
 use lib.ListN.{length, take, drop}
 use native.Mathlib.Omega.{arith}
 use Rattle.basics.specs.Numbers.{u16At}
-use Rattle.netlink.specs.Attributes.{attributeAt, partOf, Attributes, onRead, attributes}
+use Rattle.netlink.specs.Attributes.{attributeAt, Attributes, onRead, attributes}
 use Rattle.netlink.specs.Attributes.Attributes.{done, broken, attribute}
 use Rattle.netlink.specs.Claims.{Apart}
 use Rattle.netlink.specs.declared.attributes.AttributeRead.{AttributeRead}

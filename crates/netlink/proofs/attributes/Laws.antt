@@ -1,25 +1,24 @@
 -- Laws of the attributes of a parent: one for each return of read_attribute and payload, and the law by which a list of attributes is read
 -- one by one.
 use Prim.Native.Nat.{ℕ, zero, suc, _+_, _-_, _/_, _%_, _≤_, _<_, min}
-use mathlib.Core.Path.{_≡_, refl, sym, ap, _∙_}
+use mathlib.Core.Path.{_≡_, refl, ap}
 use mathlib.Core.List.{List, []}
-use mathlib.Core.Bool.{_||_, _&&_}
 use mathlib.Core.Logic.{⊎-elim}
 use lib.ListN.{length, take, drop}
 use native.Mathlib.Omega.{arith}
 use borrow.Author.Tests.{lt-ltb, le-ltb, le-leb, lt-leb}
 use Rattle.basics.proofs.Order.{lt-or-ge}
 use Rattle.basics.specs.Numbers.{u16At}
-use Rattle.netlink.specs.Lengths.{roundUp4}
-use Rattle.netlink.specs.Headers.{attributeHeader, attributeHeaderAt}
+use Rattle.netlink_headers.specs.Lengths.{roundUp4}
+use Rattle.netlink_headers.specs.Headers.{attributeHeaderAt}
 use Rattle.netlink.specs.Attributes.{attributeAt, partOf, Attributes, onRead, attributesUpTo, attributes}
-use Rattle.netlink.specs.Attributes.Attributes.{done, broken, attribute}
-use Rattle.netlink.specs.declared.headers.AttributeHeader.{AttributeHeader}
-use Rattle.netlink.specs.declared.headers.AttributeHeaderRead.{AttributeHeaderRead}
-use Rattle.netlink.specs.declared.headers.AttributeHeaderRead.the-variants as A
+use Rattle.netlink.specs.Attributes.Attributes.{attribute}
+use Rattle.netlink_headers.specs.declared.headers.AttributeHeader.{AttributeHeader}
+use Rattle.netlink_headers.specs.declared.headers.AttributeHeaderRead.{AttributeHeaderRead}
+use Rattle.netlink_headers.specs.declared.headers.AttributeHeaderRead.the-variants as A
 use Rattle.netlink.specs.declared.attributes.AttributeRead.{AttributeRead}
 use Rattle.netlink.specs.declared.attributes.AttributeRead.the-variants.{Attribute, Broken, End}
-use Rattle.netlink.proofs.headers.Laws.{attribute-cut, attribute-fits, attribute-is}
+use Rattle.netlink_headers.proofs.headers.Laws.{attribute-cut, attribute-fits, attribute-is}
 
 -- by the numbers at the place
 module _ (s : List ℕ) (at : ℕ) where

@@ -1,8 +1,8 @@
 -- Laws of the policy: one for each return of its functions, and for each turn of the search for a NUL.
 use Prim.Native.Nat.{ℕ, zero, suc, _+_, _≤_, _<_}
 use mathlib.Core.Path.{_≡_, refl, sym, ap, _∙_}
-use mathlib.Core.List.{List, [], _∷_}
-use mathlib.Core.Bool.{Bool, true, false, _&&_, _||_}
+use mathlib.Core.List.{List, _∷_}
+use mathlib.Core.Bool.{Bool, true, false, _||_}
 use lib.ListN.{length, getD, drop, drop-of-length-le, List·getD-eq-default}
 use lib.Seq.{drop-cons}
 use lib.Dec.{eqb, leb}
@@ -11,7 +11,7 @@ use native.Mathlib.Omega.{arith}
 use borrow.Author.Tests.{eq-eqb, ne-eqb, eqb-false}
 use Rattle.basics.specs.Scan.{any}
 use Rattle.basics.proofs.Scan.{any-not}
-use Rattle.netlink.specs.Policy.{ruleOf, nulAt, NulFrom, isNul, isName, rightIf, plain, nested, judged}
+use Rattle.netlink.specs.Policy.{ruleOf, nulAt, NulFrom, isNul, isName, plain, nested, judged}
 use Rattle.netlink.specs.declared.policy.Rule.{Rule}
 use Rattle.netlink.specs.declared.policy.Rule.the-variants.{Unlisted, Nest, Number, Flag, Name, Bytes}
 use Rattle.netlink.specs.declared.policy.Fault.the-variants.{Unknown, Payload}

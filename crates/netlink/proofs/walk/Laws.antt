@@ -1,20 +1,20 @@
 -- Laws of the walk: one for each return and each turn of its loop.
-use Prim.Native.Nat.{ℕ, _+_, _-_, _≤_, _<_}
+use Prim.Native.Nat.{ℕ, _-_, _<_}
 use mathlib.Core.Path.{_≡_, refl, sym, ap, _∙_, fun-ext}
 use mathlib.Core.List.{List, [], _∷_}
 use mathlib.Core.Bool.{Bool, true, false, cond}
 use mathlib.Core.Logic.{⊎-elim}
 use lib.ListN.{length, getD, set}
-use lib.Seq.{getD-set-same, getD-set-other, ext-getD}
+use lib.Seq.{getD-set-same, getD-set-other}
 use lib.Dec.{eqb}
 use native.Mathlib.Omega.{arith}
 use borrow.Author.Tests.{eqb-true, eqb-false}
 use Rattle.basics.proofs.Order.{lt-or-ge}
 use Rattle.basics.specs.Numbers.{u32At}
 use Rattle.netlink.specs.Attributes.{attributeAt, partOf, Attributes, onRead, attributes}
-use Rattle.netlink.specs.Attributes.Attributes.{done, broken, attribute}
+use Rattle.netlink.specs.Attributes.Attributes.{attribute}
 use Rattle.netlink.specs.Policy.{ruleOf, judged}
-use Rattle.netlink.specs.Walk.{found, absent, absentAll, onVerdict, firstFault, lastOf, eachType, stopped, onStop, walked, slotNumber}
+use Rattle.netlink.specs.Walk.{found, absent, absentAll, firstFault, lastOf, eachType, stopped, onStop, walked, slotNumber}
 use Rattle.netlink.specs.declared.policy.Rule.{Rule}
 use Rattle.netlink.specs.declared.policy.Rule.the-variants.{Unlisted}
 use Rattle.netlink.specs.declared.policy.Fault.{Fault}
@@ -24,8 +24,7 @@ use Rattle.netlink.specs.declared.policy.Verdict.the-variants.{Right, Wr
 use Rattle.netlink.specs.declared.attributes.AttributeRead.{AttributeRead}
 use Rattle.netlink.specs.declared.attributes.AttributeRead.the-variants.{Attribute, Broken, End}
 use Rattle.netlink.specs.declared.walk.Slot.{Slot}
-use Rattle.netlink.specs.declared.walk.Stop.{Stop}
-use Rattle.netlink.specs.declared.walk.Stop.the-variants.{Whole, At}
+use Rattle.netlink.specs.declared.walk.Stop.the-variants.{Whole}
 use Rattle.netlink.specs.declared.walk.Walked.{Walked}
 use Rattle.netlink.proofs.attributes.Laws.{Bounded, bounded, attributes-step}
 use Rattle.netlink.proofs.policy.Laws.{rule-past}

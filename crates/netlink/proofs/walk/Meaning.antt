@@ -1,10 +1,10 @@
 -- A walk's answer as a statement: it stops at the first fault in order, or is whole and tells for each type the last attribute.
 use Prim.Native.Nat.{ℕ, zero, suc, _-_, _<_}
 use mathlib.Core.Path.{_≡_, refl, sym, ap, _∙_}
-use mathlib.Core.List.{List, _∷_}
+use mathlib.Core.List.{List}
 use mathlib.Core.Bool.{Bool, true, false, cond}
-use mathlib.Core.Logic.{_⊎_, inl, inr, ⊎-elim}
-use lib.ListN.{length, getD}
+use mathlib.Core.Logic.{_⊎_, inl, inr}
+use lib.ListN.{getD}
 use lib.Dec.{eqb}
 use native.Mathlib.Omega.{arith}
 use borrow.Author.Tests.{eqb-true, eqb-false}
@@ -16,13 +16,11 @@ use Rattle.netlink.specs.Claims.{Passed, FaultyHere, None, LastIs}
 use Rattle.netlink.specs.Claims.Passed.{here, next}
 use Rattle.netlink.specs.declared.policy.Rule.{Rule}
 use Rattle.netlink.specs.declared.policy.Fault.{Fault}
-use Rattle.netlink.specs.declared.policy.Fault.the-variants.{Length}
 use Rattle.netlink.specs.declared.policy.Verdict.{Verdict}
 use Rattle.netlink.specs.declared.policy.Verdict.the-variants.{Right, Wrong}
 use Rattle.netlink.specs.declared.walk.Slot.{Slot}
 use Rattle.netlink.specs.declared.walk.Stop.{Stop}
 use Rattle.netlink.specs.declared.walk.Stop.the-variants.{Whole, At}
-use Rattle.netlink.specs.declared.walk.Walked.{Walked}
 
 -- whole: every attribute is right, to the parent's end
 pub whole-passed : (p : List Rule) (s : List ℕ) (xs : Attributes) → firstFault p s xs ≡ Whole → Passed p s xs done

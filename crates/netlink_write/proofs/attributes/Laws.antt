@@ -8,7 +8,7 @@ use borrow.Author.Tests.{eq-eqb, ne-eqb}
 use lib.ListN.{length, take, drop, replicate, length-append, length-replicate}
 use lib.Seq.{length-take-le, take-all}
 use Rattle.basics.specs.Numbers.{le32}
-use Rattle.netlink.specs.Lengths.{roundUp4}
+use Rattle.netlink_headers.specs.Lengths.{roundUp4}
 use Rattle.netlink.specs.Policy.{nulAt}
 use Rattle.basics.specs.Put.{put}
 use Rattle.netlink_write.specs.Page.{Wrote}

@@ -13,7 +13,7 @@ use Rattle.netlink_write.specs.Headers.{messageHeaderBytes, genericHeaderBytes}
 use Rattle.netlink_write.specs.Attributes.{numbered}
 use Rattle.netlink_write.proofs.Page.{wrote-then, then-sized}
 use Rattle.netlink_write.proofs.headers.Laws.{length-message-header, length-generic-header}
-use Rattle.reply.specs.Set.{setBytes}
+use Rattle.bitset_reply.specs.Set.{setBytes}
 use Rattle.reply.specs.Message.{messageHeader, genericHeader, headersBytes, attributesBytes, replyBytes}
 use Rattle.reply.specs.declared.message.Heading.{Heading}
 

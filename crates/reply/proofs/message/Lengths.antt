@@ -12,11 +12,11 @@ use Rattle.names.proofs.Rules.{right-means}
 use Rattle.netlink.specs.Policy.{nulAt}
 use Rattle.netlink_write.specs.Attributes.{numbered}
 use Rattle.netlink_write.proofs.attributes.Laws.{length-nest}
-use Rattle.reply.specs.Set.{contentsBytes, setBytes}
+use Rattle.bitset_reply.specs.Set.{contentsBytes, setBytes}
 use Rattle.reply.specs.Message.{headersBytes, attributesBytes, replyBytes}
 use Rattle.reply.specs.declared.message.Heading.{Heading}
-use Rattle.reply.proofs.list.Lengths.{Short, right-short, identity-whole, identity-most, length-numbered}
-use Rattle.reply.proofs.set.Lengths.{contents-whole, contents-most}
+use Rattle.bitset_reply.proofs.list.Lengths.{Short, right-short, identity-whole, identity-most, length-numbered}
+use Rattle.bitset_reply.proofs.set.Lengths.{contents-whole, contents-most}
 use Rattle.reply.proofs.message.Laws.{length-headers}
 
 module _ (h : Heading) (index : ℕ) (name : List ℕ) (compact : Bool) (names words : List ℕ) (n : ℕ) where

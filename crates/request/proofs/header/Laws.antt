@@ -18,7 +18,7 @@ use Rattle.refusal.specs.Refusal.{ofFault}
 use Rattle.refusal.specs.declared.Refusal.{Refusal}
 use Rattle.refusal.specs.declared.Refusal.the-variants.{NoPort, HeaderFlag}
 use Rattle.request.specs.Policies.{headerPolicy}
-use Rattle.request.specs.Top.{onStop}
+use Rattle.refusal.specs.Refusal.{onStop}
 use Rattle.request.specs.Header.{flagsJudged, partsOf, headerOf}
 use Rattle.request.specs.declared.header.Header.{Header}
 use Rattle.request.specs.declared.header.Header.the-variants.{Parts, Refused}

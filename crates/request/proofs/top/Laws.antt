@@ -16,7 +16,8 @@ use Rattle.refusal.specs.Refusal.{ofFault}
 use Rattle.refusal.specs.declared.Refusal.{Refusal}
 use Rattle.refusal.specs.declared.Refusal.the-variants.{MissingTop}
 use Rattle.request.specs.Policies.{topPolicy}
-use Rattle.request.specs.Top.{onStop, nestsOf, topOf}
+use Rattle.refusal.specs.Refusal.{onStop}
+use Rattle.request.specs.Top.{nestsOf, topOf}
 use Rattle.request.specs.declared.top.Top.{Top}
 use Rattle.request.specs.declared.top.Top.the-variants.{Nests, Refused}
 

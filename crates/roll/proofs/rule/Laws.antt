@@ -8,7 +8,6 @@ use Rattle.basics.specs.Numbers.{u32At}
 use Rattle.basics.proofs.Truth.{both-true}
 use Rattle.roll.specs.declared.record.RecordRead.{RecordRead}
 use Rattle.roll.specs.declared.record.RecordRead.the-variants.{Port, Unknown, Cut, End}
-use Rattle.roll.specs.declared.find.Found.the-variants as F
 use Rattle.roll.specs.Record.{recordAt, onRecord, records, portCount}
 use Rattle.roll.specs.Record.Records.{port}
 use Rattle.roll.specs.Name.{nameAt, isNameAt, nameRight}

@@ -9,14 +9,20 @@ returns c = search (needs, eight-past)
 add-if2 : tie.Need-add-if2
 add-if2 c = search needs
 
-four-or-less-requires : tie.Need-four-or-less-requires
-four-or-less-requires c κs = search needs
+u32-at-requires : tie.Need-u32-at-requires
+u32-at-requires c κs = search needs
 
-add-four-or-less : tie.Need-add-four-or-less
-add-four-or-less c = search needs
+wide-requires : tie.Need-wide-requires
+wide-requires c κs = search needs
 
-four-or-less-requires-2 : tie.Need-four-or-less-requires-2
-four-or-less-requires-2 c κs = search needs
+add-u32-at : tie.Need-add-u32-at
+add-u32-at c = search needs
+
+u32-at-requires-2 : tie.Need-u32-at-requires-2
+u32-at-requires-2 c κs = search needs
+
+wide-requires-2 : tie.Need-wide-requires-2
+wide-requires-2 c κs = search needs
 
 mul-result : tie.Need-mul-result
 mul-result c = search needs
@@ -39,9 +45,11 @@ eight-or-less-spec =
     (tie.spec
     returns
     add-if2
-    four-or-less-requires
-    add-four-or-less
-    four-or-less-requires-2
+    u32-at-requires
+    wide-requires
+    add-u32-at
+    u32-at-requires-2
+    wide-requires-2
     mul-result
     add-result
     returns-2

@@ -18,8 +18,8 @@ number-of-requires c κs = search needs
 names-of-requires : tie.Need-names-of-requires
 names-of-requires c κs = search needs
 
-heading-requires : tie.Need-heading-requires
-heading-requires c κs = search needs
+heading-of-requires : tie.Need-heading-of-requires
+heading-of-requires c κs = search needs
 
 u32-at-requires : tie.Need-u32-at-requires
 u32-at-requires c κs = search needs
@@ -56,7 +56,7 @@ get-spec =
     count-requires-2
     number-of-requires
     names-of-requires
-    heading-requires
+    heading-of-requires
     u32-at-requires
     name-at-requires
     show-requires

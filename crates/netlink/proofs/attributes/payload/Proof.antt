@@ -2,8 +2,6 @@ use Rattle.netlink.proofs.attributes.Laws.{part-in, part-past, part-bac
 use borrow.Author.Needs.{needs}
 use Rattle.netlink.proofs.attributes.payload.Statement.{statement}
 use Rattle.netlink.proofs.attributes.payload.Tie as tie
-use Rattle.netlink.proofs.attributes.payload.Reads as reads
-use Rattle.netlink.proofs.attributes.payload.Lts as lts
 
 -- src/attributes.rt:56:9
 slice-aggregate-result : tie.Need-slice-aggregate-result

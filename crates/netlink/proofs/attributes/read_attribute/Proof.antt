@@ -2,11 +2,6 @@ use Rattle.netlink.proofs.attributes.Laws.{read-laws}
 use borrow.Author.Needs.{needs}
 use Rattle.netlink.proofs.attributes.read_attribute.Statement.{statement}
 use Rattle.netlink.proofs.attributes.read_attribute.Tie as tie
-use Rattle.netlink.proofs.attributes.read_attribute.Reads as reads
-use Rattle.netlink.proofs.attributes.read_attribute.Lts as lts
-use Rattle.netlink.proofs.headers.AttributeHeader.read.Reads as read-reads
-use Rattle.netlink.proofs.lengths.Stated.step.Reads as step-reads
-use Rattle.netlink.proofs.lengths.capped.Reads as capped-reads
 
 -- src/attributes.rt:29:9
 returns : tie.Need-returns

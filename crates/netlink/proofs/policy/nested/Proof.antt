@@ -2,8 +2,6 @@ use Rattle.netlink.proofs.policy.Laws.{nested-laws}
 use borrow.Author.Needs.{needs}
 use Rattle.netlink.proofs.policy.nested.Statement.{statement}
 use Rattle.netlink.proofs.policy.nested.Tie as tie
-use Rattle.netlink.proofs.policy.nested.Reads as reads
-use Rattle.netlink.proofs.policy.nested.Lts as lts
 
 -- src/policy.rt:88:1
 returns : tie.Need-returns

@@ -2,8 +2,6 @@ use Rattle.netlink.proofs.policy.Laws.{plain-laws}
 use borrow.Author.Needs.{needs}
 use Rattle.netlink.proofs.policy.plain.Statement.{statement}
 use Rattle.netlink.proofs.policy.plain.Tie as tie
-use Rattle.netlink.proofs.policy.plain.Reads as reads
-use Rattle.netlink.proofs.policy.plain.Lts as lts
 
 -- src/policy.rt:73:1
 returns : tie.Need-returns

@@ -2,8 +2,6 @@ use Rattle.netlink.proofs.policy.Laws.{rule-laws}
 use borrow.Author.Needs.{needs}
 use Rattle.netlink.proofs.policy.rule_of.Statement.{statement}
 use Rattle.netlink.proofs.policy.rule_of.Tie as tie
-use Rattle.netlink.proofs.policy.rule_of.Reads as reads
-use Rattle.netlink.proofs.policy.rule_of.Lts as lts
 
 -- src/policy.rt:118:9
 returns : tie.Need-returns

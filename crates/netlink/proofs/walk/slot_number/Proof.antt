@@ -2,10 +2,6 @@ use Rattle.netlink.proofs.walk.Laws.{slot-laws}
 use borrow.Author.Needs.{needs}
 use Rattle.netlink.proofs.walk.slot_number.Statement.{statement}
 use Rattle.netlink.proofs.walk.slot_number.Tie as tie
-use Rattle.netlink.proofs.walk.slot_number.Reads as reads
-use Rattle.netlink.proofs.walk.slot_number.Lts as lts
-use Rattle.netlink.proofs.attributes.payload.Reads as payload-reads
-use Rattle.netlink.proofs.numbers.u32_at.Reads as u32-at-reads
 
 -- src/walk.rt:102:23
 payload-requires : tie.Need-payload-requires

@@ -1,4 +1,3 @@
-use mathlib.Core.Path.{ap}
 use borrow.Author.Needs.{needs}
 use Rattle.netlink.proofs.walk.stopped.Statement.{statement}
 use Rattle.netlink.proofs.walk.stopped.Tie as tie

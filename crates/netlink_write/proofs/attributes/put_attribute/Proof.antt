@@ -1,4 +1,3 @@
-use native.Mathlib.Omega.{arith}
 use Rattle.netlink_write.proofs.attributes.Laws.{attribute-filled}
 use borrow.Author.Needs.{needs}
 use Rattle.netlink_write.proofs.attributes.put_attribute.Statement.{statement}

@@ -1,0 +1,114 @@
+-- Laws of admission: one for each return.
+use Prim.Native.Nat.{ℕ, _/_, _%_, _≤_, _<_}
+use mathlib.Core.Path.{_≡_, refl, sym, ap, _∙_}
+use mathlib.Core.List.{List}
+use mathlib.Core.Bool.{Bool, true, false, _&&_, not, cond}
+use mathlib.Core.Logic.{⊎-elim}
+use lib.ListN.{length}
+use lib.Dec.{ltb}
+use native.Mathlib.Omega.{arith}
+use borrow.Author.Tests.{lt-ltb, le-ltb, eq-eqb, ne-eqb}
+use Rattle.basics.specs.Numbers.{byteAt}
+use Rattle.basics.proofs.Order.{lt-or-ge}
+use Rattle.basics.proofs.Truth.{cond-true, cond-false}
+use Rattle.netlink_headers.specs.Headers.{genericHeader, genericHeaderAt}
+use Rattle.netlink_headers.specs.declared.headers.GenericHeader.{GenericHeader}
+use Rattle.netlink_headers.specs.declared.headers.GenericHeaderRead.{GenericHeaderRead}
+use Rattle.netlink_headers.specs.declared.headers.GenericHeaderRead.the-variants as G
+use Rattle.netlink_headers.specs.declared.headers.MessageHeader.{MessageHeader}
+use Rattle.netlink_headers.proofs.headers.Laws.{generic-short, generic-whole}
+use Rattle.refusal.specs.declared.Refusal.the-variants as R
+use Rattle.admission.specs.Commands.{commandOf}
+use Rattle.admission.specs.Admission.{barred, permitted, onCommand, admitted}
+use Rattle.admission.specs.declared.commands.Command.{Command}
+use Rattle.admission.specs.declared.commands.CommandRead.{CommandRead}
+use Rattle.admission.specs.declared.commands.CommandRead.the-variants.{Listed, Unlisted}
+use Rattle.admission.specs.declared.Admission.{Admission}
+use Rattle.admission.specs.declared.Admission.the-variants.{Go, Skipped, Refused}
+
+module _ (command : Command) (admin : Bool) where
+  pub barred-change : command .change ≡ true → not admin ≡ barred command admin
+  unfolding barred
+  barred-change h = sym (ap (λ (x : Bool). x && not admin) h)
+
+  pub barred-get : command .change ≡ false → false ≡ barred command admin
+  unfolding barred
+  barred-get h = sym (ap (λ (x : Bool). x && not admin) h)
+
+pub ruleset barred-laws = (barred-change, barred-get)
+
+module _ (h : MessageHeader) (command : Command) (admin : Bool) where
+  pub permit-dump : h .flags / 256 % 4 ≡ 3 → Refused R.Dump ≡ permitted h admin command
+  unfolding permitted
+  permit-dump q = sym (rw (eq-eqb _ _ q))
+
+  module _ (q : h .flags / 256 % 4 ≡ 3 → ⊥) (b : Bool) (eb : b ≡ barred command admin) where
+    no-dump : permitted h admin command ≡ cond b (Refused R.Permission) (Go command)
+    unfolding permitted
+    no-dump = rw (ne-eqb _ _ q, eb)
+
+    pub permit-barred : b ≡ true → Refused R.Permission ≡ permitted h admin command
+    permit-barred z = sym (no-dump ∙ cond-true b _ _ z)
+
+    pub permit-go : b ≡ false → Go command ≡ permitted h admin command
+    permit-go z = sym (no-dump ∙ cond-false b _ _ z)
+
+pub ruleset permit-laws = (permit-dump, permit-barred, permit-go)
+
+-- what is learnt of the generic header: it is missing below 20 bytes, and holds the command
+module _ (m : List ℕ) (g : GenericHeaderRead) (e : g ≡ genericHeaderAt m 16) where
+  generic-cut : g ≡ G.Short → length m < 20
+  generic-cut q = ⊎-elim (λ l. l) (λ k. absurd (both (generic-whole m 16 _ _ _ k refl refl refl))) (lt-or-ge (length m) 20)
+    where
+      both : G.Header (genericHeader m 16) ≡ genericHeaderAt m 16 → ⊥
+      both w = let z : _≡_ {A = ℕ} 0 1 = cc in omega arith
+
+  module _ (x : GenericHeader) (q : g ≡ G.Header x) where
+    generic-fits : 20 ≤ length m
+    generic-fits = ⊎-elim (λ l. absurd (both (generic-short m 16 l))) (λ k. k) (lt-or-ge (length m) 20)
+      where
+        both : G.Short ≡ genericHeaderAt m 16 → ⊥
+        both w = let z : _≡_ {A = ℕ} 0 1 = cc in omega arith
+
+    generic-command : x .command ≡ byteAt m 16
+    generic-command =
+        let w = generic-whole m 16 _ _ _ generic-fits refl refl refl in
+        let same : x ≡ genericHeader m 16 = cc in
+        ap (λ (y : GenericHeader). y .command) same
+
+module _ (m : List ℕ) (h : MessageHeader) (family : ℕ) (admin : Bool) where
+  pub admit-low : h .kind < 16 → Skipped ≡ admitted m h family admin
+  unfolding admitted
+  admit-low l = sym (rw (lt-ltb _ _ l))
+
+  module _ (k : 16 ≤ h .kind) where
+    pub admit-unasked : h .flags % 2 ≡ 0 → Skipped ≡ admitted m h family admin
+    unfolding admitted
+    admit-unasked q = sym (rw (le-ltb _ _ k, eq-eqb _ _ q))
+
+    module _ (r : h .flags % 2 ≡ 0 → ⊥) where
+      pub admit-other : (h .kind ≡ family → ⊥) → Refused R.Family ≡ admitted m h family admin
+      unfolding admitted
+      admit-other q = sym (rw (le-ltb _ _ k, ne-eqb _ _ r, ne-eqb _ _ q))
+
+      module _ (f : h .kind ≡ family) (g : GenericHeaderRead) (eg : g ≡ genericHeaderAt m 16) where
+        ours : admitted m h family admin ≡ cond (ltb (length m) 20) (Refused R.Short) (onCommand (commandOf (byteAt m 16)) (permitted h admin))
+        unfolding admitted
+        ours = rw (le-ltb _ _ k, ne-eqb _ _ r, eq-eqb _ _ f)
+
+        pub admit-short : g ≡ G.Short → Refused R.Short ≡ admitted m h family admin
+        admit-short q = sym (ours ∙ rw (lt-ltb _ _ (generic-cut m g eg q)))
+
+        module _ (x : GenericHeader) (q : g ≡ G.Header x) (c : CommandRead) (ec : c ≡ commandOf (x .command)) where
+          whole : admitted m h family admin ≡ onCommand c (permitted h admin)
+          whole =
+              ours ∙ rw (le-ltb _ _ (generic-fits m g eg x q))
+              (ap (λ (y : CommandRead). onCommand y (permitted h admin)) (sym (ec ∙ ap commandOf (generic-command m g eg x q))))
+
+          pub admit-unlisted : c ≡ Unlisted → Refused R.Command ≡ admitted m h family admin
+          admit-unlisted z = sym (rw z at whole)
+
+          pub admit-listed : (command : Command) (a : Admission) → c ≡ Listed command → a ≡ permitted h admin command → a ≡ admitted m h family admin
+          admit-listed command a z ea = ea ∙ sym (rw z at whole)
+
+pub ruleset admit-laws = (admit-low, admit-unasked, admit-other, admit-short, admit-unlisted, admit-listed)

@@ -1,0 +1,19 @@
+use Rattle.admission.proofs.Laws.{permit-laws}
+use borrow.Author.Needs.{needs}
+use Rattle.admission.proofs.permit.Statement.{statement}
+use Rattle.admission.proofs.permit.Tie as tie
+
+returns : tie.Need-returns
+returns c = search (needs, permit-laws)
+
+barred-requires : tie.Need-barred-requires
+barred-requires c κs = search needs
+
+returns-2 : tie.Need-returns-2
+returns-2 c = search (needs, permit-laws)
+
+returns-3 : tie.Need-returns-3
+returns-3 c = search (needs, permit-laws)
+
+pub permit-spec : {M : Type 1} → statement M
+permit-spec = tie.close (tie.spec returns barred-requires returns-2 returns-3)

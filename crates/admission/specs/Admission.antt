@@ -1,0 +1,39 @@
+-- Document 01, "What a call says back": skipped, and refusals 5 to 9.
+use Prim.Native.Nat.{ℕ, _/_, _%_}
+use mathlib.Core.List.{List}
+use mathlib.Core.Bool.{Bool, _&&_, _||_, not, cond}
+use lib.ListN.{length}
+use lib.Dec.{ltb, eqb}
+use Rattle.basics.specs.Numbers.{byteAt}
+use Rattle.netlink_headers.specs.declared.headers.MessageHeader.{MessageHeader}
+use Rattle.refusal.specs.declared.Refusal.the-variants as R
+use Rattle.admission.specs.Commands.{commandOf}
+use Rattle.admission.specs.declared.commands.Command.{Command}
+use Rattle.admission.specs.declared.commands.CommandRead.{CommandRead}
+use Rattle.admission.specs.declared.commands.CommandRead.the-variants.{Listed, Unlisted}
+use Rattle.admission.specs.declared.Admission.{Admission}
+use Rattle.admission.specs.declared.Admission.the-variants.{Go, Skipped, Refused}
+
+-- "SET, not admin"
+unfoldable pub barred : Command → Bool → Bool
+barred command admin = command .change && not admin
+
+-- a listed command: 8 where both DUMP bits (0x300) stand, then 9
+unfoldable pub permitted : MessageHeader → Bool → Command → Admission
+permitted h admin command =
+    cond (eqb (h .flags / 256 % 4) 3) (Refused R.Dump)
+    (cond (barred command admin) (Refused R.Permission)
+    (Go command))
+
+-- 7, or what a listed command comes to
+abbrev pub onCommand : CommandRead → (Command → Admission) → Admission
+onCommand Unlisted rest = Refused R.Command
+onCommand (Listed command) rest = rest command
+
+-- the message m with its header h: "Type below 16 or REQUEST absent: skipped"; 5; 6, a length of 16 to 19; 7 to 9 by the command at 16
+unfoldable pub admitted : List ℕ → MessageHeader → ℕ → Bool → Admission
+admitted m h family admin =
+    cond (ltb (h .kind) 16 || eqb (h .flags % 2) 0) Skipped
+    (cond (not (eqb (h .kind) family)) (Refused R.Family)
+    (cond (ltb (length m) 20) (Refused R.Short)
+    (onCommand (commandOf (byteAt m 16)) (permitted h admin))))

@@ -1,0 +1,70 @@
+// The commands that are taken up, a row of one table each.
+ghost use mathlib.Core.Path.{_≡_};
+ghost use Rattle.admission.specs.Commands.{row, commands, commandOf};
+use boxes::layout::Set;
+
+// The numbers of the commands, and of their replies.
+const DEBUG_GET: u8 = 7;
+
+const DEBUG_SET: u8 = 8;
+
+const PRIVFLAGS_GET: u8 = 13;
+
+const PRIVFLAGS_SET: u8 = 14;
+
+const DEBUG_GET_REPLY: u8 = 7;
+
+const PRIVFLAGS_GET_REPLY: u8 = 14;
+
+// How many commands there are.
+const COUNT: usize = 4;
+
+// A command: its number, whether it changes the set (SET) or asks for it (GET), the set, and the command of its reply.
+pub struct Command {
+    pub number: u8,
+    pub change: bool,
+    pub set: Set,
+    pub reply: u8,
+}
+
+pub enum CommandRead {
+    Listed(Command),
+    Unlisted,
+}
+
+fn row(number: u8, change: bool, set: Set, reply: u8) -> Command
+    ensures { λ r. ⌜ r ≡ row number change set reply ⌝ }
+{
+    Command {
+        number,
+        change,
+        set,
+        reply,
+    }
+}
+
+// The table.
+fn commands() -> [Command; COUNT]
+    ensures { λ r. ⌜ r ≡ commands ⌝ }
+{
+    [
+        row(DEBUG_GET, false, Set::Debug, DEBUG_GET_REPLY),
+        row(DEBUG_SET, true, Set::Debug, DEBUG_GET_REPLY),
+        row(PRIVFLAGS_GET, false, Set::Flags, PRIVFLAGS_GET_REPLY),
+        row(PRIVFLAGS_SET, true, Set::Flags, PRIVFLAGS_GET_REPLY),
+    ]
+}
+
+// The command of a number.
+pub fn read_command(number: u8) -> CommandRead
+    ensures { λ r. ⌜ r ≡ commandOf number ⌝ }
+{
+    let rows = commands();
+    for i in 0..COUNT {
+        let command = rows[i];
+        if command.number == number {
+            return CommandRead::Listed(command);
+        }
+    }
+    CommandRead::Unlisted
+}

@@ -1,0 +1,65 @@
+// Whether a message is taken up, by its two headers: skipped, and refusals 5 to 9.
+ghost use mathlib.Core.Path.{_≡_};
+ghost use Rattle.admission.specs.Admission.{barred, permitted, admitted};
+use crate::commands::Command;
+use crate::commands::CommandRead;
+use crate::commands::read_command;
+use netlink_headers::headers::GenericHeader;
+use netlink_headers::headers::GenericHeaderRead;
+use netlink_headers::headers::MessageHeader;
+use refusal::Refusal;
+
+pub mod commands;
+
+pub enum Admission {
+    Go(Command),
+    Skipped,
+    Refused(Refusal),
+}
+
+// Whether a command is a SET and its sender is not admin.
+fn barred(command: Command, admin: bool) -> bool
+    ensures { λ r. ⌜ r ≡ barred command admin ⌝ }
+{
+    if command.change {
+        return !admin;
+    }
+    false
+}
+
+// Judges a listed command by both DUMP bits, then by its sender.
+fn permit(h: MessageHeader, command: Command, admin: bool) -> Admission
+    ensures { λ r. ⌜ r ≡ permitted h admin command ⌝ }
+{
+    if h.flags / 256 % 4 == 3 {
+        return Admission::Refused(Refusal::Dump);
+    }
+    if barred(command, admin) {
+        return Admission::Refused(Refusal::Permission);
+    }
+    Admission::Go(command)
+}
+
+// Judges a message, cut at its stated end, and its header h.
+pub fn admit(message: &[u8], h: MessageHeader, family: u32, admin: bool) -> Admission
+    ensures { λ r. ⌜ r ≡ admitted (now (message .entry)) h family admin ⌝ }
+{
+    if h.kind < 16 {
+        return Admission::Skipped;
+    }
+    if h.flags % 2 == 0 {
+        return Admission::Skipped;
+    }
+    let kind = h.kind as u32;
+    if kind != family {
+        return Admission::Refused(Refusal::Family);
+    }
+    let GenericHeaderRead::Header(generic) = GenericHeader::read(message, MessageHeader::SIZE)
+    else {
+        return Admission::Refused(Refusal::Short);
+    };
+    let CommandRead::Listed(command) = read_command(generic.command) else {
+        return Admission::Refused(Refusal::Command);
+    };
+    permit(h, command, admin)
+}

@@ -1,0 +1,27 @@
+use Rattle.bitset_bit.proofs.Laws.{identify-laws}
+use borrow.Author.Needs.{needs}
+use Rattle.bitset_bit.proofs.identify.Statement.{statement}
+use Rattle.bitset_bit.proofs.identify.Tie as tie
+
+count-requires : tie.Need-count-requires
+count-requires c κs = search needs
+
+by-index-requires : tie.Need-by-index-requires
+by-index-requires c κs = search needs
+
+returns : tie.Need-returns
+returns c = search (needs, identify-laws)
+
+by-name-requires : tie.Need-by-name-requires
+by-name-requires c κs = search needs
+
+returns-2 : tie.Need-returns-2
+returns-2 c = search (needs, identify-laws)
+
+returns-3 : tie.Need-returns-3
+returns-3 c = search (needs, identify-laws)
+
+pub identify-spec : {M : Type 1} → statement M
+identify-spec =
+    tie.close
+    (tie.spec count-requires by-index-requires returns by-name-requires returns-2 returns-3)

@@ -1,0 +1,37 @@
+use Rattle.bitset_bit.proofs.Laws.{judge-bit-laws}
+use borrow.Author.Needs.{needs}
+use Rattle.bitset_bit.proofs.judge_bit.Statement.{statement}
+use Rattle.bitset_bit.proofs.judge_bit.Tie as tie
+
+walk-bit-requires : tie.Need-walk-bit-requires
+walk-bit-requires c κs = search needs
+
+enum-known-why : tie.Need-enum-known-why
+enum-known-why c = search needs
+
+enum-known-index : tie.Need-enum-known-index
+enum-known-index c = search needs
+
+place-requires : tie.Need-place-requires
+place-requires c κs = search needs
+
+judge-parts-requires : tie.Need-judge-parts-requires
+judge-parts-requires c κs = search needs
+
+returns : tie.Need-returns
+returns c = search (needs, judge-bit-laws)
+
+returns-2 : tie.Need-returns-2
+returns-2 c = search (needs, judge-bit-laws)
+
+pub judge-bit-spec : {M : Type 1} → statement M
+judge-bit-spec =
+    tie.close
+    (tie.spec
+    walk-bit-requires
+    enum-known-why
+    enum-known-index
+    place-requires
+    judge-parts-requires
+    returns
+    returns-2)

@@ -1,0 +1,130 @@
+-- Laws of judging a compact bitset: one for each return.
+use Prim.Native.Nat.{ℕ, _-_, _/_, _≤_, _<_}
+use mathlib.Core.Path.{_≡_, sym, ap, _∙_}
+use mathlib.Core.List.{List}
+use mathlib.Core.Bool.{Bool, true, false, _&&_, not, cond, and-assoc}
+use lib.ListN.{length}
+use lib.Dec.{ltb}
+use borrow.Author.Tests.{lt-ltb, le-ltb}
+use Rattle.basics.proofs.Truth.{cond-true, cond-false}
+use Rattle.bits.specs.Set.{has, wordsOf, wordsFor, somePast, allBelow}
+use Rattle.bits.specs.Bytes.{wordsIn}
+use Rattle.bits.proofs.Words.{has-wordsOf, wordsOf-cong}
+use Rattle.netlink.specs.Attributes.{partOf}
+use Rattle.netlink.specs.Walk.{slotNumber}
+use Rattle.netlink.specs.declared.walk.Slot.{Slot}
+use Rattle.refusal.specs.declared.Refusal.{Refusal}
+use Rattle.refusal.specs.declared.Refusal.the-variants.{MissingIn, ShortBitmap, PastLength}
+use Rattle.bitset_form.specs.Form.{cutAt, both}
+use Rattle.bitset_form.specs.Bitset.{Bitset, Reading, maskOf, valueOf, refusedAs, judgedAs}
+use Rattle.bitset_form.specs.Bitset.Bitset.{masked, whole}
+use Rattle.bitset_form.specs.Bitset.Reading.{refused, accepted}
+use Rattle.bitset_compact.specs.Compact.{bitmap, wholeReading, maskedReading, compactReading}
+use Rattle.bitset_form.specs.declared.Judgement.the-variants.{Accepted}
+use Rattle.bitset_form.specs.declared.Judged.{Judged}
+
+-- a reading that is refused, as the code answers it
+pub told : (n : ℕ) (x : Reading) (y : Refusal) (r : Judged) → r ≡ refusedAs y → x ≡ refused y → r ≡ judgedAs n x
+unfolding judgedAs
+told n x y r e q = e ∙ sym (ap (judgedAs n) q)
+
+-- one that is accepted
+pub taken : (n : ℕ) (x : Reading) (b : Bitset) (m v : List ℕ) → m ≡ wordsOf 16 (maskOf n b) → v ≡ wordsOf 16 (valueOf b) → x ≡ accepted b
+    → record { judgement = Accepted; form = record { mask = m; value = v } } ≡ judgedAs n x
+unfolding judgedAs
+taken n x b m v em ev q = sym (ap (judgedAs n) q ∙ rw (em, ev))
+
+module _ (s : List ℕ) (n size : ℕ) (value : Slot) (p : List ℕ) (ep : p ≡ partOf s (value .start) (value .end)) (w : ℕ) (ew : w ≡ wordsFor size) where
+  pub whole-short : (at : ℕ) (r : Judged) → at ≡ value .start - 4 → length p / 4 < w → r ≡ refusedAs (ShortBitmap at)
+      → r ≡ judgedAs n (wholeReading s n size value)
+  unfolding wholeReading
+  whole-short at r ea h e = told n _ _ r e (rw (ea, ← ep, ← ew) (simp (lt-ltb _ _ h)))
+
+  module _ (h : w ≤ length p / 4) (t : Bool) (et : t ≡ somePast (has (wordsIn p)) n size) where
+    pub whole-past : (at : ℕ) (r : Judged) → at ≡ value .start - 4 → t ≡ true → r ≡ refusedAs (PastLength at)
+        → r ≡ judgedAs n (wholeReading s n size value)
+    unfolding wholeReading
+    whole-past at r ea z e = told n _ _ r e (rw (ea, ← ep, ← ew, le-ltb _ _ h, ← et, z))
+
+    pub whole-right : (m v : List ℕ) → t ≡ false → m ≡ wordsOf 16 (allBelow n) → v ≡ wordsOf 16 (cutAt size (has (wordsIn p)))
+        → record { judgement = Accepted; form = record { mask = m; value = v } } ≡ judgedAs n (wholeReading s n size value)
+    unfolding wholeReading maskOf valueOf cutAt
+    whole-right m v z em ev =
+        taken n _ (whole size (has (wordsIn p))) m v em ev (rw (← ep, ← ew, le-ltb _ _ h, ← et, z))
+
+pub ruleset whole-laws = (whole-short, whole-past, whole-right)
+
+module _ (s : List ℕ) (nest n size : ℕ) (value mask : Slot) where
+  pub masked-missing : (r : Judged) → not (mask .present) ≡ true → r ≡ refusedAs (MissingIn 5 nest) → r ≡ judgedAs n (maskedReading s nest n size value mask)
+  unfolding maskedReading
+  masked-missing r z e = told n _ _ r e (cond-true (not (mask .present)) _ _ z)
+
+  module _ (there : not (mask .present) ≡ false) where
+    present : maskedReading s nest n size value mask
+        ≡ cond (ltb (length (bitmap s value) / 4) (wordsFor size)) (refused (ShortBitmap (value .start - 4)))
+        (cond (ltb (length (bitmap s mask) / 4) (wordsFor size)) (refused (ShortBitmap (mask .start - 4)))
+        (cond (somePast (has (wordsIn (bitmap s mask))) n size) (refused (PastLength (mask .start - 4)))
+        (accepted (masked size (has (wordsIn (bitmap s value))) (has (wordsIn (bitmap s mask)))))))
+    unfolding maskedReading
+    present = cond-false (not (mask .present)) _ _ there
+
+    module _ (p : List ℕ) (ep : p ≡ partOf s (value .start) (value .end)) (w : ℕ) (ew : w ≡ wordsFor size) where
+      pub masked-short : (at : ℕ) (r : Judged) → at ≡ value .start - 4 → length p / 4 < w → r ≡ refusedAs (ShortBitmap at)
+          → r ≡ judgedAs n (maskedReading s nest n size value mask)
+      masked-short at r ea h e = told n _ _ r e (present ∙ rw (ea, ← ep, ← ew) (simp (lt-ltb _ _ h)))
+
+      module _ (h : w ≤ length p / 4) (q : List ℕ) (eq : q ≡ partOf s (mask .start) (mask .end)) (u : ℕ) (eu : u ≡ wordsFor size) where
+        pub masked-short-mask : (at : ℕ) (r : Judged) → at ≡ mask .start - 4 → length q / 4 < u → r ≡ refusedAs (ShortBitmap at)
+            → r ≡ judgedAs n (maskedReading s nest n size value mask)
+        masked-short-mask at r ea g e =
+            told n _ _ r e (present ∙ rw (ea, ← ep, ← eq, le-ltb (length p / 4) (wordsFor size) (rw ew at h), lt-ltb (length q / 4) (wordsFor size) (rw eu at g)))
+
+        module _ (g : u ≤ length q / 4) (t : Bool) (et : t ≡ somePast (has (wordsIn q)) n size) where
+          pub masked-past : (at : ℕ) (r : Judged) → at ≡ mask .start - 4 → t ≡ true → r ≡ refusedAs (PastLength at)
+              → r ≡ judgedAs n (maskedReading s nest n size value mask)
+          masked-past at r ea z e =
+              told n _ _ r e (present ∙ rw (ea, ← ep, ← eq, le-ltb (length p / 4) (wordsFor size) (rw ew at h), le-ltb (length q / 4) (wordsFor size) (rw eu at g), ← et, z))
+
+          pub masked-right : (m v : List ℕ) → t ≡ false → m ≡ wordsOf 16 (cutAt size (has (wordsIn q))) → v ≡ wordsOf 16 (both (has m) (has (wordsIn p)))
+              → record { judgement = Accepted; form = record { mask = m; value = v } } ≡ judgedAs n (maskedReading s nest n size value mask)
+          unfolding maskOf valueOf cutAt both
+          masked-right m v z em ev =
+              taken n _ (masked size (has (wordsIn p)) (has (wordsIn q))) m v em
+              (ev ∙ wordsOf-cong 16 _ _
+              (λ i l. ap (λ (x : Bool). x && has (wordsIn p) i) (ap (λ (ws : List ℕ). has ws i) em ∙ has-wordsOf 16 _ i l)
+              ∙ and-assoc (ltb i size) (has (wordsIn q) i) (has (wordsIn p) i)))
+              (present ∙ rw (← ep, ← eq, le-ltb (length p / 4) (wordsFor size) (rw ew at h), le-ltb (length q / 4) (wordsFor size) (rw eu at g), ← et, z))
+
+pub ruleset masked-laws = (masked-missing, masked-short, masked-short-mask, masked-past, masked-right)
+
+module _ (s : List ℕ) (nest n : ℕ) (nomask size value mask : Slot) where
+  pub compact-no-size : (r : Judged) → not (size .present) ≡ true → r ≡ refusedAs (MissingIn 2 nest)
+      → r ≡ judgedAs n (compactReading s nest n nomask size value mask)
+  unfolding compactReading
+  compact-no-size r z e = told n _ _ r e (cond-true (not (size .present)) _ _ z)
+
+  module _ (zs : not (size .present) ≡ false) where
+    pub compact-no-value : (r : Judged) → not (value .present) ≡ true → r ≡ refusedAs (MissingIn 4 nest)
+        → r ≡ judgedAs n (compactReading s nest n nomask size value mask)
+    unfolding compactReading
+    compact-no-value r z e =
+        told n _ _ r e
+        (cond-false (not (size .present)) _ _ zs ∙ cond-true (not (value .present)) _ _ z)
+
+    module _ (zv : not (value .present) ≡ false) (z : ℕ) (ez : z ≡ slotNumber s size) where
+      both-there : compactReading s nest n nomask size value mask ≡ cond (nomask .present) (wholeReading s n z value) (maskedReading s nest n z value mask)
+      unfolding compactReading
+      both-there =
+          cond-false (not (size .present)) _ _ zs
+          ∙ cond-false (not (value .present)) _ _ zv
+          ∙ ap (λ (x : ℕ). cond (nomask .present) (wholeReading s n x value) (maskedReading s nest n x value mask)) (sym ez)
+
+      pub compact-whole : (r : Judged) → nomask .present ≡ true → r ≡ judgedAs n (wholeReading s n z value)
+          → r ≡ judgedAs n (compactReading s nest n nomask size value mask)
+      compact-whole r y e = e ∙ sym (ap (judgedAs n) (both-there ∙ cond-true (nomask .present) _ _ y))
+
+      pub compact-masked : (r : Judged) → nomask .present ≡ false → r ≡ judgedAs n (maskedReading s nest n z value mask)
+          → r ≡ judgedAs n (compactReading s nest n nomask size value mask)
+      compact-masked r y e = e ∙ sym (ap (judgedAs n) (both-there ∙ cond-false (nomask .present) _ _ y))
+
+pub ruleset compact-laws = (compact-no-size, compact-no-value, compact-whole, compact-masked)

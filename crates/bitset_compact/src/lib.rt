@@ -1,0 +1,100 @@
+// A compact bitset: SIZE, VALUE and, without NOMASK, MASK.
+ghost use mathlib.Core.Path.{_≡_};
+ghost use Rattle.bitset_form.specs.Bitset.{judgedAs};
+ghost use Rattle.bitset_compact.specs.Compact.{wholeReading, maskedReading, compactReading};
+use bits::some_past;
+use bits::words_for;
+use bitset_form::Form;
+use bitset_form::Judged;
+use bitset_form::Judgement;
+use bitset_form::all_below;
+use bitset_form::cut_at;
+use bitset_form::policies::MASK;
+use bitset_form::policies::SIZE;
+use bitset_form::policies::VALUE;
+use bitset_form::refused;
+use bitset_form::within;
+use netlink::attributes::payload;
+use netlink::attributes::place;
+use netlink::walk::Slot;
+use netlink::walk::slot_number;
+use refusal::Refusal;
+
+// Under NOMASK: VALUE alone counts.
+fn judge_whole(s: &[u8], n: usize, size: usize, value: Slot) -> Judged
+    ensures { λ r. ⌜ r ≡ judgedAs n (wholeReading (now (s .entry)) n size value) ⌝ }
+{
+    let start = value.start;
+    let end = value.end;
+    let bitmap = payload(s, start, end);
+    if bitmap.len() / 4 < words_for(size) {
+        return refused(Refusal::ShortBitmap(place(start)));
+    }
+    if some_past(bitmap, n, size) {
+        return refused(Refusal::PastLength(place(start)));
+    }
+    Judged {
+        judgement: Judgement::Accepted,
+        form: Form {
+            mask: all_below(n),
+            value: cut_at(bitmap, size),
+        },
+    }
+}
+
+// Without it: MASK is required, and tells which bits count.
+fn judge_masked(s: &[u8], nest: usize, n: usize, size: usize, value: Slot, mask: Slot) -> Judged
+    ensures { λ r. ⌜ r ≡ judgedAs n (maskedReading (now (s .entry)) nest n size value mask) ⌝ }
+{
+    if !mask.present {
+        return refused(Refusal::MissingIn(MASK, nest));
+    }
+    let value_start = value.start;
+    let value_end = value.end;
+    let values = payload(s, value_start, value_end);
+    if values.len() / 4 < words_for(size) {
+        return refused(Refusal::ShortBitmap(place(value_start)));
+    }
+    let mask_start = mask.start;
+    let mask_end = mask.end;
+    let masks = payload(s, mask_start, mask_end);
+    if masks.len() / 4 < words_for(size) {
+        return refused(Refusal::ShortBitmap(place(mask_start)));
+    }
+    if some_past(masks, n, size) {
+        return refused(Refusal::PastLength(place(mask_start)));
+    }
+    let masked = cut_at(masks, size);
+    Judged {
+        judgement: Judgement::Accepted,
+        form: Form {
+            mask: masked,
+            value: within(values, masked),
+        },
+    }
+}
+
+// SIZE and VALUE are required in every compact bitset; `nest` is the place of the bitset.
+pub fn judge_compact(
+    s: &[u8],
+    nest: usize,
+    n: usize,
+    nomask: Slot,
+    size: Slot,
+    value: Slot,
+    mask: Slot,
+) -> Judged
+    ensures { λ r. ⌜ r ≡ judgedAs n (compactReading (now (s .entry)) nest n nomask size value mask) ⌝ }
+{
+    if !size.present {
+        return refused(Refusal::MissingIn(SIZE, nest));
+    }
+    if !value.present {
+        return refused(Refusal::MissingIn(VALUE, nest));
+    }
+    let bits = slot_number(s, size) as usize;
+    if nomask.present {
+        return judge_whole(s, n, bits, value);
+    }
+    judge_masked(s, nest, n, bits, value, mask)
+}

@@ -1,0 +1,93 @@
+-- How long a nest of index and name is, and BITS: whole words, and at most 48 bytes for a BIT with a right name.
+use Prim.Native.Nat.{ℕ, zero, suc, _+_, _*_, _%_, _≤_, _<_}
+use mathlib.Core.Path.{_≡_, refl}
+use mathlib.Core.Bool.{Bool, true, false, cond}
+use mathlib.Core.List.{List, [], _∷_}
+use lib.ListN.{length, take, getD, length-append}
+use lib.Dec.{eqb}
+use native.Mathlib.Omega.{arith}
+use borrow.Author.Tests.{eqb-true}
+use Rattle.basics.specs.Numbers.{le32}
+use Rattle.basics.proofs.Truth.{both-true}
+use Rattle.entries.specs.Entry.{count, entryAt}
+use Rattle.names.specs.Rule.{entryRight, namesRight}
+use Rattle.names.proofs.Rules.{right-means}
+use Rattle.netlink_headers.specs.Lengths.{roundUp4}
+use Rattle.netlink.specs.Policy.{nulAt}
+use Rattle.netlink_write.specs.Attributes.{attr, nameBytes, named, identity, numbered}
+use Rattle.netlink_write.proofs.attributes.Laws.{length-attr, length-nest, length-name}
+use Rattle.bitset_reply.specs.List.{bitIn, bitsBytes}
+
+pub length-nameBytes : (name : List ℕ) → length (nameBytes name) ≡ nulAt name + 1
+unfolding nameBytes
+length-nameBytes name = omega (arith, length-append (take (nulAt name) name) (0 ∷ []), length-name name (nulAt name) refl)
+
+-- a nest of index and name
+module _ (number : ℕ) (name : List ℕ) where
+  length-named : (length (named name) % 4 ≡ 0) × (length (named name) ≤ roundUp4 (nulAt name + 5))
+  unfolding named
+  length-named = go (eqb (nulAt name) 0)
+    where
+      go : (t : Bool) → (length (cond t [] (attr 2 (nameBytes name))) % 4 ≡ 0) × (length (cond t [] (attr 2 (nameBytes name))) ≤ roundUp4 (nulAt name + 5))
+      go true = (refl, omega arith)
+      go false = let l = length-attr 2 (nameBytes name) in let p = length-nameBytes name in (omega arith, omega arith)
+
+  pub identity-whole : length (identity number name) % 4 ≡ 0
+  unfolding identity
+  identity-whole =
+      let n = length-named in
+      omega (arith, length-append (attr 1 (le32 number)) (named name), length-attr 1 (le32 number))
+
+  pub identity-most : length (identity number name) ≤ roundUp4 (nulAt name + 5) + 8
+  unfolding identity
+  identity-most =
+      let n = length-named in
+      omega (arith, length-append (attr 1 (le32 number)) (named name), length-attr 1 (le32 number))
+
+  pub length-numbered : (kind : ℕ) → length (numbered kind number name) ≡ length (identity number name) + 4
+  unfolding numbered
+  length-numbered kind = length-nest kind (identity number name)
+
+-- each entry below n has a NUL
+abbrev pub Short : List ℕ → ℕ → Type 0
+Short names n = (i : ℕ) → i < n → nulAt (entryAt names i) < 32
+
+nul-before : (s : List ℕ) (k : ℕ) → getD s k 0 ≡ 0 → nulAt s ≤ k
+unfolding nulAt
+nul-before [] k h = omega arith
+nul-before (zero ∷ s) k h = omega arith
+nul-before (suc b ∷ s) zero h = absurd (omega arith)
+nul-before (suc b ∷ s) (suc k) h = omega (arith, nul-before s k h)
+
+pub right-short : (names : List ℕ) → namesRight names ≡ true → Short names (count names)
+unfolding entryRight
+right-short names h i l =
+    let last : getD (entryAt names i) 31 0 ≡ 0 = eqb-true _ 0 (both-true _ _ (right-means names h .each i l) .0) in
+    omega (arith, nul-before (entryAt names i) 31 last)
+
+-- the BITs
+module _ (names : List ℕ) (listed : ℕ → Bool) where
+  bit-length : (i : ℕ) → (length (bitIn names listed i) % 4 ≡ 0) × (nulAt (entryAt names i) < 32 → length (bitIn names listed i) ≤ 48)
+  unfolding bitIn
+  bit-length i = go (listed i)
+    where
+      go : (t : Bool) → (length (cond t (numbered 1 i (entryAt names i)) []) % 4 ≡ 0)
+          × (nulAt (entryAt names i) < 32 → length (cond t (numbered 1 i (entryAt names i)) []) ≤ 48)
+      go true =
+          let l = length-numbered i (entryAt names i) 1 in
+          let m = identity-most i (entryAt names i) in
+          (omega (arith, identity-whole i (entryAt names i)), λ h. omega arith)
+      go false = (refl, λ h. omega arith)
+
+  pub bits-whole : (n : ℕ) → length (bitsBytes names listed n) % 4 ≡ 0
+  unfolding bitsBytes
+  bits-whole zero = refl
+  bits-whole (suc n) =
+      omega (arith, length-append (bitsBytes names listed n) (bitIn names listed n), bits-whole n, bit-length n .0)
+
+  pub bits-most : (n : ℕ) → Short names n → length (bitsBytes names listed n) ≤ n * 48
+  unfolding bitsBytes
+  bits-most zero h = omega arith
+  bits-most (suc n) h =
+      let b = bit-length n .1 (h n (omega arith)) in
+      omega (arith, length-append (bitsBytes names listed n) (bitIn names listed n), bits-most n (λ i l. h i (omega arith)))

@@ -1,0 +1,5 @@
+pub mod Places
+pub mod Bit
+pub mod List
+pub mod Set
+pub mod Reply

@@ -1,0 +1,76 @@
+-- Document 01, "What a call says back": kind, refusal number, next position, bytes written, and the settings.
+use Prim.Native.Nat.{ℕ, _/_, _%_}
+use mathlib.Core.Path.{_≡_}
+use mathlib.Core.List.{List, []}
+use mathlib.Core.Bool.{cond}
+use lib.ListN.{length}
+use lib.Dec.{eqb}
+use Rattle.basics.specs.Put.{put}
+use Rattle.netlink_headers.specs.declared.headers.MessageHeader.{MessageHeader}
+use Rattle.netlink_error.specs.Error.{errorMessage}
+use Rattle.netlink_error.specs.declared.Detail.the-variants.{Nothing}
+use Rattle.refusal.specs.Refusal.{numberOf, errnoOf, detailOf}
+use Rattle.refusal.specs.declared.Refusal.{Refusal}
+use Rattle.response.specs.declared.Kind.{Kind}
+use Rattle.response.specs.declared.Kind.the-variants.{End, Skipped, Done, Refused}
+use Rattle.response.specs.declared.Answer.{Answer}
+
+-- "a kind (end, skipped, done, refused)", in this order from 0
+abbrev pub kindNumber : Kind → ℕ
+kindNumber End = 0
+kindNumber Skipped = 1
+kindNumber Done = 2
+kindNumber (Refused r) = 3
+
+-- "a refusal number (0 if none)"
+abbrev pub refusalNumber : Kind → ℕ
+refusalNumber End = 0
+refusalNumber Skipped = 0
+refusalNumber Done = 0
+refusalNumber (Refused r) = numberOf r
+
+-- what is said: the kind, the next position and the bytes; the count is their length
+pub record Speech : Type 0 where
+  pub kind : Kind
+  pub next : ℕ
+  pub bytes : List ℕ
+
+-- what is said, and the settings after it
+pub record Outcome : Type 0 where
+  pub said : Speech
+  pub words : List ℕ
+
+abbrev pub speech : Kind → ℕ → List ℕ → Speech
+speech kind next bytes = record { kind = kind; next = next; bytes = bytes }
+
+abbrev pub done : Kind
+done = Done
+
+-- "5 to 22 write one error message"
+abbrev pub refusal : List ℕ → ℕ → Refusal → Speech
+refusal message next r = speech (Refused r) next (errorMessage message (errnoOf r) (detailOf r))
+
+-- "an ACK if the ACK flag was set, else nothing"
+unfoldable pub ackBytes : List ℕ → MessageHeader → List ℕ
+ackBytes message h = cond (eqb (h .flags / 4 % 2) 1) (errorMessage message 0 Nothing) []
+
+-- what is said with nothing written
+abbrev pub quiet : Kind → ℕ → Speech
+quiet kind next = speech kind next []
+
+-- the settings stay
+abbrev pub leaves : Speech → List ℕ → Outcome
+leaves s words = record { said = s; words = words }
+
+-- the code's answer
+abbrev pub returned : Speech → Answer
+returned s = record { kind = s .kind; next = s .next; written = length (s .bytes) }
+
+-- the bytes stand at the front of the page; "Page bytes beyond that count keep their content"
+pub record Said (s : Speech) (before after : List ℕ) (r : Answer) : Type 0 where
+  pub result : r ≡ returned s
+  pub page : after ≡ put before (s .bytes)
+
+pub record Did (o : Outcome) (before after words : List ℕ) (r : Answer) : Type 0 where
+  pub said : Said (o .said) before after r
+  pub settings : words ≡ o .words

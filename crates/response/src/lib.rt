@@ -1,0 +1,91 @@
+// What a call says back, and the answers that write: an error message, an ACK.
+ghost use mathlib.Core.Path.{_≡_};
+ghost use Prim.Native.Nat.{_≤_};
+ghost use lib.ListN.{length};
+ghost use Rattle.netlink_write.specs.Page.{Wrote};
+ghost use Rattle.response.specs.Answer.{kindNumber, refusalNumber, Said, refusal, speech, done, ackBytes};
+use netlink_error::put_ack;
+use netlink_error::put_error;
+use netlink_headers::headers::MessageHeader;
+use refusal::Refusal;
+
+pub enum Kind {
+    End,
+    Skipped,
+    Done,
+    Refused(Refusal),
+}
+
+impl Kind {
+    // 0 end, 1 skipped, 2 done, 3 refused.
+    pub fn number(self) -> u32
+        ensures { λ r. ⌜ r ≡ kindNumber self ⌝ }
+    {
+        match self {
+            Kind::End => 0,
+            Kind::Skipped => 1,
+            Kind::Done => 2,
+            Kind::Refused(_) => 3,
+        }
+    }
+
+    // Document 01's number of the refusal, 0 if there is none.
+    pub fn refusal(self) -> u32
+        ensures { λ r. ⌜ r ≡ refusalNumber self ⌝ }
+    {
+        match self {
+            Kind::End => 0,
+            Kind::Skipped => 0,
+            Kind::Done => 0,
+            Kind::Refused(why) => why.number(),
+        }
+    }
+}
+
+// The kind, the next position and the count of bytes written.
+pub struct Answer {
+    pub kind: Kind,
+    pub next: usize,
+    pub written: usize,
+}
+
+// Writes the error message of a refusal that has an errno. The one place that writes one.
+pub fn refuse(page: &mut [u8], message: &[u8], why: Refusal, next: usize) -> Answer
+    requires { ⌜ (32768 ≤ length (now page)) × (16 ≤ length (now message)) ⌝ }
+    ensures { λ r. ⌜ Said (refusal (now (message .entry)) next why) (now (page .entry)) (now (page .exit)) r ⌝ }
+{
+    let row = why.row();
+    let errno = row.errno;
+    let detail = row.detail;
+    let written = put_error(page, message, errno, detail);
+    Answer {
+        kind: Kind::Refused(why),
+        next,
+        written,
+    }
+}
+
+// The ACK where the request asks for one.
+pub fn put_ack_if_asked(page: &mut [u8], message: &[u8], h: MessageHeader) -> usize
+    requires { ⌜ (36 ≤ length (now page)) × (16 ≤ length (now message)) ⌝ }
+    ensures { λ r. ⌜ Wrote (ackBytes (now (message .entry)) h) (now (page .entry)) (now (page .exit)) r ⌝ }
+    ensures { λ r. ⌜ r ≤ 36 ⌝ }
+{
+    if h.flags / 4 % 2 == 1 {
+        return put_ack(page, message);
+    }
+    0
+}
+
+// A done SET: an ACK if asked, else nothing.
+pub fn acknowledge(page: &mut [u8], message: &[u8], h: MessageHeader, next: usize) -> Answer
+    requires { ⌜ (32768 ≤ length (now page)) × (16 ≤ length (now message)) ⌝ }
+    ensures { λ r. ⌜ Said (speech done next (ackBytes (now (message .entry)) h)) (now (page .entry)) (now (page .exit)) r ⌝ }
+{
+    let written = put_ack_if_asked(page, message, h);
+    Answer {
+        kind: Kind::Done,
+        next,
+        written,
+    }
+}
