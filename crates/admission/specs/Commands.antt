@@ -3,8 +3,8 @@ use Prim.Native.Nat.{ℕ}
 use mathlib.Core.List.{List, [], _∷_}
 use mathlib.Core.Bool.{Bool, true, false, cond}
 use lib.Dec.{eqb}
-use Rattle.boxes.specs.declared.layout.Set.{Set}
-use Rattle.boxes.specs.declared.layout.Set.the-variants.{Debug, Flags}
+use Rattle.layout.specs.declared.Set.{Set}
+use Rattle.layout.specs.declared.Set.the-variants.{Debug, Flags}
 use Rattle.admission.specs.declared.commands.Command.{Command}
 use Rattle.admission.specs.declared.commands.CommandRead.{CommandRead}
 use Rattle.admission.specs.declared.commands.CommandRead.the-variants.{Listed, Unlisted}

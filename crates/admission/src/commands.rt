@@ -1,7 +1,7 @@
 // The commands that are taken up, a row of one table each.
 ghost use mathlib.Core.Path.{_≡_};
 ghost use Rattle.admission.specs.Commands.{row, commands, commandOf};
-use boxes::layout::Set;
+use layout::Set;
 
 // The numbers of the commands, and of their replies.
 const DEBUG_GET: u8 = 7;

@@ -11,8 +11,8 @@ use Rattle.refusal.specs.Refusal.{numberOf}
 use Rattle.response.specs.Answer.{Outcome}
 use Rattle.response.specs.declared.Kind.{Kind}
 use Rattle.response.specs.declared.Kind.the-variants.{End, Skipped, Done, Refused}
-use Rattle.demands.specs.Run.{isOver}
-use Rattle.demands.proofs.Demand1.{moves}
+use Rattle.handler.specs.Call.{isOver}
+use Rattle.handler.proofs.call.Moves.{moves}
 use Rattle.answer.specs.Box.{portRoll, debugNames, flagNames}
 use Rattle.answer.specs.Run.{call, goesOn}
 

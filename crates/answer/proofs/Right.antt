@@ -10,7 +10,7 @@ use Rattle.netlink.specs.Attributes.{partOf}
 use Rattle.roll.specs.Record as P
 use Rattle.roll.specs.Name as M
 use Rattle.roll.specs.Rule as R
-use Rattle.boxes.specs.Layout as L
+use Rattle.layout.specs.Layout as L
 use Rattle.boxes.specs.Settings as S
 use Rattle.boxes.specs.Box.{familyRight, adminRight, boxRight}
 use Rattle.answer.specs.Box.{portRoll, debugNames, flagNames, firstWords}

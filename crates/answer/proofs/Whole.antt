@@ -18,7 +18,7 @@ use Rattle.refusal.specs.declared.Refusal.the-variants.{Datagram}
 use Rattle.roll.specs.Record as P
 use Rattle.roll.specs.Name as M
 use Rattle.roll.specs.Find as F
-use Rattle.boxes.specs.Layout as L
+use Rattle.layout.specs.Layout as L
 use Rattle.admission.specs.Admission as Q
 use Rattle.admission.specs.Commands as C
 use Rattle.request.specs.Policies.{topPolicy}

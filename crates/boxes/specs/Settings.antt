@@ -7,9 +7,9 @@ use lib.ListN.{length}
 use lib.Dec.{eqb}
 use Rattle.basics.specs.Scan.{all}
 use Rattle.bits.specs.Set.{wordsFor, noneFrom}
-use Rattle.boxes.specs.declared.layout.Set.{Set}
-use Rattle.boxes.specs.declared.layout.Set.the-variants.{Debug, Flags}
-use Rattle.boxes.specs.Layout.{ofSet, words, setAt}
+use Rattle.layout.specs.declared.Set.{Set}
+use Rattle.layout.specs.declared.Set.the-variants.{Debug, Flags}
+use Rattle.layout.specs.Layout.{ofSet, words, setAt}
 
 -- "bits from N on are 0" in a set of the port at a position
 unfoldable pub setClear : List ℕ → ℕ → ℕ → ℕ → ℕ → Set → Bool

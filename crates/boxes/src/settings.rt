@@ -3,12 +3,12 @@ ghost use mathlib.Core.Path.{_≡_};
 ghost use Prim.Native.Nat.{_≤_, _<_};
 ghost use lib.ListN.{length};
 ghost use Rattle.bits.specs.Set.{wordsFor};
-ghost use Rattle.boxes.specs.Layout.{words as wordsOf, setAt};
+ghost use Rattle.layout.specs.Layout.{words as wordsOf, setAt};
 ghost use Rattle.boxes.specs.Settings.{setClear, portClear, settingsRight};
-use crate::layout::Set;
-use crate::layout::number_of;
-use crate::layout::place;
-use crate::layout::words;
+use layout::Set;
+use layout::number_of;
+use layout::place;
+use layout::words;
 
 // The words of a set of the port at a position.
 pub fn set_at(

@@ -19,14 +19,15 @@ use Rattle.netlink_error.specs.Error.{errorMessage}
 use Rattle.refusal.specs.Refusal.{numberOf, errnoOf, detailOf}
 use Rattle.refusal.specs.declared.Refusal.{Refusal}
 use Rattle.response.specs.Answer.{Outcome}
-use Rattle.handler.specs.Call.{outcome}
+use Rattle.handler.specs.Call.{outcome, isOver}
+use Rattle.handler.proofs.call.Moves as M
 use Rattle.response.specs.declared.Kind.the-variants.{End, Skipped, Done, Refused}
 use Rattle.demands.specs.Answer.{refusalBytes}
 use Rattle.demands.specs.Call.{messageOf}
 use Rattle.demands.specs.Message.MessageCase.{skipped, refused, got, set}
 use Rattle.demands.specs.CallCase.{CallCase}
 use Rattle.demands.specs.CallCase.CallCase.{over, stayed, answered}
-use Rattle.demands.specs.Run.{isOver, endsWithin}
+use Rattle.demands.specs.Run.{endsWithin}
 use Rattle.demands.proofs.First.{first-refused}
 use Rattle.demands.proofs.Late.{message-number}
 use Rattle.demands.proofs.CallCase.{call-case}
@@ -129,19 +130,7 @@ module _ (family admin : ℕ) (roll debug flags ws datagram : List ℕ) (positio
           absurd (over-clash e (le-ltb (numberOf w) 5 late) is)
 
   pub moves : isOver (o .said .kind) ≡ false → (position + 16 ≤ o .said .next) × (o .said .next ≤ length datagram)
-  moves not = by (call-case family admin roll debug flags ws datagram position room)
-    where
-      past : {p : Outcome} (n : ℕ) → o ≡ p → p .said .next ≡ n → position + 16 ≤ n → n ≤ length datagram
-          → (position + 16 ≤ o .said .next) × (o .said .next ≤ length datagram)
-      past n e q lo hi = let r = next e ∙ q in (omega arith, omega arith)
-
-      by : CallCase family admin roll debug flags ws datagram position o → (position + 16 ≤ o .said .next) × (o .said .next ≤ length datagram)
-      by (over e) = absurd (clash (sym (ap isOver (said e))) not)
-      by (stayed w l e) = absurd (clash (sym (ap isOver (said e)) ∙ lt-ltb (numberOf w) 5 (omega arith)) not)
-      by (answered n right lo hi long first (skipped e)) = past n e refl lo hi
-      by (answered n right lo hi long first (got d g e)) = past n e refl lo hi
-      by (answered n right lo hi long first (set d g b c e)) = past n e refl lo hi
-      by (answered n right lo hi long first (refused w e)) = past n e refl lo hi
+  moves = M.moves family admin roll debug flags ws datagram position room
 
 -- calls one after the other
 module _ (family admin : ℕ) (roll debug flags datagram : List ℕ) (room : ℕ) where

@@ -30,10 +30,10 @@ use Rattle.normal.proofs.Fits.{accepted-fits}
 use Rattle.roll.specs.Name.{nameAt}
 use Rattle.roll.specs.Record.{portCount}
 use Rattle.boxes.specs.Box.{boxRight}
-use Rattle.boxes.specs.Layout.{ofSet, place, setAt}
-use Rattle.boxes.specs.declared.layout.Set.{Set}
-use Rattle.boxes.specs.declared.layout.Set.the-variants.{Debug, Flags}
-use Rattle.boxes.proofs.layout.Laws.{of-map, place-inside, set-length}
+use Rattle.layout.specs.Layout.{ofSet, place, setAt}
+use Rattle.layout.specs.declared.Set.{Set}
+use Rattle.layout.specs.declared.Set.the-variants.{Debug, Flags}
+use Rattle.layout.proofs.Laws.{of-map, place-inside, set-length}
 use Rattle.boxes.proofs.rule.Meaning.{Right, box-means}
 use Rattle.boxes.proofs.settings.Laws as S
 use Rattle.read_back.proofs.Reply.{reply-attributes, reply-back}

@@ -17,10 +17,10 @@ use Rattle.normal.specs.Claims.{Fits}
 use Rattle.normal.proofs.Effect.{form-keeps-effect, mask-below}
 use Rattle.roll.specs.Record.{portCount}
 use Rattle.boxes.specs.Box.{boxRight}
-use Rattle.boxes.specs.Layout.{ofSet}
-use Rattle.boxes.specs.declared.layout.Set.{Set}
-use Rattle.boxes.proofs.layout.Laws.{of-map, place-inside}
-use Rattle.boxes.proofs.layout.Change.{splice-below, splice-above, change-own, change-other}
+use Rattle.layout.specs.Layout.{ofSet}
+use Rattle.layout.specs.declared.Set.{Set}
+use Rattle.layout.proofs.Laws.{of-map, place-inside}
+use Rattle.layout.proofs.Kept.{splice-below, splice-above, change-own, change-other}
 use Rattle.boxes.proofs.rule.Meaning.{Right, box-means, box-keeps}
 use Rattle.boxes.proofs.settings.Laws as S
 use Rattle.boxes.proofs.settings.Change.{change-right}

@@ -13,7 +13,7 @@ use Rattle.netlink.specs.declared.walk.Stop.{Stop}
 use Rattle.netlink.specs.declared.walk.Stop.the-variants.{Whole, At}
 use Rattle.refusal.specs.Refusal.{numberOf, ofFault}
 use Rattle.refusal.specs.declared.Refusal.{Refusal}
-use Rattle.boxes.specs.declared.layout.Set.{Set}
+use Rattle.layout.specs.declared.Set.{Set}
 use Rattle.demands.specs.Check.{Check, refuseIf, walks, FirstIs}
 use Rattle.demands.specs.Check.Check.{passes, refuses, ends, skips}
 use Rattle.demands.specs.Check.FirstIs.{here, later}

@@ -14,7 +14,7 @@ use Rattle.refusal.specs.declared.Refusal.the-variants as R
 use Rattle.bitset_form.specs.Bitset.{Reading}
 use Rattle.bitset_form.specs.Bitset.Reading.{refused as turned-down, accepted}
 use Rattle.bitset.specs.Judge.{bitsetReading}
-use Rattle.boxes.specs.Layout.{ofSet}
+use Rattle.layout.specs.Layout.{ofSet}
 use Rattle.admission.specs.Admission.{barred, permitted, onCommand, admitted}
 use Rattle.request.specs.Aim.{aimOf}
 use Rattle.admission.specs.Commands.{commandOf}

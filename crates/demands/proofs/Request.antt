@@ -18,8 +18,8 @@ use Rattle.bitset.specs.Judge.{bitsetReading}
 use Rattle.roll.specs.Find.{byIndex, byName}
 use Rattle.roll.specs.declared.find.Found.{Found}
 use Rattle.roll.specs.declared.find.Found.the-variants as F
-use Rattle.boxes.specs.Layout.{ofSet}
-use Rattle.boxes.specs.declared.layout.Set.{Set}
+use Rattle.layout.specs.Layout.{ofSet}
+use Rattle.layout.specs.declared.Set.{Set}
 use Rattle.admission.specs.Admission.{barred, permitted, onCommand, admitted}
 use Rattle.request.specs.Aim.{withFlags, onHeader, aimOf}
 use Rattle.admission.specs.Commands.{commandOf}

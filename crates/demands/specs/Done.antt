@@ -18,8 +18,8 @@ use Rattle.bitset_form.specs.Bitset.{Bitset, effect}
 use Rattle.roll.specs.Name.{nameAt}
 use Rattle.roll.specs.Record.{portCount}
 use Rattle.boxes.specs.Box.{boxRight}
-use Rattle.boxes.specs.Layout.{ofSet}
-use Rattle.boxes.specs.declared.layout.Set.{Set}
+use Rattle.layout.specs.Layout.{ofSet}
+use Rattle.layout.specs.declared.Set.{Set}
 use Rattle.read_back.specs.Claims.{ReadsBack}
 use Rattle.reply.specs.Message.{replyBytes}
 use Rattle.response.specs.Answer.{Outcome, ackBytes}

@@ -13,7 +13,7 @@ use Rattle.refusal.specs.declared.Refusal.{Refusal}
 use Rattle.bitset_form.specs.Bitset.{Bitset, effect}
 use Rattle.bitset_form.specs.Bitset.Reading.{accepted}
 use Rattle.bitset.specs.Judge.{bitsetReading}
-use Rattle.boxes.specs.Layout.{ofSet}
+use Rattle.layout.specs.Layout.{ofSet}
 use Rattle.request.specs.Aim.{aimOf}
 use Rattle.admission.specs.Commands.{commandOf}
 use Rattle.request.specs.Top.{topOf}

@@ -14,9 +14,9 @@ use Rattle.refusal.specs.declared.Refusal.the-variants as R
 use Rattle.roll.specs.Find.{byIndex, byName}
 use Rattle.roll.specs.declared.find.Found.{Found}
 use Rattle.roll.specs.declared.find.Found.the-variants as F
-use Rattle.boxes.specs.Layout.{ofSet}
-use Rattle.boxes.specs.declared.layout.Set.{Set}
-use Rattle.boxes.specs.declared.layout.Set.the-variants.{Debug}
+use Rattle.layout.specs.Layout.{ofSet}
+use Rattle.layout.specs.declared.Set.{Set}
+use Rattle.layout.specs.declared.Set.the-variants.{Debug}
 use Rattle.admission.specs.Commands.{commandOf}
 use Rattle.request.specs.Policies.{topPolicy, headerPolicy}
 use Rattle.request.specs.Target.{otherName}

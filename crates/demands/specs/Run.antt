@@ -2,19 +2,8 @@
 -- reads and writes": "in order, up to the end or a refusal 1 to 4".
 use Prim.Native.Nat.{ℕ, zero, suc}
 use mathlib.Core.List.{List}
-use mathlib.Core.Bool.{Bool, true, false, _||_}
-use lib.Dec.{ltb}
-use Rattle.refusal.specs.Refusal.{numberOf}
-use Rattle.handler.specs.Call.{outcome}
-use Rattle.response.specs.declared.Kind.{Kind}
-use Rattle.response.specs.declared.Kind.the-variants.{End, Skipped, Done, Refused}
-
--- the end, or a refusal by 1 to 4
-abbrev pub isOver : Kind → Bool
-isOver End = true
-isOver Skipped = false
-isOver Done = false
-isOver (Refused why) = ltb (numberOf why) 5
+use mathlib.Core.Bool.{Bool, false, _||_}
+use Rattle.handler.specs.Call.{outcome, isOver}
 
 -- a run of at most so many calls comes to the end or to a refusal by 1 to 4
 unfoldable pub endsWithin : ℕ → ℕ → ℕ → List ℕ → List ℕ → List ℕ → List ℕ → List ℕ → ℕ → ℕ → Bool

@@ -1,7 +1,7 @@
 -- Document 01, "What a call says back": one call, from the box to the answer.
 use Prim.Native.Nat.{ℕ}
 use mathlib.Core.List.{List}
-use mathlib.Core.Bool.{cond, not}
+use mathlib.Core.Bool.{Bool, true, false, cond, not}
 use lib.ListN.{length}
 use lib.Dec.{eqb, ltb}
 use Rattle.netlink_headers.specs.Messages.{messageAt}
@@ -9,6 +9,7 @@ use Rattle.netlink.specs.Attributes.{partOf}
 use Rattle.netlink_headers.specs.declared.headers.MessageHeader.{MessageHeader}
 use Rattle.netlink_headers.specs.declared.messages.MessageRead.{MessageRead}
 use Rattle.netlink_headers.specs.declared.messages.MessageRead.the-variants.{Message, Misstated, Cut, AtEnd, Outside}
+use Rattle.refusal.specs.Refusal.{numberOf}
 use Rattle.refusal.specs.declared.Refusal.{Refusal}
 use Rattle.refusal.specs.declared.Refusal.the-variants as R
 use Rattle.boxes.specs.Box.{boxRight}
@@ -18,7 +19,8 @@ use Rattle.admission.specs.declared.Admission.{Admission}
 use Rattle.admission.specs.declared.Admission.the-variants as A
 use Rattle.response.specs.Answer.{Outcome, quiet, refusal, leaves}
 use Rattle.handler.specs.Obey.{obeyed}
-use Rattle.response.specs.declared.Kind.the-variants.{End, Skipped, Refused}
+use Rattle.response.specs.declared.Kind.{Kind}
+use Rattle.response.specs.declared.Kind.the-variants.{End, Skipped, Done, Refused}
 
 -- skipped, 5 to 9, or the command obeyed
 abbrev pub onAdmission : Admission → List ℕ → ℕ → List ℕ → (Command → Outcome) → Outcome
@@ -56,3 +58,10 @@ outcome family admin roll debug flags ws datagram position room =
     (cond (ltb room 32768) (stays R.Page position ws)
     (cond (ltb 32768 (length datagram)) (stays R.Datagram position ws)
     (positionOutcome family admin roll debug flags ws datagram position)))
+
+-- "up to the end or a refusal 1 to 4": whether calls one after the other end with this one
+abbrev pub isOver : Kind → Bool
+isOver End = true
+isOver Skipped = false
+isOver Done = false
+isOver (Refused why) = ltb (numberOf why) 5

@@ -18,8 +18,8 @@ use Rattle.bitset_form.specs.Bitset.Reading.{refused, accepted}
 use Rattle.bitset.specs.Judge.{bitsetReading}
 use Rattle.roll.specs.Record.{portCount}
 use Rattle.roll.specs.Name.{nameAt}
-use Rattle.boxes.specs.Layout.{ofSet, words, place, setAt}
-use Rattle.boxes.specs.declared.layout.Set.{Set}
+use Rattle.layout.specs.Layout.{ofSet, words, place, setAt}
+use Rattle.layout.specs.declared.Set.{Set}
 use Rattle.reply.specs.Message.{headingOf, replyBytes}
 use Rattle.reply.specs.declared.message.Heading.{Heading}
 use Rattle.request.specs.Top.{topOf}

@@ -10,7 +10,7 @@ use native.Mathlib.Numerals.{add-one}
 use native.Mathlib.Omega.{arith}
 use borrow.Author.Tests.{eq-eqb, ne-eqb}
 use Rattle.admission.specs.Commands.{row, commands, rowOf, commandOf}
-use Rattle.boxes.specs.declared.layout.Set.the-variants.{Debug}
+use Rattle.layout.specs.declared.Set.the-variants.{Debug}
 use Rattle.admission.specs.declared.commands.Command.{Command}
 use Rattle.admission.specs.declared.commands.CommandRead.the-variants.{Listed, Unlisted}
 

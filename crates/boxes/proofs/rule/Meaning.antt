@@ -15,7 +15,7 @@ use Rattle.names.proofs.Rules as N
 use Rattle.roll.specs.Record.{portCount}
 use Rattle.roll.specs.Rule.{rollRight}
 use Rattle.roll.proofs.rule.Laws as R
-use Rattle.boxes.specs.Layout.{words}
+use Rattle.layout.specs.Layout.{words}
 use Rattle.boxes.specs.Settings.{settingsRight}
 use Rattle.boxes.specs.Box.{familyRight, adminRight, boxRight}
 use Rattle.boxes.proofs.settings.Laws as S

@@ -11,11 +11,11 @@ use Rattle.basics.specs.Put.{splice}
 use Rattle.basics.proofs.Order.{lt-or-ge}
 use Rattle.basics.proofs.Scan.{all-of}
 use Rattle.bits.specs.Set.{wordsFor, noneFrom}
-use Rattle.boxes.specs.declared.layout.Set.{Set}
-use Rattle.boxes.specs.declared.layout.Set.the-variants.{Debug, Flags}
-use Rattle.boxes.specs.Layout.{ofSet, place}
+use Rattle.layout.specs.declared.Set.{Set}
+use Rattle.layout.specs.declared.Set.the-variants.{Debug, Flags}
+use Rattle.layout.specs.Layout.{ofSet, place}
 use Rattle.boxes.specs.Settings.{setClear, portClear, settingsRight}
-use Rattle.boxes.proofs.layout.Change.{change-length, change-own, change-other}
+use Rattle.layout.proofs.Kept.{change-length, change-own, change-other}
 use Rattle.boxes.proofs.settings.Laws.{Right, right-means}
 
 -- two sets are the same or not

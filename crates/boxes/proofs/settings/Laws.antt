@@ -9,9 +9,9 @@ use Rattle.basics.specs.Scan.{all}
 use Rattle.basics.proofs.Scan.{all-none, all-more, all-fails, all-done, all-each}
 use Rattle.basics.proofs.Truth.{both-true}
 use Rattle.bits.specs.Set.{wordsFor, noneFrom}
-use Rattle.boxes.specs.declared.layout.Set.{Set}
-use Rattle.boxes.specs.declared.layout.Set.the-variants.{Debug, Flags}
-use Rattle.boxes.specs.Layout.{ofSet, words, setAt}
+use Rattle.layout.specs.declared.Set.{Set}
+use Rattle.layout.specs.declared.Set.the-variants.{Debug, Flags}
+use Rattle.layout.specs.Layout.{ofSet, words, setAt}
 use Rattle.boxes.specs.Settings.{setClear, portClear, settingsRight}
 
 -- the words of all ports by the widths of their sets

@@ -27,10 +27,10 @@ use Rattle.normal.proofs.Effect.{form-keeps-effect}
 use Rattle.normal.proofs.Fits.{accepted-fits}
 use Rattle.roll.specs.Record.{portCount}
 use Rattle.roll.specs.Name.{nameAt}
-use Rattle.boxes.specs.Layout.{ofSet, words, place, setAt}
-use Rattle.boxes.specs.declared.layout.Set.{Set}
-use Rattle.boxes.specs.declared.layout.Set.the-variants.{Debug, Flags}
-use Rattle.boxes.proofs.layout.Laws.{of-map, place-inside, set-length}
+use Rattle.layout.specs.Layout.{ofSet, words, place, setAt}
+use Rattle.layout.specs.declared.Set.{Set}
+use Rattle.layout.specs.declared.Set.the-variants.{Debug, Flags}
+use Rattle.layout.proofs.Laws.{of-map, place-inside, set-length}
 use Rattle.reply.specs.declared.message.Heading.{Heading}
 use Rattle.request.specs.Top.{topOf}
 use Rattle.request.specs.Aim.{aimOf}

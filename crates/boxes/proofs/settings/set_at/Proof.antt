@@ -1,4 +1,4 @@
-use Rattle.boxes.proofs.layout.Laws.{words-few, place-inside, set-is}
+use Rattle.layout.proofs.Laws.{words-few, place-inside, set-is}
 use native.Mathlib.Omega.{arith}
 use native.Mathlib.Omega.{arith}
 use borrow.Author.Needs.{needs}

@@ -1,4 +1,4 @@
-use Rattle.boxes.proofs.layout.Laws.{of-laws}
+use Rattle.layout.proofs.Laws.{of-laws}
 use borrow.Author.Needs.{needs}
 use Rattle.handler.proofs.obey.names_of.Statement.{statement}
 use Rattle.handler.proofs.obey.names_of.Tie as tie

@@ -1,9 +1,9 @@
-use Rattle.boxes.specs.Layout.{words}
-use Rattle.boxes.proofs.layout.Laws.{words-room}
+use Rattle.layout.specs.Layout.{words}
+use Rattle.layout.proofs.Laws.{words-room}
 use native.Mathlib.Omega.{arith}
 use borrow.Author.Needs.{needs}
-use Rattle.boxes.proofs.layout.words.Statement.{statement}
-use Rattle.boxes.proofs.layout.words.Tie as tie
+use Rattle.layout.proofs.words.Statement.{statement}
+use Rattle.layout.proofs.words.Tie as tie
 
 add-result : tie.Need-add-result
 add-result c = search needs

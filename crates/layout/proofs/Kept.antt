@@ -8,10 +8,10 @@ use lib.ListN.{length, take, drop, getD, length-append, length-drop, List·getD-
 use lib.Seq.{length-take-le, take-at, drop-at, getD-append-add, getD-take, getD-drop, ext-getD}
 use Rattle.basics.specs.Put.{put, splice}
 use Rattle.basics.proofs.Put.{length-put, getD-put}
-use Rattle.boxes.specs.declared.layout.Set.{Set}
-use Rattle.boxes.specs.Layout.{ofSet, words, place, setAt}
-use Rattle.boxes.proofs.layout.Laws.{place-inside}
-use Rattle.boxes.proofs.layout.Apart.{Apart, places-apart}
+use Rattle.layout.specs.declared.Set.{Set}
+use Rattle.layout.specs.Layout.{ofSet, words, place, setAt}
+use Rattle.layout.proofs.Laws.{place-inside}
+use Rattle.layout.proofs.Apart.{Apart, places-apart}
 
 -- new words in a longer list
 module _ (ws ys : List ℕ) (at : ℕ) (h : at + length ys ≤ length ws) where

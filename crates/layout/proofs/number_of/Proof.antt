@@ -1,7 +1,7 @@
-use Rattle.boxes.proofs.layout.Laws.{of-laws}
+use Rattle.layout.proofs.Laws.{of-laws}
 use borrow.Author.Needs.{needs}
-use Rattle.boxes.proofs.layout.number_of.Statement.{statement}
-use Rattle.boxes.proofs.layout.number_of.Tie as tie
+use Rattle.layout.proofs.number_of.Statement.{statement}
+use Rattle.layout.proofs.number_of.Tie as tie
 
 enum-told : tie.Need-enum-told
 enum-told c = search needs

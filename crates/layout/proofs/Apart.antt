@@ -5,10 +5,10 @@ use mathlib.Core.Logic.{_⊎_, inl, inr, ⊎-elim}
 use native.Mathlib.Nat.{div-add-mod', mod-lt, mul-le-mul-left, mul-le-mul-right}
 use native.Mathlib.Omega.{arith}
 use Rattle.basics.proofs.Order.{lt-or-ge}
-use Rattle.boxes.specs.declared.layout.Set.{Set}
-use Rattle.boxes.specs.declared.layout.Set.the-variants.{Debug, Flags}
-use Rattle.boxes.specs.Layout.{ofSet, words, place}
-use Rattle.boxes.proofs.layout.Laws.{port-step, in-port}
+use Rattle.layout.specs.declared.Set.{Set}
+use Rattle.layout.specs.declared.Set.the-variants.{Debug, Flags}
+use Rattle.layout.specs.Layout.{ofSet, words, place}
+use Rattle.layout.proofs.Laws.{port-step, in-port}
 
 -- one ends before the other starts
 abbrev pub Apart : ℕ → ℕ → ℕ → ℕ → Type 0

@@ -1,7 +1,9 @@
 // Where the sets of the ports lie in the settings: for each port in roll order its debug set, then its flags.
 ghost use mathlib.Core.Path.{_≡_};
 ghost use Prim.Native.Nat.{_≤_, _<_};
-ghost use Rattle.boxes.specs.Layout.{ofSet, words as wordsOf, place as placeOf};
+ghost use Rattle.layout.specs.Layout.{ofSet, words as wordsOf, place as placeOf};
+
+pub mod change;
 
 // The two sets of a port.
 pub enum Set {

@@ -1,10 +1,10 @@
-use Rattle.boxes.proofs.layout.Laws.{words-few, first-le, place-is}
+use Rattle.layout.proofs.Laws.{words-few, first-le, place-is}
 use native.Mathlib.Omega.{arith}
 use Prim.Native.Nat.{_≤_}
 use native.Mathlib.Omega.{arith}
 use borrow.Author.Needs.{needs}
-use Rattle.boxes.proofs.layout.place.Statement.{statement}
-use Rattle.boxes.proofs.layout.place.Tie as tie
+use Rattle.layout.proofs.place.Statement.{statement}
+use Rattle.layout.proofs.place.Tie as tie
 
 number-of-requires : tie.Need-number-of-requires
 number-of-requires c κs = search needs

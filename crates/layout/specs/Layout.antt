@@ -3,8 +3,8 @@
 use Prim.Native.Nat.{ℕ, _+_, _*_}
 use mathlib.Core.List.{List}
 use lib.ListN.{take, drop}
-use Rattle.boxes.specs.declared.layout.Set.{Set}
-use Rattle.boxes.specs.declared.layout.Set.the-variants.{Debug, Flags}
+use Rattle.layout.specs.declared.Set.{Set}
+use Rattle.layout.specs.declared.Set.the-variants.{Debug, Flags}
 
 -- which of two things is the set's: its words, its N, its names
 unfoldable pub ofSet : {A : Type 0} → Set → A → A → A

@@ -6,9 +6,9 @@ use native.Mathlib.Nat.{mul-le-mul, mul-le-mul-right, add-mul}
 use native.Mathlib.Omega.{arith}
 use lib.ListN.{length, take, drop, length-drop}
 use lib.Seq.{length-take-le}
-use Rattle.boxes.specs.declared.layout.Set.{Set}
-use Rattle.boxes.specs.declared.layout.Set.the-variants.{Debug, Flags}
-use Rattle.boxes.specs.Layout.{ofSet, words, place, setAt}
+use Rattle.layout.specs.declared.Set.{Set}
+use Rattle.layout.specs.declared.Set.the-variants.{Debug, Flags}
+use Rattle.layout.specs.Layout.{ofSet, words, place, setAt}
 
 -- the set's own
 module _ {A : Type 0} (set : Set) (debug flags : A) where

@@ -1,10 +1,10 @@
 use lib.ListN.{length-take}
 use native.Mathlib.Omega.{arith}
-use Rattle.boxes.proofs.change.Laws.{apply-is}
+use Rattle.layout.proofs.change.Laws.{apply-is}
 use native.Mathlib.Omega.{arith}
 use borrow.Author.Needs.{needs}
-use Rattle.boxes.proofs.change.apply.Statement.{statement}
-use Rattle.boxes.proofs.change.apply.Tie as tie
+use Rattle.layout.proofs.change.apply.Statement.{statement}
+use Rattle.layout.proofs.change.apply.Tie as tie
 
 array-share-prefix-mask : tie.Need-array-share-prefix-mask
 array-share-prefix-mask c = search needs
