@@ -1,11 +1,11 @@
 -- The search for a name (document 01, "A name is the entry that equals it .. an empty name matches none").
 use Prim.Native.Nat.{ℕ}
-use mathlib.Core.Bool.{Bool, true, false, _||_, cond}
+use mathlib.Core.Bool.{Bool, true, false, _&&_, _||_, cond}
 use mathlib.Core.List.{List}
 use lib.ListN.{length}
-use lib.Dec.{ltb}
+use lib.Dec.{ltb, leb}
 use Rattle.basics.specs.Scan.{first}
-use Rattle.entries.specs.Entry.{count, entryAt, same, isEmpty}
+use Rattle.entries.specs.Entry.{count, entryAt, same, isEmpty, distinct}
 use Rattle.names.specs.declared.Lookup.{Lookup}
 
 -- whether entry i equals the name; NULs may follow the name
@@ -27,3 +27,7 @@ unfoldable pub lookup : List ℕ → List ℕ → Lookup
 lookup names name =
     cond (noName name) notFound
     (cond (ltb (first (count names) (isName names name)) (count names)) (foundAt (first (count names) (isName names name))) notFound)
+
+-- the lists that tables can lead through: names that are distinct, and at most 512
+unfoldable pub indexable : List ℕ → Bool
+indexable names = leb (count names) 512 && distinct names

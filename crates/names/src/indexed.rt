@@ -2,7 +2,7 @@
 ghost use mathlib.Core.Path.{_≡_};
 ghost use lib.ListN.{length};
 ghost use Rattle.entries.specs.Chain.{HeadRight, Indexed, IndexedIf};
-ghost use Rattle.names.specs.Search.{lookup};
+ghost use Rattle.names.specs.Search.{lookup, indexable};
 use crate::Lookup;
 use crate::find_name;
 use entries::byte_at;
@@ -16,6 +16,7 @@ use entries::key::spell;
 pub fn index(names: &[u8], head: &mut [u16], next: &mut [u16]) -> bool
     requires { ⌜ (length (now head) ≡ 1025) × (length (now next) ≡ 512) ⌝ }
     requires { ⌜ HeadRight (now names) (now head) 0 ⌝ }
+    ensures { λ r. ⌜ r ≡ indexable (now (names .entry)) ⌝ }
     ensures { λ r. ⌜ IndexedIf r (now (names .entry)) (now (head .exit)) (now (next .exit)) ⌝ }
 {
     if 512 < count(names) {

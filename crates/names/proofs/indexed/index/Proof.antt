@@ -1,5 +1,6 @@
 use mathlib.Core.Path.{refl}
 use Rattle.basics.proofs.Truth.{clash}
+use Rattle.names.proofs.Search.{index-laws}
 use borrow.Author.Needs.{needs}
 use Rattle.names.proofs.indexed.index.Statement.{statement}
 use Rattle.names.proofs.indexed.index.Tie as tie
@@ -8,7 +9,7 @@ count-requires : tie.Need-count-requires
 count-requires c κs = search needs
 
 returns : tie.Need-returns
-returns c = λ q. absurd (clash q refl)
+returns c = (search (needs, index-laws), λ q. absurd (clash q refl))
 
 distinct-in-requires : tie.Need-distinct-in-requires
 distinct-in-requires c κs = search needs
@@ -20,7 +21,7 @@ same-length-2 : tie.Need-same-length-2
 same-length-2 c = search needs
 
 returns-2 : tie.Need-returns-2
-returns-2 c = search needs
+returns-2 c = (search (needs, index-laws), search needs)
 
 pub index-spec : {M : Type 1} → statement M
 index-spec =
