@@ -3,7 +3,6 @@ ghost use mathlib.Core.Path.{_≡_};
 ghost use Rattle.netlink.specs.Attributes.{attributes};
 ghost use Rattle.bitset_form.specs.Bitset.{judgedAs};
 ghost use Rattle.bitset.specs.BitList.{bitsReading, listReading, listJudged};
-ghost use Rattle.netlink.specs.Policy.{judged};
 ghost use Rattle.bitset_form.specs.declared.Judgement.the-variants.{Accepted};
 ghost use Rattle.entries.specs.Entry.{count};
 ghost use Rattle.entries.specs.Chain.{IndexedIf};
