@@ -25,6 +25,20 @@ pub fn number_of(set: Set, debug: usize, flags: usize) -> usize
     }
 }
 
+// The names of the set.
+pub fn names_of<'a>(set: Set, debug: &'a [u8], flags: &'a [u8]) -> &'a [u8]
+    ensures { λ r. ⌜ now r ≡ ofSet set (now (debug .entry)) (now (flags .entry)) ⌝ }
+{
+    match set {
+        Set::Debug => {
+            return debug;
+        }
+        Set::Flags => {
+            return flags;
+        }
+    }
+}
+
 // The words of all ports, where a debug set takes `wd` words and a set of flags `wf`.
 pub fn words(ports: usize, wd: usize, wf: usize) -> usize
     requires { ⌜ (ports ≤ 64) × (wd ≤ 16) × (wf ≤ 16) ⌝ }

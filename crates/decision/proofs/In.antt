@@ -1,0 +1,70 @@
+-- A port that is decided on is one of the roll's.
+use Prim.Native.Nat.{ℕ, _<_}
+use mathlib.Core.Path.{_≡_}
+use mathlib.Core.List.{List}
+use mathlib.Core.Bool.{Bool, true, false}
+use native.Mathlib.Omega.{arith}
+use Rattle.entries.specs.Entry.{count}
+use Rattle.netlink.specs.Attributes.{partOf}
+use Rattle.netlink.specs.declared.walk.Slot.{Slot}
+use Rattle.bitset_form.specs.Bitset.{Reading}
+use Rattle.bitset_form.specs.Bitset.Reading.{refused, accepted}
+use Rattle.bitset.specs.Judge.{bitsetReading}
+use Rattle.layout.specs.Layout.{ofSet}
+use Rattle.roll.specs.Record.{portCount}
+use Rattle.admission.specs.declared.commands.Command.{Command}
+use Rattle.request.specs.Top.{topOf}
+use Rattle.request.specs.Aim.{aimOf}
+use Rattle.request.proofs.aim.Place.{AimIn, aim-in}
+use Rattle.request.specs.declared.top.Top.{Top}
+use Rattle.request.specs.declared.top.Top.the-variants as T
+use Rattle.request.specs.declared.aim.Aim.{Aim}
+use Rattle.request.specs.declared.aim.Aim.the-variants as A
+use Rattle.decision.specs.Decision.{onReading, ofBitset, onAim, ofHeader, onTop, decided, PortIn}
+use Rattle.decision.specs.declared.Plan.{Plan}
+use Rattle.decision.specs.declared.Plan.the-variants as P
+use Rattle.decision.specs.declared.Port.{Port}
+use Rattle.decision.specs.declared.Decision.{Decision}
+
+module _ (roll : List ℕ) where
+  reading-in : (x : Reading) (n position nest : ℕ) → position < portCount roll → PortIn roll (onReading x n position nest .plan)
+  unfolding PortIn
+  reading-in (refused why) n position nest h = omega arith
+  reading-in (accepted b) n position nest h = h
+
+  bitset-in : (m : List ℕ) (bitset : Slot) (names : List ℕ) (position : ℕ) → position < portCount roll → PortIn roll (ofBitset m bitset names position .plan)
+  unfolding ofBitset
+  bitset-in m bitset names position h = reading-in (bitsetReading (partOf m 0 (bitset .end)) (bitset .start) names) (count names) position _ h
+
+  on-aim-in : (a : Aim) (change : Bool) (set : ℕ → Decision) → AimIn roll a → ((position : ℕ) → position < portCount roll → PortIn roll (set position .plan))
+      → PortIn roll (onAim a change set .plan)
+  unfolding PortIn
+  on-aim-in (A.Refused why) change set h f = omega arith
+  on-aim-in (A.Port position index name end flags) true set h f = f position (h .counted)
+  on-aim-in (A.Port position index name end flags) false set h f = h .counted
+
+  header-in : (m : List ℕ) (change : Bool) (names : List ℕ) (header bitset : Slot) → PortIn roll (ofHeader m change roll names header bitset .plan)
+  unfolding ofHeader
+  header-in m change names header bitset = on-aim-in (aimOf m header roll) change (ofBitset m bitset names) (aim-in roll m header) (bitset-in m bitset names)
+
+  on-top-in : (t : Top) (rest : Slot → Slot → Decision) → ((header bitset : Slot) → PortIn roll (rest header bitset .plan)) → PortIn roll (onTop t rest .plan)
+  unfolding PortIn
+  on-top-in (T.Refused why) rest f = omega arith
+  on-top-in (T.Nests header bitset) rest f = f header bitset
+
+  -- whatever is decided
+  pub decided-in : (m : List ℕ) (command : Command) (debug flags : List ℕ) (d : Decision) → d ≡ decided m command roll debug flags → PortIn roll (d .plan)
+  unfolding decided
+  decided-in m command debug flags d e =
+      rw e
+      (on-top-in (topOf m (command .change)) (ofHeader m (command .change) roll (ofSet (command .set) debug flags))
+      (header-in m (command .change) (ofSet (command .set) debug flags)))
+
+  -- the port of a GET, the port of a SET
+  pub get-in : (p : Plan) (port : Port) → PortIn roll p → p ≡ P.Get port → port .position < portCount roll
+  unfolding PortIn
+  get-in p port h q = rw q at h
+
+  pub set-in : (p : Plan) (position nest : ℕ) → PortIn roll p → p ≡ P.Set position nest → position < portCount roll
+  unfolding PortIn
+  set-in p position nest h q = rw q at h

@@ -1,0 +1,90 @@
+-- Laws of deciding: one for each return, level by level.
+use Prim.Native.Nat.{ℕ, _-_}
+use mathlib.Core.Path.{_≡_, refl, sym, ap, _∙_}
+use mathlib.Core.List.{List}
+use mathlib.Core.Bool.{Bool, true, false}
+use native.Mathlib.Omega.{arith}
+use Rattle.entries.specs.Entry.{count}
+use Rattle.netlink.specs.Attributes.{partOf}
+use Rattle.netlink.specs.declared.walk.Slot.{Slot}
+use Rattle.refusal.specs.declared.Refusal.{Refusal}
+use Rattle.bitset_form.specs.Bitset.{Reading, judgedAs}
+use Rattle.bitset_form.specs.Bitset.Reading.{refused, accepted}
+use Rattle.bitset_form.specs.declared.Judgement.the-variants as J
+use Rattle.bitset_form.specs.declared.Judged.{Judged}
+use Rattle.bitset.specs.Judge.{bitsetReading}
+use Rattle.layout.specs.Layout.{ofSet}
+use Rattle.admission.specs.declared.commands.Command.{Command}
+use Rattle.request.specs.Top.{topOf}
+use Rattle.request.specs.Aim.{aimOf}
+use Rattle.request.specs.declared.top.Top.{Top}
+use Rattle.request.specs.declared.top.Top.the-variants as T
+use Rattle.request.specs.declared.aim.Aim.{Aim}
+use Rattle.request.specs.declared.aim.Aim.the-variants as A
+use Rattle.decision.specs.Decision.{formless, onReading, ofBitset, onAim, ofHeader, onTop, decided}
+use Rattle.decision.specs.declared.Plan.the-variants as P
+use Rattle.decision.specs.declared.Decision.{Decision}
+
+-- the bitset
+reading-refused : (x : Reading) (n position nest : ℕ) (why : Refusal) → judgedAs n x .judgement ≡ J.Refused why
+    → formless (P.Refused why) ≡ onReading x n position nest
+unfolding judgedAs
+reading-refused (refused r) n position nest why e = cc
+reading-refused (accepted b) n position nest why e = absurd (let z : _≡_ {A = ℕ} 0 1 = cc in omega arith)
+
+reading-accepted : (x : Reading) (n position nest : ℕ) → judgedAs n x .judgement ≡ J.Accepted
+    → record { plan = P.Set position nest; form = judgedAs n x .form } ≡ onReading x n position nest
+unfolding judgedAs
+reading-accepted (refused r) n position nest e = absurd (let z : _≡_ {A = ℕ} 0 1 = cc in omega arith)
+reading-accepted (accepted b) n position nest e = refl
+
+module _ (m : List ℕ) (bitset : Slot) (names : List ℕ) (position : ℕ) (p : List ℕ) (ep : p ≡ partOf m 0 (bitset .end)) (j : Judged)
+    (ej : j ≡ judgedAs (count names) (bitsetReading p (bitset .start) names)) where
+  by-reading : ofBitset m bitset names position ≡ onReading (bitsetReading p (bitset .start) names) (count names) position (bitset .start - 4)
+  unfolding ofBitset
+  by-reading = rw (← ep)
+
+  pub bitset-refused : (why : Refusal) (d : Decision) → j .judgement ≡ J.Refused why → d ≡ formless (P.Refused why) → d ≡ ofBitset m bitset names position
+  bitset-refused why d q e =
+      e ∙ reading-refused (bitsetReading p (bitset .start) names) (count names) position (bitset .start - 4) why (ap (λ (x : Judged). x .judgement) (sym ej) ∙ q)
+      ∙ sym by-reading
+
+  pub bitset-accepted : (nest : ℕ) → j .judgement ≡ J.Accepted → nest ≡ bitset .start - 4
+      → record { plan = P.Set position nest; form = j .form } ≡ ofBitset m bitset names position
+  bitset-accepted nest q en =
+      cc (en, ej)
+      ∙ reading-accepted (bitsetReading p (bitset .start) names) (count names) position (bitset .start - 4) (ap (λ (x : Judged). x .judgement) (sym ej) ∙ q)
+      ∙ sym by-reading
+
+pub ruleset bitset-laws = (bitset-refused, bitset-accepted)
+
+-- the header level
+module _ (m : List ℕ) (change : Bool) (roll names : List ℕ) (header bitset : Slot) (a : Aim) (ea : a ≡ aimOf m header roll) (d : Decision) where
+  pub header-refused : (why : Refusal) → a ≡ A.Refused why → d ≡ formless (P.Refused why) → d ≡ ofHeader m change roll names header bitset
+  unfolding ofHeader
+  header-refused why q e = e ∙ sym (rw (← ea, q))
+
+  module _ (position index name end flags : ℕ) (q : a ≡ A.Port position index name end flags) where
+    pub header-set : change ≡ true → d ≡ ofBitset m bitset names position → d ≡ ofHeader m change roll names header bitset
+    unfolding ofHeader
+    header-set c e = e ∙ sym (rw (← ea, q, c))
+
+    pub header-get : change ≡ false → d ≡ formless (P.Get (record { position = position; index = index; name = name; flags = flags }))
+        → d ≡ ofHeader m change roll names header bitset
+    unfolding ofHeader
+    header-get c e = e ∙ sym (rw (← ea, q, c))
+
+pub ruleset header-laws = (header-refused, header-set, header-get)
+
+-- the top level
+module _ (m : List ℕ) (command : Command) (roll debug flags : List ℕ) (t : Top) (et : t ≡ topOf m (command .change)) (d : Decision) where
+  pub decide-refused : (why : Refusal) → t ≡ T.Refused why → d ≡ formless (P.Refused why) → d ≡ decided m command roll debug flags
+  unfolding decided
+  decide-refused why q e = e ∙ sym (rw (← et, q))
+
+  pub decide-nests : (header bitset : Slot) (names : List ℕ) → t ≡ T.Nests header bitset → names ≡ ofSet (command .set) debug flags
+      → d ≡ ofHeader m (command .change) roll names header bitset → d ≡ decided m command roll debug flags
+  unfolding decided
+  decide-nests header bitset names q en e = e ∙ sym (rw (← et, q, ← en))
+
+pub ruleset decide-laws = (decide-refused, decide-nests)

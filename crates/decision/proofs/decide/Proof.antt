@@ -1,0 +1,41 @@
+use Rattle.decision.proofs.Laws.{decide-laws}
+use borrow.Author.Needs.{needs}
+use Rattle.decision.proofs.decide.Statement.{statement}
+use Rattle.decision.proofs.decide.Tie as tie
+
+read-top-requires : tie.Need-read-top-requires
+read-top-requires c κs = search needs
+
+enum-known-why : tie.Need-enum-known-why
+enum-known-why c = search needs
+
+formless-requires : tie.Need-formless-requires
+formless-requires c κs = search needs
+
+returns : tie.Need-returns
+returns c = search (needs, decide-laws)
+
+enum-known-header : tie.Need-enum-known-header
+enum-known-header c = search needs
+
+names-of-requires : tie.Need-names-of-requires
+names-of-requires c κs = search needs
+
+decide-header-requires : tie.Need-decide-header-requires
+decide-header-requires c κs = search needs
+
+returns-2 : tie.Need-returns-2
+returns-2 c = search (needs, decide-laws)
+
+pub decide-spec : {M : Type 1} → statement M
+decide-spec =
+    tie.close
+    (tie.spec
+    read-top-requires
+    enum-known-why
+    formless-requires
+    returns
+    enum-known-header
+    names-of-requires
+    decide-header-requires
+    returns-2)

@@ -1,0 +1,128 @@
+// What an admitted request asks for: judged level by level, by value. No stage here sees the page or the settings.
+ghost use mathlib.Core.Path.{_≡_};
+ghost use Rattle.decision.specs.Decision.{formless, ofBitset, ofHeader, decided};
+use admission::commands::Command;
+use bitset::judge::judge;
+use bitset_form::Form;
+use bitset_form::Judgement;
+use layout::names_of;
+use netlink::attributes::payload;
+use netlink::attributes::place;
+use netlink::walk::Slot;
+use refusal::Refusal;
+use request::aim::Aim;
+use request::aim::read_aim;
+use request::top::Top;
+use request::top::read_top;
+
+// The port that a request names: which it is, where its index and its name stand in the roll, and the flags of the request's header.
+pub struct Port {
+    pub position: usize,
+    pub index: usize,
+    pub name: usize,
+    pub flags: u32,
+}
+
+pub enum Plan {
+    Refused(Refusal),
+    Get(Port),
+    // The port whose set takes the form, and where the bitset stands in the request.
+    Set { position: usize, bitset: usize },
+}
+
+// The form stands beside the plan; it is empty where the plan is no SET.
+pub struct Decision {
+    pub plan: Plan,
+    pub form: Form,
+}
+
+// A plan that changes nothing.
+fn formless(plan: Plan) -> Decision
+    ensures { λ r. ⌜ r ≡ formless plan ⌝ }
+{
+    Decision {
+        plan,
+        form: Form {
+            mask: [0; 16],
+            value: [0; 16],
+        },
+    }
+}
+
+// The bitset of a SET. It is walked in the message cut at the nest's end, so that every place counts from the request's start.
+fn decide_bitset(m: &[u8], bitset: Slot, names: &[u8], position: usize) -> Decision
+    ensures { λ r. ⌜ r ≡ ofBitset (now (m .entry)) bitset (now (names .entry)) position ⌝ }
+{
+    let start = bitset.start;
+    let end = bitset.end;
+    let judged = judge(payload(m, 0, end), start, names);
+    let judgement = judged.judgement;
+    if let Judgement::Refused(why) = judgement {
+        return formless(Plan::Refused(why));
+    }
+    let form = judged.form;
+    Decision {
+        plan: Plan::Set {
+            position,
+            bitset: place(start),
+        },
+        form,
+    }
+}
+
+// The header level, then in a SET the bitset.
+fn decide_header(
+    m: &[u8],
+    change: bool,
+    header: Slot,
+    bitset: Slot,
+    roll: &[u8],
+    names: &[u8],
+) -> Decision
+    ensures { λ r. ⌜ r ≡ ofHeader (now (m .entry)) change (now (roll .entry)) (now (names .entry)) header bitset ⌝ }
+{
+    match read_aim(m, header, roll) {
+        Aim::Refused(why) => {
+            return formless(Plan::Refused(why));
+        }
+        Aim::Port {
+            position,
+            index,
+            name,
+            end: _,
+            flags,
+        } => {
+            if change {
+                return decide_bitset(m, bitset, names, position);
+            }
+            return formless(Plan::Get(Port {
+                position,
+                index,
+                name,
+                flags,
+            }));
+        }
+    }
+}
+
+// The top level of a message whose command is admitted, then the levels below it.
+pub fn decide<'a>(
+    m: &[u8],
+    command: Command,
+    roll: &[u8],
+    debug: &'a [u8],
+    flags: &'a [u8],
+) -> Decision
+    ensures { λ r. ⌜ r ≡ decided (now (m .entry)) command (now (roll .entry)) (now (debug .entry)) (now (flags .entry)) ⌝ }
+{
+    let set = command.set;
+    match read_top(m, command.change) {
+        Top::Refused(why) => {
+            return formless(Plan::Refused(why));
+        }
+        Top::Nests { header, bitset } => {
+            let names = names_of(set, debug, flags);
+            return decide_header(m, command.change, header, bitset, roll, names);
+        }
+    }
+}
