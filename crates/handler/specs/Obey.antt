@@ -25,6 +25,10 @@ use Rattle.reply.specs.declared.message.Heading.{Heading}
 use Rattle.request.specs.Top.{topOf}
 use Rattle.request.specs.Aim.{aimOf}
 use Rattle.admission.specs.declared.commands.Command.{Command}
+use Rattle.bitset_form.specs.declared.Form.{Form}
+use Rattle.decision.specs.declared.Plan.{Plan}
+use Rattle.decision.specs.declared.Plan.the-variants as P
+use Rattle.decision.specs.declared.Decision.{Decision}
 use Rattle.request.specs.declared.top.Top.{Top}
 use Rattle.request.specs.declared.top.Top.the-variants as T
 use Rattle.request.specs.declared.aim.Aim.{Aim}
@@ -108,3 +112,14 @@ onTop (T.Nests header bitset) m next ws f = f header bitset
 
 unfoldable pub obeyed : List ℕ → List ℕ → List ℕ → List ℕ → List ℕ → MessageHeader → ℕ → Command → Outcome
 obeyed roll debug flags ws m h next command = onTop (topOf m (command .change)) m next ws (aimed roll debug flags ws m h next command)
+
+-- what a decision comes to: "5 to 22 write one error message"; a GET is answered; a SET changes the set by its form and is acknowledged
+abbrev pub onPlan : Plan → Form → List ℕ → List ℕ → List ℕ → List ℕ → List ℕ → MessageHeader → ℕ → Command → Outcome
+onPlan (P.Refused why) form roll debug flags ws m h next command = leaves (refusal m next why) ws
+onPlan (P.Get port) form roll debug flags ws m h next command =
+    leaves (speech done next (gotten roll debug flags ws m h command (port .position) (port .index) (port .name) (port .flags))) ws
+onPlan (P.Set position nest) form roll debug flags ws m h next command =
+    record { said = speech done next (ackBytes m h); words = changedBy roll debug flags ws position (command .set) (form .mask) (form .value) }
+
+unfoldable pub carried : List ℕ → List ℕ → List ℕ → List ℕ → List ℕ → MessageHeader → ℕ → Command → Decision → Outcome
+carried roll debug flags ws m h next command d = onPlan (d .plan) (d .form) roll debug flags ws m h next command

@@ -1,4 +1,4 @@
--- Laws of obeying a command: one for each return, level by level.
+-- Laws of carrying a decision out: one for each return.
 use Prim.Native.Nat.{ℕ, _+_, _*_, _-_, _%_, _≤_, _<_}
 use mathlib.Core.Path.{_≡_, refl, sym, ap, ap₂, _∙_}
 use mathlib.Core.List.{List, []}
@@ -8,23 +8,12 @@ use lib.Dec.{eqb, leb}
 use native.Mathlib.Omega.{arith}
 use Rattle.basics.specs.Numbers.{u32At}
 use Rattle.basics.specs.Put.{splice}
-use Rattle.basics.proofs.Truth.{cond-true, cond-false}
 use Rattle.bits.specs.Set.{has, wordsOf, wordsFor}
-use Rattle.bits.specs.Change.{merge, Below}
-use Rattle.bits.proofs.Words.{has-wordsOf, wordsOf-cong, take-wordsOf}
-use Rattle.bits.proofs.Cut.{none-below}
+use Rattle.bits.specs.Change.{merge}
 use Rattle.entries.specs.Entry.{count}
 use Rattle.netlink.specs.Attributes.{partOf}
 use Rattle.netlink_headers.specs.declared.headers.MessageHeader.{MessageHeader}
-use Rattle.netlink.specs.declared.walk.Slot.{Slot}
 use Rattle.refusal.specs.declared.Refusal.{Refusal}
-use Rattle.bitset_form.specs.Bitset.{Bitset, Reading, effect, maskOf, valueOf, judgedAs}
-use Rattle.bitset_form.specs.Bitset.Reading.{refused, accepted}
-use Rattle.bitset.specs.Judge.{bitsetReading}
-use Rattle.bitset_form.specs.declared.Judgement.the-variants as J
-use Rattle.bitset_form.specs.declared.Judged.{Judged}
-use Rattle.normal.proofs.Effect.{form-keeps-effect}
-use Rattle.normal.proofs.Fits.{accepted-fits}
 use Rattle.roll.specs.Record.{portCount}
 use Rattle.roll.specs.Name.{nameAt}
 use Rattle.layout.specs.Layout.{ofSet, words, place, setAt}
@@ -32,17 +21,13 @@ use Rattle.layout.specs.declared.Set.{Set}
 use Rattle.layout.specs.declared.Set.the-variants.{Debug, Flags}
 use Rattle.layout.proofs.Laws.{of-map, place-inside, set-length}
 use Rattle.reply.specs.declared.message.Heading.{Heading}
-use Rattle.request.specs.Top.{topOf}
-use Rattle.request.specs.Aim.{aimOf}
 use Rattle.admission.specs.declared.commands.Command.{Command}
-use Rattle.request.specs.declared.top.Top.{Top}
-use Rattle.request.specs.declared.top.Top.the-variants as T
-use Rattle.request.specs.declared.aim.Aim.{Aim}
-use Rattle.request.specs.declared.aim.Aim.the-variants as A
-use Rattle.request.proofs.aim.Place.{aimed-in}
 use Rattle.response.specs.Answer.{Speech, speech, done, refusal, ackBytes, leaves, Said, Did}
-use Rattle.handler.specs.Obey.{shown}
-use Rattle.handler.specs.Obey.{Fit, placeIn, widthIn, setOf, changedBy, gotten, onReading, setOutcome, deed, aimed, obeyed}
+use Rattle.decision.specs.declared.Port.{Port}
+use Rattle.decision.specs.declared.Plan.{Plan}
+use Rattle.decision.specs.declared.Plan.the-variants as Pl
+use Rattle.decision.specs.declared.Decision.{Decision}
+use Rattle.handler.specs.Obey.{Fit, placeIn, widthIn, setOf, changedBy, shown, gotten, onPlan, carried}
 use Rattle.reply.specs.Message.{headingOf}
 use Rattle.response.specs.declared.Answer.{Answer}
 
@@ -145,111 +130,31 @@ change-told roll debug flags ws mask value new position at w set ea ew e = e ∙
 
 pub ruleset change-laws = (apply-width, apply-room, change-told)
 
--- SET
-judged-refused : (n : ℕ) (x : Reading) (y : Refusal) → judgedAs n x .judgement ≡ J.Refused y → x ≡ refused y
-unfolding judgedAs
-judged-refused n (refused r) y e = ap refused (cc)
-judged-refused n (accepted b) y e = absurd (let z : _≡_ {A = ℕ} 0 1 = cc in omega arith)
+-- a decision carried out
+module _ (roll debug flags ws m : List ℕ) (h : MessageHeader) (next : ℕ) (command : Command) (d : Decision) (P Q : List ℕ) (r : Answer) where
+  pub carry-refused : (why : Refusal) → d .plan ≡ Pl.Refused why → Said (refusal m next why) P Q r → Did (carried roll debug flags ws m h next command d) P Q ws r
+  unfolding carried
+  carry-refused why q s = go (d .plan) q
+    where
+      go : (p : Plan) → p ≡ Pl.Refused why → Did (onPlan p (d .form) roll debug flags ws m h next command) P Q ws r
+      go p e = rw e (leaves-did (refusal m next why) P Q ws r s)
 
-module _ (roll debug flags ws m : List ℕ) (h : MessageHeader) (next position : ℕ) (set : Set) (bitset : Slot) (p ns : List ℕ) (ep : p ≡ partOf m 0 (bitset .end))
-    (ens : ns ≡ ofSet set debug flags) (j : Judged) (ej : j ≡ judgedAs (count ns) (bitsetReading p (bitset .start) ns)) where
-  by-reading : setOutcome roll debug flags ws m h next position set bitset ≡ onReading (bitsetReading p (bitset .start) ns) roll debug flags ws m h next position set
-  unfolding setOutcome
-  by-reading = rw (← ep, ← ens)
+  pub carry-get : (port : Port) → d .plan ≡ Pl.Get port
+      → Said (speech done next (gotten roll debug flags ws m h command (port .position) (port .index) (port .name) (port .flags))) P Q r
+      → Did (carried roll debug flags ws m h next command d) P Q ws r
+  unfolding carried
+  carry-get port q s = go (d .plan) q
+    where
+      go : (p : Plan) → p ≡ Pl.Get port → Did (onPlan p (d .form) roll debug flags ws m h next command) P Q ws r
+      go p e = rw e (leaves-did _ P Q ws r s)
 
-  pub set-refused : (why : Refusal) (P Q : List ℕ) (r : Answer) → j .judgement ≡ J.Refused why → Said (refusal m next why) P Q r
-      → Did (setOutcome roll debug flags ws m h next position set bitset) P Q ws r
-  set-refused why P Q r q s =
-      let x = judged-refused (count ns) (bitsetReading p (bitset .start) ns) why (ap (λ (y : Judged). y .judgement) (sym ej) ∙ q) in
-      rw (by-reading, x) (leaves-did (refusal m next why) P Q ws r s)
+  pub carry-set : (position nest : ℕ) (new : List ℕ) → d .plan ≡ Pl.Set position nest
+      → new ≡ changedBy roll debug flags ws position (command .set) (d .form .mask) (d .form .value) → Said (speech done next (ackBytes m h)) P Q r
+      → Did (carried roll debug flags ws m h next command d) P Q new r
+  unfolding carried
+  carry-set position nest new q e s = go (d .plan) q
+    where
+      go : (p : Plan) → p ≡ Pl.Set position nest → Did (onPlan p (d .form) roll debug flags ws m h next command) P Q new r
+      go p i = rw i (record { said = s; settings = e })
 
-  module _ (fit : Fit roll debug flags ws) (here : position < portCount roll) where
-    held : List ℕ
-    held = setOf roll debug flags ws position set
-
-    held-is : take (widthIn debug flags set) (drop (placeIn roll debug flags position set) ws) ≡ held
-    unfolding held setOf setAt widthIn placeIn
-    held-is = refl
-
-    below : Below (count ns) (has held)
-    unfolding held setOf
-    below = rw (ens, of-map count set debug flags) (none-below held (ofSet set (count debug) (count flags)) (fit .clear position here set))
-
-    few : widthIn debug flags set ≤ 16
-    few = apply-width roll debug flags ws (widthIn debug flags set) set fit refl
-
-    bit-of : (f : ℕ → Bool) (i : ℕ) → i < widthIn debug flags set * 32 → has (take (widthIn debug flags set) (wordsOf 16 f)) i ≡ f i
-    bit-of f i l = ap (λ (z : List ℕ). has z i) (take-wordsOf (widthIn debug flags set) 16 f few) ∙ has-wordsOf (widthIn debug flags set) f i l
-
-    changed : (b : Bitset) → bitsetReading p (bitset .start) ns ≡ accepted b
-        → changedBy roll debug flags ws position set (wordsOf 16 (maskOf (count ns) b)) (wordsOf 16 (valueOf b))
-        ≡ splice (placeIn roll debug flags position set) ws (wordsOf (widthIn debug flags set) (effect b (has (setOf roll debug flags ws position set))))
-    unfolding changedBy held
-    changed b e =
-        let fits = accepted-fits p (bitset .start) ns b e in
-        ap (splice (placeIn roll debug flags position set) ws)
-        (wordsOf-cong (widthIn debug flags set) _ _
-        (λ i l. ap₂ (λ (x y : Bool). cond x y (has (take (widthIn debug flags set) (drop (placeIn roll debug flags position set) ws)) i)) (bit-of (maskOf (count ns) b) i l) (bit-of (valueOf b) i l)
-        ∙ ap (λ (z : List ℕ). cond (maskOf (count ns) b i) (valueOf b i) (has z i)) held-is
-        ∙ sym (form-keeps-effect (count ns) b fits (has held) below i)))
-
-    pub set-done : (new P Q : List ℕ) (r : Answer) → j .judgement ≡ J.Accepted → Said (speech done next (ackBytes m h)) P Q r
-        → new ≡ changedBy roll debug flags ws position set (j .form .mask) (j .form .value)
-        → Did (setOutcome roll debug flags ws m h next position set bitset) P Q new r
-    unfolding judgedAs
-    set-done new P Q r q s en =
-        rw by-reading
-        (go (bitsetReading p (bitset .start) ns) refl (ap (λ (y : Judged). y .judgement) (sym ej) ∙ q)
-        (en ∙ ap (λ (y : Judged). changedBy roll debug flags ws position set (y .form .mask) (y .form .value)) ej))
-      where
-        go : (x : Reading) → bitsetReading p (bitset .start) ns ≡ x → judgedAs (count ns) x .judgement ≡ J.Accepted
-            → new ≡ changedBy roll debug flags ws position set (judgedAs (count ns) x .form .mask) (judgedAs (count ns) x .form .value)
-            → Did (onReading x roll debug flags ws m h next position set) P Q new r
-        go (refused y) e z u = absurd (let c : _≡_ {A = ℕ} 0 1 = cc in omega arith)
-        go (accepted b) e z u = record { said = s; settings = u ∙ changed b e }
-
-pub ruleset set-laws = (set-refused, set-done)
-
--- GET or SET
-module _ (roll debug flags ws m : List ℕ) (h : MessageHeader) (next : ℕ) (command : Command) (bitset : Slot) (position index name asked : ℕ) (P Q : List ℕ) (r : Answer) where
-  pub deed-set : (new : List ℕ) → command .change ≡ true → Did (setOutcome roll debug flags ws m h next position (command .set) bitset) P Q new r
-      → Did (deed roll debug flags ws m h next command bitset position index name asked) P Q new r
-  unfolding deed
-  deed-set new e d = rw (cond-true (command .change) (setOutcome roll debug flags ws m h next position (command .set) bitset) (leaves (speech done next (gotten roll debug flags ws m h command position index name asked)) ws) e) d
-
-  pub deed-get : command .change ≡ false → Said (speech done next (gotten roll debug flags ws m h command position index name asked)) P Q r
-      → Did (deed roll debug flags ws m h next command bitset position index name asked) P Q ws r
-  unfolding deed
-  deed-get e s = rw (cond-false (command .change) (setOutcome roll debug flags ws m h next position (command .set) bitset) (leaves (speech done next (gotten roll debug flags ws m h command position index name asked)) ws) e) (leaves-did _ P Q ws r s)
-
-pub ruleset deed-laws = (deed-set, deed-get)
-
--- the header level
-module _ (roll debug flags ws m : List ℕ) (h : MessageHeader) (next : ℕ) (command : Command) (header bitset : Slot) (a : Aim) (e : a ≡ aimOf m header roll) (P Q : List ℕ) (r : Answer) where
-  pub aim-refused : (why : Refusal) → a ≡ A.Refused why → Said (refusal m next why) P Q r → Did (aimed roll debug flags ws m h next command header bitset) P Q ws r
-  unfolding aimed
-  aim-refused why q s = rw (← e, q) (leaves-did (refusal m next why) P Q ws r s)
-
-  module _ (k i n z f : ℕ) (q : a ≡ A.Port k i n z f) where
-    pub aim-port : (new : List ℕ) → Did (deed roll debug flags ws m h next command bitset k i n f) P Q new r
-        → Did (aimed roll debug flags ws m h next command header bitset) P Q new r
-    unfolding aimed
-    aim-port new d = rw (← e, q) d
-
-pub aim-here : (roll m : List ℕ) (header : Slot) (a : Aim) (k i n z f : ℕ) → a ≡ aimOf m header roll → a ≡ A.Port k i n z f → k < portCount roll
-aim-here roll m header a k i n z f e q = aimed-in roll m header a k i n z f e q .counted
-
-pub ruleset aim-laws = (aim-refused, aim-port, aim-here)
-
--- the top level
-module _ (roll debug flags ws m : List ℕ) (h : MessageHeader) (next : ℕ) (command : Command) (t : Top) (e : t ≡ topOf m (command .change)) (P Q : List ℕ) (r : Answer) where
-  pub obey-refused : (why : Refusal) → t ≡ T.Refused why → Said (refusal m next why) P Q r → Did (obeyed roll debug flags ws m h next command) P Q ws r
-  unfolding obeyed
-  obey-refused why q s = rw (← e, q) (leaves-did (refusal m next why) P Q ws r s)
-
-  pub obey-nests : (header bitset : Slot) (new : List ℕ) → t ≡ T.Nests header bitset → Did (aimed roll debug flags ws m h next command header bitset) P Q new r
-      → Did (obeyed roll debug flags ws m h next command) P Q new r
-  unfolding obeyed
-  obey-nests header bitset new q d = rw (← e, q) d
-
-pub ruleset obey-laws = (obey-refused, obey-nests)
+pub ruleset carry-laws = (carry-refused, carry-get, carry-set)
