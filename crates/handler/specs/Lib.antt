@@ -1,2 +1,3 @@
 pub mod Obey
 pub mod Call
+pub mod Bytes

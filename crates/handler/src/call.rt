@@ -25,7 +25,7 @@ pub const PAGE: usize = 32768;
 pub const DATAGRAM: usize = 32768;
 
 // An answer that writes nothing.
-fn quiet(kind: Kind, next: usize) -> Answer
+pub fn quiet(kind: Kind, next: usize) -> Answer
     ensures { λ r. ⌜ r ≡ record { kind = kind; next = next; written = 0 } ⌝ }
 {
     Answer {

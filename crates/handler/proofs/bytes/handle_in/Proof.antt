@@ -1,8 +1,8 @@
 use native.Mathlib.Omega.{arith}
-use Rattle.ethnl.proofs.Laws.{words-told}
+use Rattle.handler.proofs.bytes.Laws.{words-told}
 use borrow.Author.Needs.{needs}
-use Rattle.ethnl.proofs.handle_in.Statement.{statement}
-use Rattle.ethnl.proofs.handle_in.Tie as tie
+use Rattle.handler.proofs.bytes.handle_in.Statement.{statement}
+use Rattle.handler.proofs.bytes.handle_in.Tie as tie
 
 read-words-requires : tie.Need-read-words-requires
 read-words-requires c κs = search needs

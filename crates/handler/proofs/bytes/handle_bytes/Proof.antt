@@ -1,15 +1,15 @@
 use lib.ListN.{length-take}
 use native.Mathlib.Omega.{arith}
-use Rattle.ethnl.proofs.Laws.{words-mean, bytes-laws}
+use Rattle.handler.proofs.bytes.Laws.{words-mean, bytes-laws}
 use borrow.Author.Needs.{needs}
-use Rattle.ethnl.proofs.handle_bytes.Statement.{statement}
-use Rattle.ethnl.proofs.handle_bytes.Tie as tie
+use Rattle.handler.proofs.bytes.handle_bytes.Statement.{statement}
+use Rattle.handler.proofs.bytes.handle_bytes.Tie as tie
 
 are-words-requires : tie.Need-are-words-requires
 are-words-requires c κs = search needs
 
-box-broken-requires : tie.Need-box-broken-requires
-box-broken-requires c κs = search needs
+quiet-requires : tie.Need-quiet-requires
+quiet-requires c κs = search needs
 
 same-length : tie.Need-same-length
 same-length c = search needs
@@ -58,7 +58,7 @@ handle-bytes-spec =
     tie.close
     (tie.spec
     are-words-requires
-    box-broken-requires
+    quiet-requires
     same-length
     returns
     array-borrow-prefix-few

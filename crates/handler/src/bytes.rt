@@ -1,0 +1,106 @@
+// The handler over settings as bytes.
+ghost use mathlib.Core.Path.{_≡_};
+ghost use Prim.Native.Nat.{_/_, _%_};
+ghost use lib.ListN.{length};
+ghost use Rattle.handler.specs.Bytes.{After, areWords, bytesOutcome, wordsOutcome};
+use crate::call::handle;
+use crate::call::quiet;
+use refusal::Refusal;
+use response::Answer;
+use response::Kind;
+
+// The most bytes that settings can have: 64 ports, two sets of 512 bits each.
+pub const SETTINGS: usize = 8192;
+
+// So few words get room of their own size: to clear room for all that a box can have would cost as much as a small call.
+const FEW: usize = 64;
+
+// The numbers that a call is given.
+pub struct Call {
+    pub family: u32,
+    pub admin: u32,
+    pub position: usize,
+}
+
+// The handler over settings as bytes, with room for their words.
+fn handle_in<'a>(
+    call: Call,
+    roll: &[u8],
+    debug: &'a [u8],
+    flags: &'a [u8],
+    settings: &mut [u8],
+    words: &mut [u32],
+    datagram: &[u8],
+    page: &mut [u8],
+) -> Answer
+    requires { ⌜ (length (now settings) % 4 ≡ 0) × (length (now words) ≡ length (now settings) / 4) ⌝ }
+    ensures { λ r. ⌜ After (wordsOutcome (call .family) (call .admin) (now (roll .entry)) (now (debug .entry)) (now (flags .entry)) (now (settings .entry)) (now (datagram .entry)) (call .position) (length (now (page .entry)))) (now (page .entry)) (now (page .exit)) (now (settings .exit)) r ⌝ }
+{
+    bits::read_words(settings, words);
+    let answer = handle(
+        call.family,
+        call.admin,
+        roll,
+        debug,
+        flags,
+        words,
+        datagram,
+        call.position,
+        page,
+    );
+    bits::write_words(words, settings);
+    answer
+}
+
+// Whether settings are whole words, and no more than any box has.
+fn are_words(settings: &[u8]) -> bool
+    ensures { λ r. ⌜ r ≡ areWords (now (settings .entry)) ⌝ }
+{
+    if settings.len() % 4 != 0 {
+        return false;
+    }
+    settings.len() <= SETTINGS
+}
+
+// Takes one message from a datagram, answers it, and keeps the settings, which are the little-endian bytes of their words. Settings that are
+// no whole words, or more than any box has, break the box.
+pub fn handle_bytes<'a>(
+    call: Call,
+    roll: &[u8],
+    debug: &'a [u8],
+    flags: &'a [u8],
+    settings: &mut [u8],
+    datagram: &[u8],
+    page: &mut [u8],
+) -> Answer
+    ensures { λ r. ⌜ After (bytesOutcome (call .family) (call .admin) (now (roll .entry)) (now (debug .entry)) (now (flags .entry)) (now (settings .entry)) (now (datagram .entry)) (call .position) (length (now (page .entry)))) (now (page .entry)) (now (page .exit)) (now (settings .exit)) r ⌝ }
+{
+    if !are_words(settings) {
+        return quiet(Kind::Refused(Refusal::Box), call.position);
+    }
+    let n = settings.len() / 4;
+    if n <= FEW {
+        let mut few = [0u32; FEW];
+        return handle_in(
+            call,
+            roll,
+            debug,
+            flags,
+            settings,
+            &mut few[..n],
+            datagram,
+            page,
+        );
+    }
+    let mut words = [0u32; 2048];
+    handle_in(
+        call,
+        roll,
+        debug,
+        flags,
+        settings,
+        &mut words[..n],
+        datagram,
+        page,
+    )
+}
