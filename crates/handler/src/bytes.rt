@@ -4,10 +4,9 @@ ghost use Prim.Native.Nat.{_/_, _%_};
 ghost use lib.ListN.{length};
 ghost use Rattle.handler.specs.Bytes.{After, areWords, bytesOutcome, wordsOutcome};
 use crate::call::handle;
-use crate::call::quiet;
+use crate::call::stay;
 use refusal::Refusal;
 use response::Answer;
-use response::Kind;
 
 // The most bytes that settings can have: 64 ports, two sets of 512 bits each.
 pub const SETTINGS: usize = 8192;
@@ -76,7 +75,7 @@ pub fn handle_bytes<'a>(
     ensures { λ r. ⌜ After (bytesOutcome (call .family) (call .admin) (now (roll .entry)) (now (debug .entry)) (now (flags .entry)) (now (settings .entry)) (now (datagram .entry)) (call .position) (length (now (page .entry)))) (now (page .entry)) (now (page .exit)) (now (settings .exit)) r ⌝ }
 {
     if !are_words(settings) {
-        return quiet(Kind::Refused(Refusal::Box), call.position);
+        return stay(Refusal::Box, call.position);
     }
     let n = settings.len() / 4;
     if n <= FEW {

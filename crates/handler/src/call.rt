@@ -3,6 +3,7 @@ ghost use mathlib.Core.Path.{_≡_};
 ghost use Prim.Native.Nat.{_≤_};
 ghost use lib.ListN.{length};
 ghost use Rattle.response.specs.Answer.{Did};
+ghost use Rattle.response.specs.declared.Kind.the-variants.{Refused};
 ghost use Rattle.handler.specs.Obey.{Fit, obeyed};
 ghost use Rattle.handler.specs.Call.{onAdmission, positionOutcome, outcome};
 use crate::obey::Asked;
@@ -25,7 +26,7 @@ pub const PAGE: usize = 32768;
 pub const DATAGRAM: usize = 32768;
 
 // An answer that writes nothing.
-pub fn quiet(kind: Kind, next: usize) -> Answer
+fn quiet(kind: Kind, next: usize) -> Answer
     ensures { λ r. ⌜ r ≡ record { kind = kind; next = next; written = 0 } ⌝ }
 {
     Answer {
@@ -33,6 +34,13 @@ pub fn quiet(kind: Kind, next: usize) -> Answer
         next,
         written: 0,
     }
+}
+
+// Refusals 1 to 4: nothing is written, and the position is given back.
+pub fn stay(why: Refusal, position: usize) -> Answer
+    ensures { λ r. ⌜ r ≡ record { kind = Refused why; next = position; written = 0 } ⌝ }
+{
+    quiet(Kind::Refused(why), position)
 }
 
 // Answers the message m, whose header is h: skipped, refused by 5 to 9, or obeyed.
@@ -87,16 +95,16 @@ fn answer_at<'a>(
 {
     match read_message(datagram, position) {
         MessageRead::Outside => {
-            return quiet(Kind::Refused(Refusal::Datagram), position);
+            return stay(Refusal::Datagram, position);
         }
         MessageRead::AtEnd => {
             return quiet(Kind::End, position);
         }
         MessageRead::Cut => {
-            return quiet(Kind::Refused(Refusal::Datagram), position);
+            return stay(Refusal::Datagram, position);
         }
         MessageRead::Misstated => {
-            return quiet(Kind::Refused(Refusal::Length), position);
+            return stay(Refusal::Length, position);
         }
         MessageRead::Message {
             header: h,
@@ -125,13 +133,13 @@ pub fn handle<'a>(
     ensures { λ r. ⌜ Did (outcome family admin (now (roll .entry)) (now (debug .entry)) (now (flags .entry)) (now (settings .entry)) (now (datagram .entry)) position (length (now (page .entry)))) (now (page .entry)) (now (page .exit)) (now (settings .exit)) r ⌝ }
 {
     if !box_right(family, admin, roll, debug, flags, settings) {
-        return quiet(Kind::Refused(Refusal::Box), position);
+        return stay(Refusal::Box, position);
     }
     if page.len() < PAGE {
-        return quiet(Kind::Refused(Refusal::Page), position);
+        return stay(Refusal::Page, position);
     }
     if DATAGRAM < datagram.len() {
-        return quiet(Kind::Refused(Refusal::Datagram), position);
+        return stay(Refusal::Datagram, position);
     }
     answer_at(
         family,

@@ -6,8 +6,8 @@ use Rattle.handler.proofs.call.handle.Tie as tie
 box-right-requires : tie.Need-box-right-requires
 box-right-requires c κs = search needs
 
-quiet-requires : tie.Need-quiet-requires
-quiet-requires c κs = search needs
+stay-requires : tie.Need-stay-requires
+stay-requires c κs = search needs
 
 same-length : tie.Need-same-length
 same-length c = search needs
@@ -15,8 +15,8 @@ same-length c = search needs
 returns : tie.Need-returns
 returns c = search (needs, call-laws)
 
-quiet-requires-2 : tie.Need-quiet-requires-2
-quiet-requires-2 c κs = search needs
+stay-requires-2 : tie.Need-stay-requires-2
+stay-requires-2 c κs = search needs
 
 same-length-2 : tie.Need-same-length-2
 same-length-2 c = search needs
@@ -24,8 +24,8 @@ same-length-2 c = search needs
 returns-2 : tie.Need-returns-2
 returns-2 c = search (needs, call-laws)
 
-quiet-requires-3 : tie.Need-quiet-requires-3
-quiet-requires-3 c κs = search needs
+stay-requires-3 : tie.Need-stay-requires-3
+stay-requires-3 c κs = search needs
 
 same-length-3 : tie.Need-same-length-3
 same-length-3 c = search needs
@@ -51,13 +51,13 @@ handle-spec =
     tie.close
     (tie.spec
     box-right-requires
-    quiet-requires
+    stay-requires
     same-length
     returns
-    quiet-requires-2
+    stay-requires-2
     same-length-2
     returns-2
-    quiet-requires-3
+    stay-requires-3
     same-length-3
     returns-3
     answer-at-requires
