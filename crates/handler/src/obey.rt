@@ -130,7 +130,7 @@ fn change(
     apply(settings, at, w, mask, value);
 }
 
-// Carries a decision out. Only here and below is the page written or a setting changed.
+// Carries a decision out: all is judged, and only now is the page written and a set changed.
 fn carry_out<'a>(
     page: &mut [u8],
     settings: &mut [u32],

@@ -129,7 +129,7 @@ module _ (roll debug flags ws : List ℕ) (fit : Fit roll debug flags ws) where
     top-is (T.Refused why) = refl
     top-is (T.Nests header bitset) = header-is header bitset
 
-    carried-is : carried roll debug flags ws m h next command (decided m command roll debug flags) ≡ obeyed roll debug flags ws m h next command
+    pub carried-is : carried roll debug flags ws m h next command (decided m command roll debug flags) ≡ obeyed roll debug flags ws m h next command
     unfolding decided obeyed
     carried-is = top-is (topOf m (command .change))
 
