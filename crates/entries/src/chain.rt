@@ -5,16 +5,24 @@ use crate::same::eight_or_less;
 use crate::same::same_entry;
 ghost use mathlib.Core.Path.{_≡_};
 ghost use Prim.Native.Nat.{_/_, _≤_, _<_};
-ghost use lib.ListN.{length};
+ghost use lib.ListN.{length, getD};
 ghost use Rattle.basics.specs.Scan.{all};
 ghost use Rattle.entries.specs.Entry.{entryAt, differs, entryNew, distinct};
 ghost use Rattle.entries.specs.Chain.{folded, spread, hashOf, lastOf, HeadRight, NextRight, IndexedIf};
 
 // A place in a table as an index.
-pub fn place(x: u16) -> usize
+fn place(x: u16) -> usize
     ensures { λ r. ⌜ r ≡ x ⌝ }
 {
     x as usize
+}
+
+// The place that a table holds at an index.
+pub fn place_in(table: &[u16], i: usize) -> usize
+    requires { ⌜ i < length (now table) ⌝ }
+    ensures { λ r. ⌜ r ≡ getD (now (table .entry)) i 0 ⌝ }
+{
+    place(table[i])
 }
 
 // Four numbers in one, each turned by bits of its own.
@@ -77,7 +85,7 @@ fn chain_new(list: &[u8], next: &[u16], i: usize, start: usize) -> bool
         if same_entry(list, i, j) {
             return false;
         }
-        p = place(next[j]);
+        p = place_in(next, j);
     }
 }
 

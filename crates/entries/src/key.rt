@@ -5,7 +5,7 @@ ghost use Rattle.entries.specs.Entry.{Spelt};
 
 // Writes the eight bytes of a name from a place on, NULs past its end, at the same place of the key. By one number of 64 bits: it is read and
 // written at once.
-pub fn spell(key: &mut [u8], name: &[u8], at: usize)
+fn spell(key: &mut [u8; 32], name: &[u8], at: usize)
     requires { ⌜ (at + 8 ≤ 32) × Spelt (now name) (now key) at ⌝ }
     ensures { λ _. ⌜ Spelt (now (name .entry)) (now (key .exit)) (at + 8) ⌝ }
 {
@@ -18,4 +18,16 @@ pub fn spell(key: &mut [u8], name: &[u8], at: usize)
     key[at + 5] = (x / 1099511627776 % 256) as u8;
     key[at + 6] = (x / 281474976710656 % 256) as u8;
     key[at + 7] = (x / 72057594037927936 % 256) as u8;
+}
+
+// The name spelt as an entry. A name longer than one is spelt as far as its 32nd byte.
+pub fn key_of(name: &[u8]) -> [u8; 32]
+    ensures { λ r. ⌜ Spelt (now (name .entry)) r 32 ⌝ }
+{
+    let mut key = [0u8; 32];
+    spell(&mut key, name, 0);
+    spell(&mut key, name, 8);
+    spell(&mut key, name, 16);
+    spell(&mut key, name, 24);
+    key
 }

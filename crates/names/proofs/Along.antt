@@ -1,7 +1,7 @@
 -- Laws of the search along a chain: every entry from p on is another name, and p is in the name's chain.
 use Prim.Native.Nat.{ℕ, zero, suc, _+_, _-_, _*_, _≤_, _<_}
 use mathlib.Core.Path.{_≡_, refl, ap, _∙_}
-use mathlib.Core.Bool.{false}
+use mathlib.Core.Bool.{Bool, false}
 use mathlib.Core.Logic.{⊎-elim}
 use mathlib.Core.List.{List}
 use native.Mathlib.Omega.{arith}
@@ -12,7 +12,7 @@ use Rattle.entries.specs.Entry.{count, entryAt, same, Spelt}
 use Rattle.entries.specs.Chain.{hashOf, lastOf, Indexed}
 use Rattle.entries.proofs.Chains.{hash-same, last-none, last-le, last-fix, last-hash}
 use Rattle.entries.proofs.Keys.{spelt-same}
-use Rattle.names.specs.Search.{isName, notFound, foundAt, lookup}
+use Rattle.names.specs.Search.{isName, noName, notFound, foundAt, lookup}
 use Rattle.names.proofs.Search.{SameBefore, same-more, name-other, name-alone, name-gone}
 
 pub record Along (names name : List ℕ) (p : ℕ) : Type 0 where
@@ -74,9 +74,9 @@ module _ (names name : List ℕ) where
                 (λ (g : k ≤ i). let e : k ≡ i = omega arith in rw e f)
                 (lt-or-ge i k)
 
-    pub along-found : (b i j q : ℕ) → b ≡ getD name 0 0 → (b ≡ 0 → ⊥) → length name ≤ 32 → Looking names name i q → SameBefore names name i j → j ≤ 32 → 32 ≤ j
+    pub along-found : (t : Bool) (i j q : ℕ) → t ≡ noName name → t ≡ false → Looking names name i q → SameBefore names name i j → j ≤ 32 → 32 ≤ j
         → foundAt i ≡ lookup names name
-    along-found b i j q e z l w s u v = name-alone names name b e z l (x .apart) i j (w .here) s u v
+    along-found t i j q e z w s u v = name-alone names name t e z (x .apart) i j (w .here) s u v
 
   pub along-on : (key : List ℕ) (i j q : ℕ) → Spelt name key 32 → Looking names name i q → j < 32 → (getD names (i * 32 + j) 0 ≡ getD key j 0 → ⊥) → Along names name q
   along-on key i j q s w l n = w .then (name-other names name i j (getD key j 0) (w .here) l (s .each j l) n)
@@ -85,7 +85,7 @@ module _ (names name : List ℕ) where
       → SameBefore names name i (j + 1)
   along-more key i j q s w l h e = same-more names name i j (getD key j 0) (w .here) l h (s .each j l) e
 
-  pub along-end : (b p : ℕ) → b ≡ getD name 0 0 → (b ≡ 0 → ⊥) → length name ≤ 32 → Along names name p → p ≡ 0 → notFound ≡ lookup names name
-  along-end b p e z l a q = name-gone names name b e z l (λ k u. a .others k (omega (arith, q)) u)
+  pub along-end : (t : Bool) (p : ℕ) → t ≡ noName name → t ≡ false → Along names name p → p ≡ 0 → notFound ≡ lookup names name
+  along-end t p e z a q = name-gone names name t e z (λ k u. a .others k (omega (arith, q)) u)
 
 pub ruleset along-laws = (along-start, along-look, along-found, along-on, along-end)

@@ -20,14 +20,20 @@ use Rattle.names.specs.Rule.{namesRight}
 use Rattle.names.specs.Search.{isName, noName, notFound, foundAt, lookup, indexable}
 use Rattle.names.proofs.Rules.{right-means}
 
-module _ (names name : List ℕ) where
-  pub name-empty : (b : ℕ) → b ≡ getD name 0 0 → b ≡ 0 → notFound ≡ lookup names name
-  unfolding lookup noName
-  name-empty b e z = sym (rw (eq-eqb (getD name 0 0) 0 (sym e ∙ z)))
+-- the names that can stand in no list
+module _ (name : List ℕ) (b : ℕ) (e : b ≡ getD name 0 0) where
+  pub no-empty : b ≡ 0 → true ≡ noName name
+  unfolding noName
+  no-empty z = sym (rw (eq-eqb (getD name 0 0) 0 (sym e ∙ z)))
 
-  pub name-long : 32 < length name → notFound ≡ lookup names name
-  unfolding lookup noName
-  name-long h = sym (rw (lt-ltb 32 (length name) h, or-true (isEmpty name)))
+  pub no-long : (b ≡ 0 → ⊥) → ltb 32 (length name) ≡ noName name
+  unfolding noName
+  no-long z = sym (rw (ne-eqb (getD name 0 0) 0 (λ q. z (e ∙ q))))
+
+module _ (names name : List ℕ) where
+  pub name-barred : (t : Bool) → t ≡ noName name → t ≡ true → notFound ≡ lookup names name
+  unfolding lookup
+  name-barred t e h = sym (rw (sym e ∙ h))
 
   -- none of the entries before i is the name
   abbrev pub NoneBefore : ℕ → Type 0
@@ -55,16 +61,15 @@ module _ (names name : List ℕ) where
   pub none-more : (i j y : ℕ) → i < count names → j < 32 → NoneBefore i → y ≡ getD name j 0 → (getD names (i * 32 + j) 0 ≡ y → ⊥) → NoneBefore (i + 1)
   none-more i j y h l s e n = first-more _ i s (name-other i j y h l e n)
 
-  module _ (b : ℕ) (e : b ≡ getD name 0 0) (z : b ≡ 0 → ⊥) (s : length name ≤ 32) where
+  module _ (t : Bool) (e : t ≡ noName name) (z : t ≡ false) where
     named : noName name ≡ false
-    unfolding noName
-    named = rw (ne-eqb (getD name 0 0) 0 (λ q. z (e ∙ q)), le-ltb 32 (length name) s)
+    named = sym e ∙ z
 
     pub name-at : (i j : ℕ) → NoneBefore i → i < count names → SameBefore i j → j ≤ 32 → 32 ≤ j → foundAt i ≡ lookup names name
     unfolding lookup isName same
-    name-at i j h l t u v =
+    name-at i j h l s u v =
         let k : j ≡ 32 = omega arith in
-        let f : first (count names) (isName names name) ≡ i = first-at (isName names name) (count names) i l h (rw k at t) in
+        let f : first (count names) (isName names name) ≡ i = first-at (isName names name) (count names) i l h (rw k at s) in
         sym (rw (named, f, lt-ltb i (count names) l))
 
     pub name-none : (i : ℕ) → NoneBefore i → i ≤ count names → count names ≤ i → notFound ≡ lookup names name
@@ -74,7 +79,7 @@ module _ (names name : List ℕ) where
         let f : first (count names) (isName names name) ≡ count names = rw k at h in
         sym (rw (named, f, le-ltb (count names) (count names) (omega arith)))
 
-pub ruleset find-laws = (name-empty, name-long, none-start, same-start, none-more, name-at, name-none)
+pub ruleset find-laws = (name-barred, none-start, same-start, none-more, name-at, name-none)
 
 -- what is found is an entry that equals the name
 module _ (names name : List ℕ) where
@@ -114,13 +119,13 @@ module _ (names name : List ℕ) where
           some = false-of (isEmpty name) (λ e. clash (rw e) n)
 
 -- as the search along a chain ends
-module _ (names name : List ℕ) (b : ℕ) (e : b ≡ getD name 0 0) (z : b ≡ 0 → ⊥) (s : length name ≤ 32) where
+module _ (names name : List ℕ) (t : Bool) (e : t ≡ noName name) (z : t ≡ false) where
   pub name-alone : distinct names ≡ true → (i j : ℕ) → i < count names → SameBefore names name i j → j ≤ 32 → 32 ≤ j → foundAt i ≡ lookup names name
   unfolding same
-  name-alone d i j h t u v = let k : j ≡ 32 = omega arith in sym (lookup-one names name d (named names name b e z s) i h (rw k at t))
+  name-alone d i j h s u v = let k : j ≡ 32 = omega arith in sym (lookup-one names name d (named names name t e z) i h (rw k at s))
 
   pub name-gone : ((k : ℕ) → k < count names → isName names name k ≡ false) → notFound ≡ lookup names name
-  name-gone f = name-none names name b e z s (count names) (none-until names name (count names) f) (omega arith) (omega arith)
+  name-gone f = name-none names name t e z (count names) (none-until names name (count names) f) (omega arith) (omega arith)
 
 -- the name of entry i, with all, some or none of the NULs that follow it, is found there
 pub lookup-name : (names : List ℕ) → namesRight names ≡ true → (i k : ℕ) → i < count names → isEmpty (entryAt names i) ≡ false → 0 < k

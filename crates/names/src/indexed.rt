@@ -5,12 +5,12 @@ ghost use Rattle.entries.specs.Chain.{HeadRight, Indexed, IndexedIf};
 ghost use Rattle.names.specs.Search.{lookup, indexable};
 use crate::Lookup;
 use crate::find_name;
-use entries::byte_at;
+use crate::no_name;
 use entries::chain::distinct_in;
 use entries::chain::hash_of;
-use entries::chain::place;
+use entries::chain::place_in;
 use entries::count;
-use entries::key::spell;
+use entries::key::key_of;
 
 // Fills the tables that lead to each name, and says whether they do: where the names are distinct, and not too many.
 pub fn index(names: &[u8], head: &mut [u16], next: &mut [u16]) -> bool
@@ -31,28 +31,23 @@ pub fn find(names: &[u8], head: &[u16], next: &[u16], name: &[u8]) -> Lookup
     requires { ⌜ Indexed (now names) (now head) (now next) ⌝ }
     ensures { λ r. ⌜ r ≡ lookup (now (names .entry)) (now (name .entry)) ⌝ }
 {
-    let none = Lookup {
-        found: false,
-        bit: 0,
-    };
-    if byte_at(name, 0) == 0 {
-        return none;
+    if no_name(name) {
+        return Lookup {
+            found: false,
+            bit: 0,
+        };
     }
-    if 32 < name.len() {
-        return none;
-    }
-    let mut key = [0u8; 32];
-    spell(&mut key, name, 0);
-    spell(&mut key, name, 8);
-    spell(&mut key, name, 16);
-    spell(&mut key, name, 24);
-    let mut p = place(head[hash_of(&key)]);
+    let key = key_of(name);
+    let mut p = place_in(head, hash_of(&key));
     'entries: loop {
         if p == 0 {
-            return none;
+            return Lookup {
+                found: false,
+                bit: 0,
+            };
         }
         let i = p - 1;
-        p = place(next[i]);
+        p = place_in(next, i);
         for j in 0..32 {
             if names[i * 32 + j] != key[j] {
                 continue 'entries;

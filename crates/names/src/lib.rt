@@ -9,7 +9,7 @@ pub use indexed::index;
 pub use indexed::look_up;
 pub use rule::names_right;
 ghost use mathlib.Core.Path.{_≡_};
-ghost use Rattle.names.specs.Search.{lookup};
+ghost use Rattle.names.specs.Search.{noName, lookup};
 
 // What a search found: whether there is such an entry, and which bit it names (0 where there is none).
 pub struct Lookup {
@@ -17,17 +17,21 @@ pub struct Lookup {
     pub bit: usize,
 }
 
+// Whether a name can stand in no list: it is empty, or longer than an entry.
+fn no_name(name: &[u8]) -> bool
+    ensures { λ r. ⌜ r ≡ noName (now (name .entry)) ⌝ }
+{
+    if byte_at(name, 0) == 0 {
+        return true;
+    }
+    32 < name.len()
+}
+
 // The entry that equals the name, which may end in NULs. The search passes to the next entry at the first byte that differs.
 pub fn find_name(names: &[u8], name: &[u8]) -> Lookup
     ensures { λ r. ⌜ r ≡ lookup (now (names .entry)) (now (name .entry)) ⌝ }
 {
-    if byte_at(name, 0) == 0 {
-        return Lookup {
-            found: false,
-            bit: 0,
-        };
-    }
-    if 32 < name.len() {
+    if no_name(name) {
         return Lookup {
             found: false,
             bit: 0,

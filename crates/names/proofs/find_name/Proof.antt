@@ -3,7 +3,7 @@ use Prim.Native.Nat.{_≤_, _<_, _-_}
 use mathlib.Core.Path.{_≡_}
 use native.Mathlib.Omega.{arith}
 use borrow.Author.Needs.{needs}
-use Rattle.names.proofs.Search.{NoneBefore, SameBefore, same-more, find-laws}
+use Rattle.names.proofs.Search.{NoneBefore, SameBefore, name-barred, none-start, same-start, same-more, none-more, name-at, name-none}
 use Rattle.names.proofs.find_name.Statement.{statement}
 use Rattle.names.proofs.find_name.Tie as tie
 
@@ -19,56 +19,53 @@ Inv-entries names name n i₀ i = (i ≤ n) × NoneBefore names name i
 abbrev μ-entries : tie.MeasureT-entries
 μ-entries names name n i₀ i = n - i
 
-byte-at-requires : tie.Need-byte-at-requires Inv-loop μ-loop Inv-entries μ-entries
-byte-at-requires c κs = search (needs, find-laws)
+no-name-requires : tie.Need-no-name-requires Inv-loop μ-loop Inv-entries μ-entries
+no-name-requires c κs = search needs
 
 returns : tie.Need-returns Inv-loop μ-loop Inv-entries μ-entries
-returns c = search (needs, find-laws)
-
-returns-2 : tie.Need-returns-2 Inv-loop μ-loop Inv-entries μ-entries
-returns-2 c = search (needs, find-laws)
+returns c = search (needs, name-barred)
 
 entries-holds : tie.Need-entries-holds Inv-loop μ-loop Inv-entries μ-entries
-entries-holds c = search (needs, find-laws)
+entries-holds c = search (needs, none-start)
 
 loop-holds : tie.Need-loop-holds Inv-loop μ-loop Inv-entries μ-entries
-loop-holds c = search (needs, find-laws)
+loop-holds c = search (needs, same-start)
 
-mul-if3 : tie.Need-mul-if3 Inv-loop μ-loop Inv-entries μ-entries
-mul-if3 c = search (needs, find-laws)
+mul-if2 : tie.Need-mul-if2 Inv-loop μ-loop Inv-entries μ-entries
+mul-if2 c = search needs
 
-add-if3 : tie.Need-add-if3 Inv-loop μ-loop Inv-entries μ-entries
-add-if3 c = search (needs, find-laws)
+add-if2 : tie.Need-add-if2 Inv-loop μ-loop Inv-entries μ-entries
+add-if2 c = search needs
 
-shared-slice-read-if3 : tie.Need-shared-slice-read-if3 Inv-loop μ-loop Inv-entries μ-entries
-shared-slice-read-if3 c = search (needs, find-laws)
+shared-slice-read-if2 : tie.Need-shared-slice-read-if2 Inv-loop μ-loop Inv-entries μ-entries
+shared-slice-read-if2 c = search needs
 
-byte-at-requires-2 : tie.Need-byte-at-requires-2 Inv-loop μ-loop Inv-entries μ-entries
-byte-at-requires-2 c κs = search (needs, find-laws)
+byte-at-requires : tie.Need-byte-at-requires Inv-loop μ-loop Inv-entries μ-entries
+byte-at-requires c κs = search needs
 
 add-i : tie.Need-add-i Inv-loop μ-loop Inv-entries μ-entries
-add-i c = search (needs, find-laws)
+add-i c = search needs
 
 entries-less : tie.Need-entries-less Inv-loop μ-loop Inv-entries μ-entries
-entries-less c = search (needs, find-laws)
+entries-less c = search needs
 
 entries-again : tie.Need-entries-again Inv-loop μ-loop Inv-entries μ-entries
-entries-again c = search (needs, find-laws)
+entries-again c = search (needs, none-more)
 
 add-j : tie.Need-add-j Inv-loop μ-loop Inv-entries μ-entries
-add-j c = search (needs, find-laws)
+add-j c = search needs
 
 loop-less : tie.Need-loop-less Inv-loop μ-loop Inv-entries μ-entries
-loop-less c = search (needs, find-laws)
+loop-less c = search needs
 
 loop-again : tie.Need-loop-again Inv-loop μ-loop Inv-entries μ-entries
-loop-again c = (search needs, omega arith, search needs, search needs, same-more _ _ _ _ _ (search needs) (search needs) (search needs) (c .before .byte-at2 .ensures) (c .if3 .left))
+loop-again c = (search needs, omega arith, search needs, search needs, same-more _ _ _ _ _ (search needs) (search needs) (search needs) (c .before .byte-at .ensures) (c .if2 .left))
+
+returns-2 : tie.Need-returns-2 Inv-loop μ-loop Inv-entries μ-entries
+returns-2 c = search (needs, name-at)
 
 returns-3 : tie.Need-returns-3 Inv-loop μ-loop Inv-entries μ-entries
-returns-3 c = search (needs, find-laws)
-
-returns-4 : tie.Need-returns-4 Inv-loop μ-loop Inv-entries μ-entries
-returns-4 c = search (needs, find-laws)
+returns-3 c = search (needs, name-none)
 
 pub find-name-spec : {M : Type 1} → statement M
 find-name-spec =
@@ -78,20 +75,19 @@ find-name-spec =
     μ-loop
     Inv-entries
     μ-entries
-    byte-at-requires
+    no-name-requires
     returns
-    returns-2
     entries-holds
     loop-holds
-    mul-if3
-    add-if3
-    shared-slice-read-if3
-    byte-at-requires-2
+    mul-if2
+    add-if2
+    shared-slice-read-if2
+    byte-at-requires
     add-i
     entries-less
     entries-again
     add-j
     loop-less
     loop-again
-    returns-3
-    returns-4)
+    returns-2
+    returns-3)

@@ -27,20 +27,14 @@ same-entry-requires c κs = search needs
 returns-2 : tie.Need-returns-2 Inv-loop μ-loop
 returns-2 c = let s = c .before .before .before .before .before .before in walk-same _ _ (s .pre .0 .0) _ _ (omega arith) (c .before .same-entry .ensures) (c .if2 .taken)
 
-mul-place : tie.Need-mul-place Inv-loop μ-loop
-mul-place c = search needs
-
-shared-slice-read-place : tie.Need-shared-slice-read-place Inv-loop μ-loop
-shared-slice-read-place c = search needs
-
-place-requires : tie.Need-place-requires Inv-loop μ-loop
-place-requires c κs = search needs
+place-in-requires : tie.Need-place-in-requires Inv-loop μ-loop
+place-in-requires c κs = search needs
 
 loop-less : tie.Need-loop-less Inv-loop μ-loop
-loop-less c = let s = c .before .before .before .before .before .before .before .before in walk-less _ _ (s .pre .0 .0) _ _ _ (s .args .next .now) (c .before .before .before .before .before .loop .inv) (c .before .before .before .before .if1 .left) refl (c .place .ensures) (s .pre .1 .0)
+loop-less c = let s = c .before .before .before .before .before .before .before in walk-less _ _ (s .pre .0 .0) _ _ _ (s .args .next .now) (c .before .before .before .before .loop .inv) (c .before .before .before .if1 .left) refl (c .place-in .ensures) (s .pre .1 .0)
 
 loop-again : tie.Need-loop-again Inv-loop μ-loop
-loop-again c = let s = c .before .before .before .before .before .before .before .before in walk-next _ _ (s .pre .0 .0) _ _ _ (s .args .next .now) (c .before .before .before .before .before .loop .inv) (c .before .before .before .before .if1 .left) refl (c .place .ensures) (s .pre .1 .0) _ (c .before .before .before .same-entry .ensures) (c .before .before .if2 .left)
+loop-again c = let s = c .before .before .before .before .before .before .before in walk-next _ _ (s .pre .0 .0) _ _ _ (s .args .next .now) (c .before .before .before .before .loop .inv) (c .before .before .before .if1 .left) refl (c .place-in .ensures) (s .pre .1 .0) _ (c .before .before .same-entry .ensures) (c .before .if2 .left)
 
 pub chain-new-spec : {M : Type 1} → statement M
 chain-new-spec =
@@ -53,8 +47,6 @@ chain-new-spec =
     sub-j
     same-entry-requires
     returns-2
-    mul-place
-    shared-slice-read-place
-    place-requires
+    place-in-requires
     loop-less
     loop-again)

@@ -17,31 +17,31 @@ abbrev μ-loop : tie.MeasureT-loop
 μ-loop names i₀ i-end i = length names / 32 - i
 
 loop-holds : tie.Need-loop-holds Inv-loop μ-loop
-loop-holds c = search (needs, each-start, high-is, each-not, each-more, each-done)
+loop-holds c = search (needs, each-start)
 
 mul-sixteen-right : tie.Need-mul-sixteen-right Inv-loop μ-loop
-mul-sixteen-right c = search (needs, each-start, high-is, each-not, each-more, each-done)
+mul-sixteen-right c = search needs
 
 add-sixteen-right : tie.Need-add-sixteen-right Inv-loop μ-loop
-add-sixteen-right c = search (needs, each-start, high-is, each-not, each-more, each-done)
+add-sixteen-right c = search needs
 
 sixteen-right-requires : tie.Need-sixteen-right-requires Inv-loop μ-loop
-sixteen-right-requires c κs = search (needs, each-start, high-is, each-not, each-more, each-done)
+sixteen-right-requires c κs = search needs
 
 returns : tie.Need-returns Inv-loop μ-loop
-returns c = search (needs, each-start, high-is, each-not, each-more, each-done)
+returns c = search (needs, high-is, each-not)
 
 add-i : tie.Need-add-i Inv-loop μ-loop
-add-i c = search (needs, each-start, high-is, each-not, each-more, each-done)
+add-i c = search needs
 
 loop-less : tie.Need-loop-less Inv-loop μ-loop
-loop-less c = search (needs, each-start, high-is, each-not, each-more, each-done)
+loop-less c = search needs
 
 loop-again : tie.Need-loop-again Inv-loop μ-loop
-loop-again c = search (needs, each-start, high-is, each-not, each-more, each-done)
+loop-again c = search (needs, high-is, each-more)
 
 returns-2 : tie.Need-returns-2 Inv-loop μ-loop
-returns-2 c = search (needs, each-start, high-is, each-not, each-more, each-done)
+returns-2 c = search (needs, each-done)
 
 pub high-right-spec : {M : Type 1} → statement M
 high-right-spec =

@@ -18,40 +18,40 @@ abbrev μ-loop : tie.MeasureT-loop
 μ-loop names i₀ i-end i = length names / 32 - i
 
 loop-holds : tie.Need-loop-holds Inv-loop μ-loop
-loop-holds c = search (needs, each-start, low-end, low-not, low-more, each-done)
+loop-holds c = search (needs, each-start)
 
 mul-if1 : tie.Need-mul-if1 Inv-loop μ-loop
-mul-if1 c = search (needs, each-start, low-end, low-not, low-more, each-done)
+mul-if1 c = search needs
 
 add-if1 : tie.Need-add-if1 Inv-loop μ-loop
-add-if1 c = search (needs, each-start, low-end, low-not, low-more, each-done)
+add-if1 c = search needs
 
 shared-slice-read-if1 : tie.Need-shared-slice-read-if1 Inv-loop μ-loop
-shared-slice-read-if1 c = search (needs, each-start, low-end, low-not, low-more, each-done)
+shared-slice-read-if1 c = search needs
 
 returns : tie.Need-returns Inv-loop μ-loop
-returns c = search (needs, each-start, low-end, low-not, low-more, each-done)
+returns c = search (needs, low-end, low-not)
 
 mul-sixteen-right : tie.Need-mul-sixteen-right Inv-loop μ-loop
-mul-sixteen-right c = search (needs, each-start, low-end, low-not, low-more, each-done)
+mul-sixteen-right c = search needs
 
 sixteen-right-requires : tie.Need-sixteen-right-requires Inv-loop μ-loop
-sixteen-right-requires c κs = search (needs, each-start, low-end, low-not, low-more, each-done)
+sixteen-right-requires c κs = search needs
 
 returns-2 : tie.Need-returns-2 Inv-loop μ-loop
-returns-2 c = search (needs, each-start, low-end, low-not, low-more, each-done)
+returns-2 c = search (needs, low-end, low-not)
 
 add-i : tie.Need-add-i Inv-loop μ-loop
-add-i c = search (needs, each-start, low-end, low-not, low-more, each-done)
+add-i c = search needs
 
 loop-less : tie.Need-loop-less Inv-loop μ-loop
-loop-less c = search (needs, each-start, low-end, low-not, low-more, each-done)
+loop-less c = search needs
 
 loop-again : tie.Need-loop-again Inv-loop μ-loop
 loop-again c = (omega arith, low-more _ _ _ (c .before .sixteen-right .ensures) (search needs) (search needs) (c .if2 .left))
 
 returns-3 : tie.Need-returns-3 Inv-loop μ-loop
-returns-3 c = search (needs, each-start, low-end, low-not, low-more, each-done)
+returns-3 c = search (needs, each-done)
 
 pub low-right-spec : {M : Type 1} → statement M
 low-right-spec =
