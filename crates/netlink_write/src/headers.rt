@@ -1,7 +1,9 @@
 // The three wire structures of fixed size.
 ghost use mathlib.Core.Path.{_≡_};
 ghost use Prim.Native.Nat.{_≤_};
+ghost use mathlib.Core.List.{_++_};
 ghost use lib.ListN.{length};
+ghost use Rattle.basics.specs.Numbers.{le16, le32};
 ghost use Rattle.basics.specs.Put.{put};
 ghost use Rattle.netlink_write.specs.Headers.{messageHeaderBytes, genericHeaderBytes, attributeHeaderBytes};
 use crate::numbers::put_u16;
@@ -9,16 +11,32 @@ use crate::numbers::put_u32;
 use netlink_headers::headers::GenericHeader;
 use netlink_headers::headers::MessageHeader;
 
+// Two numbers of 16 bits: 4 bytes.
+fn put_two_u16(page: &mut [u8], first: u16, second: u16)
+    requires { ⌜ 4 ≤ length (now page) ⌝ }
+    ensures { λ _. ⌜ now (page .exit) ≡ put (now (page .entry)) (le16 first ++ le16 second) ⌝ }
+{
+    put_u16(page, first);
+    put_u16(&mut page[2..], second);
+}
+
+// Two numbers of 32 bits: 8 bytes.
+fn put_two_u32(page: &mut [u8], first: u32, second: u32)
+    requires { ⌜ 8 ≤ length (now page) ⌝ }
+    ensures { λ _. ⌜ now (page .exit) ≡ put (now (page .entry)) (le32 first ++ le32 second) ⌝ }
+{
+    put_u32(page, first);
+    put_u32(&mut page[4..], second);
+}
+
 // 16 bytes.
 pub fn put_message_header(page: &mut [u8], h: MessageHeader)
     requires { ⌜ 16 ≤ length (now page) ⌝ }
     ensures { λ _. ⌜ now (page .exit) ≡ put (now (page .entry)) (messageHeaderBytes h) ⌝ }
 {
     put_u32(page, h.length);
-    put_u16(&mut page[4..], h.kind);
-    put_u16(&mut page[6..], h.flags);
-    put_u32(&mut page[8..], h.sequence);
-    put_u32(&mut page[12..], h.port);
+    put_two_u16(&mut page[4..], h.kind, h.flags);
+    put_two_u32(&mut page[8..], h.sequence, h.port);
 }
 
 // 4 bytes.
@@ -37,6 +55,5 @@ pub fn put_attribute_header(page: &mut [u8], stated: u16, kind: u16)
     requires { ⌜ 4 ≤ length (now page) ⌝ }
     ensures { λ _. ⌜ now (page .exit) ≡ put (now (page .entry)) (attributeHeaderBytes stated kind) ⌝ }
 {
-    put_u16(page, stated);
-    put_u16(&mut page[2..], kind);
+    put_two_u16(page, stated, kind);
 }

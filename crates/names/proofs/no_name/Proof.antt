@@ -2,9 +2,6 @@ use Rattle.names.proofs.Search.{no-empty, no-long}
 use borrow.Author.Needs.{needs}
 use Rattle.names.proofs.no_name.Statement.{statement}
 use Rattle.names.proofs.no_name.Tie as tie
-use Rattle.names.proofs.no_name.Reads as reads
-use Rattle.names.proofs.no_name.Lts as lts
-use Rattle.entries.proofs.byte_at.Reads as byte-at-reads
 
 byte-at-requires : tie.Need-byte-at-requires
 byte-at-requires c κs = search needs

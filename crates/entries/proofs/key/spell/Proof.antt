@@ -2,9 +2,6 @@ use Rattle.entries.proofs.Keys.{eight-spelt}
 use borrow.Author.Needs.{needs}
 use Rattle.entries.proofs.key.spell.Statement.{statement}
 use Rattle.entries.proofs.key.spell.Tie as tie
-use Rattle.entries.proofs.key.spell.Reads as reads
-use Rattle.entries.proofs.key.spell.Lts as lts
-use Rattle.entries.proofs.same.eight_or_less.Reads as eight-or-less-reads
 
 eight-or-less-requires : tie.Need-eight-or-less-requires
 eight-or-less-requires c κs = search needs

@@ -8,12 +8,6 @@ use Rattle.names.proofs.Search.{SameBefore, name-barred, same-start}
 use Rattle.names.proofs.Along.{Along, Looking, along-start, along-look, along-found, along-on, along-more, along-end}
 use Rattle.names.proofs.indexed.find.Statement.{statement}
 use Rattle.names.proofs.indexed.find.Tie as tie
-use Rattle.names.proofs.indexed.find.Reads as reads
-use Rattle.names.proofs.indexed.find.Lts as lts
-use Rattle.entries.proofs.chain.hash_of.Reads as hash-of-reads
-use Rattle.entries.proofs.chain.place_in.Reads as place-in-reads
-use Rattle.entries.proofs.key.key_of.Reads as key-of-reads
-use Rattle.names.proofs.no_name.Reads as no-name-reads
 
 abbrev Inv-loop : tie.InvT-loop
 Inv-loop names head next name key p i j₀ j = (j ≤ 32) × SameBefore names name i j × Looking names name i p × Spelt name key 32
