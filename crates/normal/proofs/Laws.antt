@@ -12,6 +12,7 @@ use Rattle.bits.specs.Set.{wordsOf}
 use Rattle.entries.specs.Entry.{count}
 use Rattle.names.specs.Rule.{namesRight}
 use Rattle.names.proofs.Rules.{right-means}
+use Rattle.refusal.specs.Refusal.{numberOf}
 use Rattle.refusal.specs.declared.Refusal.{Refusal}
 use Rattle.refusal.specs.declared.Refusal.the-variants.{Box, Page, Datagram}
 use Rattle.bitset_form.specs.Bitset.{Reading, maskOf, valueOf, judgedAs}
@@ -23,6 +24,9 @@ use Rattle.netlink_write.specs.Page.{Wrote}
 use Rattle.bitset_write.specs.Form.{formBytes}
 use Rattle.normal.specs.Normal.{normalForm, Outcome, refusedBy, onReading, normalised, shown, Normalised}
 use Rattle.normal.specs.declared.Normal.{Normal}
+
+pub refused-as : (y : Refusal) (k : ℕ) → k ≡ numberOf y → record { number = k; written = 0 } ≡ shown (refusedBy y)
+refused-as y k e = ap (λ (x : ℕ). record { number = x; written = 0 }) e
 
 -- a refusal writes nothing
 quiet : (o : Outcome) (y : Refusal) (P : List ℕ) (r : Normal) → r ≡ shown (refusedBy y) → o ≡ refusedBy y → Normalised o P P r
@@ -89,5 +93,3 @@ module _ (contents names P : List ℕ) (t : Bool) (et : t ≡ namesRight names) 
             rw read
             (written (count names) (bitsetReading contents 0 names) P Q (j .form .mask) (j .form .value) w (ap (λ (x : Judged). x .judgement) (sym ej) ∙ q)
             (ap (λ (x : Judged). x .form .mask) ej) (ap (λ (x : Judged). x .form .value) ej) (rw en at h))
-
-pub ruleset normal-laws = (normal-box, normal-few, normal-page, normal-long, normal-refused, normal-accepted)
