@@ -57,13 +57,28 @@ written n (accepted b) P Q m v w e em ev h =
     both : formBytes n m v ≡ formBytes n (wordsOf 16 (maskOf n b)) (wordsOf 16 (valueOf b))
     both = rw (em, ev)
 
+-- the contents judged, and the form written
+module _ (contents names P : List ℕ) (j : Judged) (ej : j ≡ judgedAs (count names) (bitsetReading contents 0 names)) where
+  pub put-refused : (y : Refusal) (r : Normal) → j .judgement ≡ Refused y → r ≡ shown (refusedBy y)
+      → Normalised (onReading (bitsetReading contents 0 names) (count names)) P P r
+  put-refused y r q e =
+      quiet _ y P r e
+      (ap (λ (x : Reading). onReading x (count names))
+      (reading-refused (count names) (bitsetReading contents 0 names) y (ap (λ (x : Judged). x .judgement) (sym ej) ∙ q)))
+
+  pub put-accepted : (n w : ℕ) (Q : List ℕ) → n ≡ count names → j .judgement ≡ Accepted → Wrote (formBytes n (j .form .mask) (j .form .value)) P Q w
+      → Normalised (onReading (bitsetReading contents 0 names) (count names)) P Q (record { number = 0; written = w })
+  put-accepted n w Q en q h =
+      written (count names) (bitsetReading contents 0 names) P Q (j .form .mask) (j .form .value) w (ap (λ (x : Judged). x .judgement) (sym ej) ∙ q)
+      (ap (λ (x : Judged). x .form .mask) ej) (ap (λ (x : Judged). x .form .value) ej) (rw en at h)
+
 module _ (contents names P : List ℕ) (t : Bool) (et : t ≡ namesRight names) where
   pub normal-box : (r : Normal) → not t ≡ true → r ≡ shown (refusedBy Box) → Normalised (normalised contents names (length P)) P P r
   unfolding normalised
   normal-box r z e = quiet _ Box P r e (rw (← et, z))
 
-  pub normal-few : (n : ℕ) → not t ≡ false → n ≡ count names → n ≤ 512
-  normal-few n z e = rw e (right-means names (sym et ∙ not-false t z) .few)
+  pub normal-few : not t ≡ false → count names ≤ 512
+  normal-few z = right-means names (sym et ∙ not-false t z) .few
 
   module _ (right : not t ≡ false) where
     pub normal-page : (r : Normal) → length P < 144 → r ≡ shown (refusedBy Page) → Normalised (normalised contents names (length P)) P P r
@@ -75,21 +90,10 @@ module _ (contents names P : List ℕ) (t : Bool) (et : t ≡ namesRight names) 
       unfolding normalised
       normal-long r l e = quiet _ Datagram P r e (rw (← et, right, le-ltb _ _ room, lt-ltb _ _ l))
 
-      module _ (short : length contents ≤ 32768) (j : Judged) (ej : j ≡ judgedAs (count names) (bitsetReading contents 0 names)) where
-        read : normalised contents names (length P) ≡ onReading (bitsetReading contents 0 names) (count names)
-        unfolding normalised
-        read = rw (← et, right, le-ltb _ _ room, le-ltb _ _ short)
-
-        pub normal-refused : (y : Refusal) (r : Normal) → j .judgement ≡ Refused y → r ≡ shown (refusedBy y)
-            → Normalised (normalised contents names (length P)) P P r
-        normal-refused y r q e =
-            quiet _ y P r e
-            (read ∙ ap (λ (x : Reading). onReading x (count names))
-            (reading-refused (count names) (bitsetReading contents 0 names) y (ap (λ (x : Judged). x .judgement) (sym ej) ∙ q)))
-
-        pub normal-accepted : (n w : ℕ) (Q : List ℕ) → n ≡ count names → j .judgement ≡ Accepted → Wrote (formBytes n (j .form .mask) (j .form .value)) P Q w
-            → Normalised (normalised contents names (length P)) P Q (record { number = 0; written = w })
-        normal-accepted n w Q en q h =
-            rw read
-            (written (count names) (bitsetReading contents 0 names) P Q (j .form .mask) (j .form .value) w (ap (λ (x : Judged). x .judgement) (sym ej) ∙ q)
-            (ap (λ (x : Judged). x .form .mask) ej) (ap (λ (x : Judged). x .form .value) ej) (rw en at h))
+      pub normal-judged : (r : Normal) (Q : List ℕ) → length contents ≤ 32768 → Normalised (onReading (bitsetReading contents 0 names) (count names)) P Q r
+          → Normalised (normalised contents names (length P)) P Q r
+      unfolding normalised
+      normal-judged r Q short h = rw read h
+        where
+          read : normalised contents names (length P) ≡ onReading (bitsetReading contents 0 names) (count names)
+          read = rw (← et, right, le-ltb _ _ room, le-ltb _ _ short)

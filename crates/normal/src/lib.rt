@@ -1,7 +1,10 @@
 // The normaliser: a bitset's contents to the bytes of its normal form.
 ghost use mathlib.Core.Path.{_≡_};
+ghost use Prim.Native.Nat.{_≤_};
 ghost use lib.ListN.{length};
-ghost use Rattle.normal.specs.Normal.{normalised, Normalised, shown, refusedBy};
+ghost use Rattle.entries.specs.Entry.{count};
+ghost use Rattle.bitset.specs.Judge.{bitsetReading};
+ghost use Rattle.normal.specs.Normal.{onReading, normalised, Normalised, shown, refusedBy};
 use bitset::judge::judge;
 use bitset_form::Judgement;
 use bitset_write::form::put_form;
@@ -26,6 +29,23 @@ fn refused(why: Refusal) -> Normal
     }
 }
 
+// Judges the contents, and writes the normal form of a bitset that is accepted.
+fn put_normal(contents: &[u8], names: &[u8], page: &mut [u8]) -> Normal
+    requires { ⌜ (count (now names) ≤ 512) × (144 ≤ length (now page)) ⌝ }
+    ensures { λ r. ⌜ Normalised (onReading (bitsetReading (now (contents .entry)) 0 (now (names .entry))) (count (now (names .entry)))) (now (page .entry)) (now (page .exit)) r ⌝ }
+{
+    let judged = judge(contents, 0, names);
+    let judgement = judged.judgement;
+    if let Judgement::Refused(why) = judgement {
+        return refused(why);
+    }
+    let form = judged.form;
+    let mask = form.mask;
+    let value = form.value;
+    let written = put_form(page, names::count(names), mask, value);
+    Normal { number: 0, written }
+}
+
 // Normalises the contents of a bitset for the set that a list names. Bytes of the page past the form stay.
 pub fn normalise(contents: &[u8], names: &[u8], page: &mut [u8]) -> Normal
     ensures { λ r. ⌜ Normalised (normalised (now (contents .entry)) (now (names .entry)) (length (now (page .entry)))) (now (page .entry)) (now (page .exit)) r ⌝ }
@@ -39,14 +59,5 @@ pub fn normalise(contents: &[u8], names: &[u8], page: &mut [u8]) -> Normal
     if CONTENTS < contents.len() {
         return refused(Refusal::Datagram);
     }
-    let judged = judge(contents, 0, names);
-    let judgement = judged.judgement;
-    if let Judgement::Refused(why) = judgement {
-        return refused(why);
-    }
-    let form = judged.form;
-    let mask = form.mask;
-    let value = form.value;
-    let written = put_form(page, names::count(names), mask, value);
-    Normal { number: 0, written }
+    put_normal(contents, names, page)
 }
