@@ -136,5 +136,3 @@ module _ (s : List ℕ) (from : ℕ) (names : List ℕ) (p : List Rule) (ep : p 
   bitset-whole at r q ea e =
       e ∙ ap (λ (x : ℕ). judgedAs (count names) (partsReading s x names (getD (w .slots) 1 absent) (getD (w .slots) 2 absent) (getD (w .slots) 3 absent) (getD (w .slots) 4 absent) (getD (w .slots) 5 absent))) ea
       ∙ sym (ap (judgedAs (count names)) (by-walk ∙ ap (λ (x : Stop). onStop x refused (rest w)) q))
-
-pub ruleset bitset-laws = (bitset-fault, bitset-whole)

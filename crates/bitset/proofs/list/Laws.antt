@@ -157,8 +157,6 @@ module _ (s names : List ℕ) (from : ℕ) (f : Form) (at : ℕ) (inv : BitsFrom
           go (stopped r) = refl
           go (entries es) = refl
 
-pub ruleset bits-laws = (bits-start, bits-end, bits-broken, bits-less, bits-refused, bits-more)
-
 -- the whole list
 module _ (s names : List ℕ) (nomask bits : Slot) (c : List ℕ) (ec : c ≡ partOf s 0 (bits .end))
     (p : List Rule) (ep : p ≡ bitsPolicy) (w : Walked) (ew : w ≡ walked p c (bits .start)) where
@@ -200,5 +198,3 @@ module _ (s names : List ℕ) (nomask bits : Slot) (c : List ℕ) (ec : c ≡ pa
         go : (x : ListReading) → listJudged x ≡ judgedAs (count names) (asBitset false x)
         go (stopped r) = refl
         go (entries es) = refl
-
-pub ruleset list-laws = (list-fault, list-only, list-listed)

@@ -1,4 +1,4 @@
-use Rattle.bitset.proofs.judge.Laws.{bitset-laws}
+use Rattle.bitset.proofs.judge.Laws.{bitset-fault, bitset-whole}
 use borrow.Author.Needs.{needs}
 use Rattle.bitset.proofs.judge.judge.Statement.{statement}
 use Rattle.bitset.proofs.judge.judge.Tie as tie
@@ -19,7 +19,7 @@ refused-requires : tie.Need-refused-requires
 refused-requires c κs = search needs
 
 returns : tie.Need-returns
-returns c = search (needs, bitset-laws)
+returns c = search (needs, bitset-fault)
 
 enum-told : tie.Need-enum-told
 enum-told c = search needs
@@ -46,7 +46,7 @@ judge-parts-requires : tie.Need-judge-parts-requires
 judge-parts-requires c κs = search needs
 
 returns-2 : tie.Need-returns-2
-returns-2 c = search (needs, bitset-laws)
+returns-2 c = search (needs, bitset-whole)
 
 pub judge-spec : {M : Type 1} → statement M
 judge-spec =

@@ -2,7 +2,7 @@ use mathlib.Core.Path.{_≡_, ap, _∙_}
 use Rattle.bits.proofs.Words.{length-wordsOf}
 use Prim.Native.Nat.{_-_}
 use lib.ListN.{length}
-use Rattle.bitset.proofs.list.Laws.{BitsFrom, bits-more, bits-laws}
+use Rattle.bitset.proofs.list.Laws.{BitsFrom, bits-start, bits-end, bits-broken, bits-less, bits-refused, bits-more}
 use borrow.Author.Needs.{needs}
 use Rattle.bitset.proofs.list.judge_bits.Statement.{statement}
 use Rattle.bitset.proofs.list.judge_bits.Tie as tie
@@ -14,64 +14,66 @@ abbrev μ-loop : tie.MeasureT-loop
 μ-loop s names indexed head links from mask₀ value₀ at₀ mask value at = length s - at
 
 loop-holds : tie.Need-loop-holds Inv-loop μ-loop
-loop-holds c = search (needs, bits-laws)
+loop-holds c = search (needs, bits-start)
 
 read-attribute-requires : tie.Need-read-attribute-requires Inv-loop μ-loop
-read-attribute-requires c κs = search (needs, bits-laws)
+read-attribute-requires c κs = search needs
 
 enum-told : tie.Need-enum-told Inv-loop μ-loop
-enum-told c = search (needs, bits-laws)
+enum-told c = search needs
 
 accepted-requires : tie.Need-accepted-requires Inv-loop μ-loop
-accepted-requires c κs = search (needs, bits-laws)
+accepted-requires c κs = search needs
 
 returns : tie.Need-returns Inv-loop μ-loop
-returns c = search (needs, bits-laws)
+returns c = search (needs, bits-end)
 
 enum-told-2 : tie.Need-enum-told-2 Inv-loop μ-loop
-enum-told-2 c = search (needs, bits-laws)
+enum-told-2 c = search needs
 
 accepted-requires-2 : tie.Need-accepted-requires-2 Inv-loop μ-loop
-accepted-requires-2 c κs = search (needs, bits-laws)
+accepted-requires-2 c κs = search needs
 
 returns-2 : tie.Need-returns-2 Inv-loop μ-loop
-returns-2 c = search (needs, bits-laws)
+returns-2 c = search (needs, bits-broken)
 
 enum-known-start : tie.Need-enum-known-start Inv-loop μ-loop
-enum-known-start c = search (needs, bits-laws)
+enum-known-start c = search needs
 
 payload-requires : tie.Need-payload-requires Inv-loop μ-loop
-payload-requires c κs = search (needs, bits-laws)
+payload-requires c κs = search needs
 
 judge-bit-requires : tie.Need-judge-bit-requires Inv-loop μ-loop
-judge-bit-requires c κs = search (needs, bits-laws)
+judge-bit-requires c κs = search needs
 
 enum-known-why : tie.Need-enum-known-why Inv-loop μ-loop
-enum-known-why c = search (needs, bits-laws)
+enum-known-why c = search needs
 
 refused-requires : tie.Need-refused-requires Inv-loop μ-loop
-refused-requires c κs = search (needs, bits-laws)
+refused-requires c κs = search needs
 
 returns-3 : tie.Need-returns-3 Inv-loop μ-loop
-returns-3 c = search (needs, bits-laws)
+returns-3 c = search (needs, bits-refused)
 
 enum-known-number : tie.Need-enum-known-number Inv-loop μ-loop
-enum-known-number c = search (needs, bits-laws)
+enum-known-number c = search needs
 
 slice-aggregate-put-bit : tie.Need-slice-aggregate-put-bit Inv-loop μ-loop
-slice-aggregate-put-bit c = search (needs, bits-laws)
+slice-aggregate-put-bit c = search needs
 
 put-bit-requires : tie.Need-put-bit-requires Inv-loop μ-loop
-put-bit-requires c κs = search (needs, bits-laws)
+put-bit-requires c κs = search needs
 
 slice-aggregate-put-bit-2 : tie.Need-slice-aggregate-put-bit-2 Inv-loop μ-loop
-slice-aggregate-put-bit-2 c = search (needs, bits-laws)
+slice-aggregate-put-bit-2 c = search needs
 
 put-bit-requires-2 : tie.Need-put-bit-requires-2 Inv-loop μ-loop
-put-bit-requires-2 c κs = search (needs, bits-laws)
+put-bit-requires-2 c κs = search needs
 
 loop-less : tie.Need-loop-less Inv-loop μ-loop
-loop-less c = search (needs, bits-laws)
+loop-less c =
+    let l = c .before .before .before .before .before .before .before .before .before .before .before .before .before .before .before .loop in
+    bits-less _ _ _ _ _ (l .inv .2) _ (c .before .before .before .before .before .before .before .before .before .before .before .before .before .before .read-attribute .ensures) _ _ _ _ _ (c .before .before .before .before .before .before .before .before .before .before .before .before .start .given .1)
 
 loop-again : tie.Need-loop-again Inv-loop μ-loop
 loop-again c =

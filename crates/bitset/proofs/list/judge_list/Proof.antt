@@ -1,4 +1,4 @@
-use Rattle.bitset.proofs.list.Laws.{list-laws}
+use Rattle.bitset.proofs.list.Laws.{list-fault, list-only, list-listed}
 use Rattle.entries.proofs.Chains.{head-zero}
 use borrow.Author.Needs.{needs}
 use Rattle.bitset.proofs.list.judge_list.Statement.{statement}
@@ -23,7 +23,7 @@ refused-requires : tie.Need-refused-requires
 refused-requires c κs = search needs
 
 returns : tie.Need-returns
-returns c = search (needs, list-laws)
+returns c = search (needs, list-fault)
 
 enum-told : tie.Need-enum-told
 enum-told c = search needs
@@ -53,10 +53,10 @@ under-nomask-requires : tie.Need-under-nomask-requires
 under-nomask-requires c κs = search needs
 
 returns-2 : tie.Need-returns-2
-returns-2 c = search (needs, list-laws)
+returns-2 c = search (needs, list-only)
 
 returns-3 : tie.Need-returns-3
-returns-3 c = search (needs, list-laws)
+returns-3 c = search (needs, list-listed)
 
 pub judge-list-spec : {M : Type 1} → statement M
 judge-list-spec =
