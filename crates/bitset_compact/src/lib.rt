@@ -24,14 +24,12 @@ use refusal::Refusal;
 fn judge_whole(s: &[u8], n: usize, size: usize, value: Slot) -> Judged
     ensures { λ r. ⌜ r ≡ judgedAs n (wholeReading (now (s .entry)) n size value) ⌝ }
 {
-    let start = value.start;
-    let end = value.end;
-    let bitmap = payload(s, start, end);
+    let bitmap = payload(s, value.start, value.end);
     if bitmap.len() / 4 < words_for(size) {
-        return refused(Refusal::ShortBitmap(place(start)));
+        return refused(Refusal::ShortBitmap(place(value.start)));
     }
     if some_past(bitmap, n, size) {
-        return refused(Refusal::PastLength(place(start)));
+        return refused(Refusal::PastLength(place(value.start)));
     }
     Judged {
         judgement: Judgement::Accepted,
@@ -49,20 +47,16 @@ fn judge_masked(s: &[u8], nest: usize, n: usize, size: usize, value: Slot, mask:
     if !mask.present {
         return refused(Refusal::MissingIn(MASK, nest));
     }
-    let value_start = value.start;
-    let value_end = value.end;
-    let values = payload(s, value_start, value_end);
+    let values = payload(s, value.start, value.end);
     if values.len() / 4 < words_for(size) {
-        return refused(Refusal::ShortBitmap(place(value_start)));
+        return refused(Refusal::ShortBitmap(place(value.start)));
     }
-    let mask_start = mask.start;
-    let mask_end = mask.end;
-    let masks = payload(s, mask_start, mask_end);
+    let masks = payload(s, mask.start, mask.end);
     if masks.len() / 4 < words_for(size) {
-        return refused(Refusal::ShortBitmap(place(mask_start)));
+        return refused(Refusal::ShortBitmap(place(mask.start)));
     }
     if some_past(masks, n, size) {
-        return refused(Refusal::PastLength(place(mask_start)));
+        return refused(Refusal::PastLength(place(mask.start)));
     }
     let masked = cut_at(masks, size);
     Judged {
