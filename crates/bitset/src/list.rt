@@ -77,10 +77,8 @@ fn judge_bits(
 pub fn judge_list(s: &[u8], names: &[u8], nomask: Slot, bits: Slot) -> Judged
     ensures { λ r. ⌜ r ≡ judgedAs (count (now (names .entry))) (listReading (now (s .entry)) (now (names .entry)) nomask bits) ⌝ }
 {
-    let start = bits.start;
-    let end = bits.end;
-    let contents = payload(s, 0, end);
-    let walked = walk(bits_policy(), contents, start);
+    let contents = payload(s, 0, bits.end);
+    let walked = walk(bits_policy(), contents, bits.start);
     let stop = walked.stop;
     if let Stop::At { fault, at } = stop {
         return refused(of_fault(fault, at));
@@ -88,7 +86,7 @@ pub fn judge_list(s: &[u8], names: &[u8], nomask: Slot, bits: Slot) -> Judged
     let mut head = [0u16; 1025];
     let mut links = [0u16; 512];
     let indexed = names::index(names, &mut head, &mut links);
-    let judged = judge_bits(contents, names, indexed, &head, &links, start);
+    let judged = judge_bits(contents, names, indexed, &head, &links, bits.start);
     if nomask.present {
         return under_nomask(judged, names::count(names));
     }

@@ -95,8 +95,6 @@ module _ (s : List ℕ) (nest n size : ℕ) (value mask : Slot) where
               ∙ and-assoc (ltb i size) (has (wordsIn q) i) (has (wordsIn p) i)))
               (present ∙ rw (← ep, ← eq, le-ltb (length p / 4) (wordsFor size) (rw ew at h), le-ltb (length q / 4) (wordsFor size) (rw eu at g), ← et, z))
 
-pub ruleset masked-laws = (masked-missing, masked-short, masked-short-mask, masked-past, masked-right)
-
 module _ (s : List ℕ) (nest n : ℕ) (nomask size value mask : Slot) where
   pub compact-no-size : (r : Judged) → not (size .present) ≡ true → r ≡ refusedAs (MissingIn 2 nest)
       → r ≡ judgedAs n (compactReading s nest n nomask size value mask)
