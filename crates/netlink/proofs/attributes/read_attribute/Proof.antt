@@ -1,11 +1,11 @@
-use Rattle.netlink.proofs.attributes.Laws.{read-laws}
+use Rattle.netlink.proofs.attributes.Laws.{attribute-end, read-few, read-low, read-long, read-here}
 use borrow.Author.Needs.{needs}
 use Rattle.netlink.proofs.attributes.read_attribute.Statement.{statement}
 use Rattle.netlink.proofs.attributes.read_attribute.Tie as tie
 
 -- src/attributes.rt:29:9
 returns : tie.Need-returns
-returns c = search (needs, read-laws)
+returns c = search (needs, attribute-end)
 
 -- src/attributes.rt:31:47
 read-requires : tie.Need-read-requires
@@ -21,7 +21,7 @@ enum-told c = search needs
 
 -- src/attributes.rt:32:9
 returns-2 : tie.Need-returns-2
-returns-2 c = search (needs, read-laws)
+returns-2 c = search (needs, read-few)
 
 -- src/attributes.rt:34:18
 cast-stated : tie.Need-cast-stated
@@ -29,7 +29,7 @@ cast-stated c = search needs
 
 -- src/attributes.rt:36:9
 returns-3 : tie.Need-returns-3
-returns-3 c = search (needs, read-laws)
+returns-3 c = search (needs, read-low)
 
 -- src/attributes.rt:38:8
 sub-if3 : tie.Need-sub-if3
@@ -37,7 +37,7 @@ sub-if3 c = search needs
 
 -- src/attributes.rt:39:9
 returns-4 : tie.Need-returns-4
-returns-4 c = search (needs, read-laws)
+returns-4 c = search (needs, read-long)
 
 -- src/attributes.rt:41:23
 cast-t10 : tie.Need-cast-t10
@@ -65,7 +65,7 @@ capped-requires c κs = search needs
 
 -- src/attributes.rt:25:1
 returns-5 : tie.Need-returns-5
-returns-5 c = search (needs, read-laws)
+returns-5 c = search (needs, read-here)
 
 pub read-attribute-spec : {M : Type 1} → statement M
 read-attribute-spec =
