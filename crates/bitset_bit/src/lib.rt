@@ -77,13 +77,17 @@ fn by_name(s: &[u8], names: &[u8], indexed: bool, head: &[u16], links: &[u16], n
     requires { ⌜ IndexedIf indexed (now names) (now head) (now links) ⌝ }
     ensures { λ r. ⌜ r ≡ byName (now (s .entry)) (now (names .entry)) name ⌝ }
 {
-    let start = name.start;
-    let end = name.end;
-    let lookup = names::look_up(names, indexed, head, links, payload(s, start, end));
+    let lookup = names::look_up(
+        names,
+        indexed,
+        head,
+        links,
+        payload(s, name.start, name.end),
+    );
     if lookup.found {
         return Looked::Up(Identity::Number(lookup.bit));
     }
-    Looked::Refused(Refusal::UnknownBit(place(start)))
+    Looked::Refused(Refusal::UnknownBit(place(name.start)))
 }
 
 // INDEX decides where both stand.

@@ -39,17 +39,15 @@ fn policy(first: Rule) -> [Rule; 8]
 fn read_nest(request: &[u8], nest: Slot) -> Asked
     ensures { λ r. ⌜ r ≡ nestReading (now (request .entry)) nest ⌝ }
 {
-    let start = nest.start;
-    let end = nest.end;
-    let contents = payload(request, 0, end);
-    let walked = walk(policy(Rule::Number), contents, start);
+    let contents = payload(request, 0, nest.end);
+    let walked = walk(policy(Rule::Number), contents, nest.start);
     let stop = walked.stop;
     if let Stop::At { fault: _, at } = stop {
         return Asked::Refused(22, Detail::Offset(at));
     }
     let number = walked.slots[1];
     if !number.present {
-        return Asked::Refused(22, Detail::MissIn(1, place(start)));
+        return Asked::Refused(22, Detail::MissIn(1, place(nest.start)));
     }
     Asked::Number(slot_number(contents, number))
 }
