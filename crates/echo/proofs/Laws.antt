@@ -57,8 +57,6 @@ module _ (request : List ℕ) (nest : Slot) (c : List ℕ) (ec : c ≡ partOf re
     unfolding numberReading
     nest-number x h ex = rw ex (sym (whole-nest ∙ rw h))
 
-pub ruleset nest-laws = (nest-fault, nest-missing, nest-number)
-
 module _ (request : List ℕ) (g : GenericHeaderRead) (eg : g ≡ genericHeaderAt request 16) where
   pub request-short : g ≡ G.Short → Refused 22 Nothing ≡ requestReading request
   unfolding requestReading onGeneric

@@ -1,4 +1,4 @@
-use Rattle.echo.proofs.Laws.{nest-laws}
+use Rattle.echo.proofs.Laws.{nest-fault, nest-missing, nest-number}
 use borrow.Author.Needs.{needs}
 use Rattle.echo.proofs.read_nest.Statement.{statement}
 use Rattle.echo.proofs.read_nest.Tie as tie
@@ -16,7 +16,7 @@ enum-known-stop : tie.Need-enum-known-stop
 enum-known-stop c = search needs
 
 returns : tie.Need-returns
-returns c = search (needs, nest-laws)
+returns c = search (needs, nest-fault)
 
 enum-told : tie.Need-enum-told
 enum-told c = search needs
@@ -28,13 +28,13 @@ place-requires : tie.Need-place-requires
 place-requires c κs = search needs
 
 returns-2 : tie.Need-returns-2
-returns-2 c = search (needs, nest-laws)
+returns-2 c = search (needs, nest-missing)
 
 slot-number-requires : tie.Need-slot-number-requires
 slot-number-requires c κs = search needs
 
 returns-3 : tie.Need-returns-3
-returns-3 c = search (needs, nest-laws)
+returns-3 c = search (needs, nest-number)
 
 pub read-nest-spec : {M : Type 1} → statement M
 read-nest-spec =
