@@ -6,8 +6,8 @@ use lib.ListN.{length}
 use borrow.Author.Tests.{lt-ltb}
 use Rattle.basics.specs.Numbers.{byteAt, u16At, u32At}
 use Rattle.basics.specs.Scan.{all, first}
-use Rattle.bits.specs.Bytes.{bytesOf}
-use Rattle.netlink.specs.Attributes as T
+use Rattle.word_bytes.specs.Bytes.{bytesOf}
+use Rattle.netlink_attributes.specs.Attributes as T
 use Rattle.netlink_headers.specs.Headers as H
 use Rattle.netlink_headers.specs.Messages.{messageAt}
 use Rattle.netlink.specs.Policy as Y
@@ -30,7 +30,7 @@ use Rattle.reply.proofs.Whole.{wholeReply}
 use Rattle.bitset_reply.specs.Set as RS
 use Rattle.reply.specs.Message as RM
 use Rattle.response.specs.Answer as A
-use Rattle.handler.specs.Obey as OB
+use Rattle.obey.specs.Obey as OB
 use Rattle.handler.specs.Call as K
 use Rattle.answer.specs.Box.{portRoll, debugNames, flagNames, firstWords}
 use Rattle.answer.specs.Run.{call, onCall, answersFrom, answers}

@@ -3,4 +3,3 @@ pub mod Words
 pub mod Merge
 pub mod Cut
 pub mod Change
-pub mod WordBytes

@@ -1,4 +1,3 @@
 pub mod Bit
 pub mod Set
 pub mod Change
-pub mod Bytes

@@ -1,12 +1,7 @@
-// Sets of bits held in 32-bit words, lowest first: one word, a slice of words, their bytes.
-pub mod bytes;
+// Sets of bits held in 32-bit words, lowest first: one word, a slice of words.
 pub mod set;
 pub mod word;
 
-pub use bytes::read_words;
-pub use bytes::some_past;
-pub use bytes::word_in;
-pub use bytes::write_words;
 pub use set::merge_at;
 pub use set::merge_words;
 pub use set::none_from;

@@ -12,7 +12,7 @@ use Rattle.bitset_form.specs.Bitset.{Reading}
 use Rattle.bitset_form.specs.Bitset.Reading.{refused}
 use Rattle.bitset_compact.specs.Compact.{compactReading}
 use Rattle.refusal.specs.Refusal.{onStop}
-use Rattle.bitset.specs.BitList.{listReading}
+use Rattle.bitset_list.specs.BitList.{listReading}
 use Rattle.bitset.specs.declared.judge.Mixing.{Mixing}
 use Rattle.bitset.specs.declared.judge.Mixing.the-variants.{Pure, At}
 

@@ -1,3 +1,2 @@
 // An ethtool bitset: its contents judged, and brought to one form.
 pub mod judge;
-pub mod list;

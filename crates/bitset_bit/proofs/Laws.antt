@@ -11,11 +11,11 @@ use Rattle.basics.proofs.Truth.{true-of, cond-true, cond-false}
 use Rattle.entries.specs.Entry.{count}
 use Rattle.names.specs.Search.{lookup}
 use Rattle.names.specs.declared.Lookup.{Lookup}
-use Rattle.netlink.specs.Attributes.{Attributes, attributes, attributeAt, onRead, partOf}
+use Rattle.netlink_attributes.specs.Attributes.{Attributes, attributes, attributeAt, onRead, partOf}
 use Rattle.netlink.specs.Policy.{ruleOf, judged}
 use Rattle.netlink.specs.Walk.{found, absent, onVerdict, firstFault, lastOf, eachType, onStop as walkStop, walked, slotNumber}
-use Rattle.netlink.specs.declared.attributes.AttributeRead.{AttributeRead}
-use Rattle.netlink.specs.declared.attributes.AttributeRead.the-variants.{Attribute, Broken, End}
+use Rattle.netlink_attributes.specs.declared.AttributeRead.{AttributeRead}
+use Rattle.netlink_attributes.specs.declared.AttributeRead.the-variants.{Attribute, Broken, End}
 use Rattle.netlink.specs.declared.policy.Fault.{Fault}
 use Rattle.netlink.specs.declared.policy.Fault.the-variants.{Length, Unknown}
 use Rattle.netlink.specs.declared.policy.Rule.{Rule}
@@ -26,7 +26,7 @@ use Rattle.netlink.specs.declared.policy.Verdict.the-variants.{Right, Wrong}
 use Rattle.netlink.specs.declared.walk.Slot.{Slot}
 use Rattle.netlink.specs.declared.walk.Stop.{Stop}
 use Rattle.netlink.specs.declared.walk.Stop.the-variants as S
-use Rattle.netlink.proofs.attributes.Laws.{Bounded, bounded, attributes-step}
+use Rattle.netlink_attributes.proofs.Laws.{Bounded, bounded, attributes-step}
 use Rattle.refusal.specs.Refusal.{ofFault}
 use Rattle.refusal.specs.declared.Refusal.{Refusal}
 use Rattle.refusal.specs.declared.Refusal.the-variants.{PastLength, UnknownBit, NoBit}

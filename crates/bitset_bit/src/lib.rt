@@ -6,16 +6,16 @@ ghost use Rattle.netlink.specs.Walk.{absent, found};
 ghost use Rattle.bitset_form.specs.Policies.{bitPolicy};
 ghost use Rattle.entries.specs.Entry.{count};
 ghost use Rattle.entries.specs.Chain.{IndexedIf};
-use netlink::attributes::AttributeRead;
-use netlink::attributes::payload;
-use netlink::attributes::place;
-use netlink::attributes::read_attribute;
 use netlink::policy::Fault;
 use netlink::policy::Rule;
 use netlink::policy::Verdict;
 use netlink::policy::judge;
 use netlink::walk::Slot;
 use netlink::walk::slot_number;
+use netlink_attributes::AttributeRead;
+use netlink_attributes::payload;
+use netlink_attributes::place;
+use netlink_attributes::read_attribute;
 use refusal::Refusal;
 use refusal::of_fault;
 
@@ -77,7 +77,7 @@ fn by_name(s: &[u8], names: &[u8], indexed: bool, head: &[u16], links: &[u16], n
     requires { ⌜ IndexedIf indexed (now names) (now head) (now links) ⌝ }
     ensures { λ r. ⌜ r ≡ byName (now (s .entry)) (now (names .entry)) name ⌝ }
 {
-    let lookup = names::look_up(
+    let lookup = name_index::look_up(
         names,
         indexed,
         head,

@@ -8,9 +8,9 @@ use lib.Dec.{ltb}
 use borrow.Author.Tests.{lt-ltb, le-ltb}
 use Rattle.basics.proofs.Truth.{cond-true, cond-false}
 use Rattle.bits.specs.Set.{has, wordsOf, wordsFor, somePast, allBelow}
-use Rattle.bits.specs.Bytes.{wordsIn}
+use Rattle.word_bytes.specs.Bytes.{wordsIn}
 use Rattle.bits.proofs.Words.{has-wordsOf, wordsOf-cong}
-use Rattle.netlink.specs.Attributes.{partOf}
+use Rattle.netlink_attributes.specs.Attributes.{partOf}
 use Rattle.netlink.specs.Walk.{slotNumber}
 use Rattle.netlink.specs.declared.walk.Slot.{Slot}
 use Rattle.refusal.specs.declared.Refusal.{Refusal}

@@ -5,8 +5,8 @@ use mathlib.Core.List.{List}
 use lib.ListN.{length}
 use lib.Dec.{ltb}
 use Rattle.bits.specs.Set.{has, wordsFor, somePast}
-use Rattle.bits.specs.Bytes.{wordsIn}
-use Rattle.netlink.specs.Attributes.{partOf}
+use Rattle.word_bytes.specs.Bytes.{wordsIn}
+use Rattle.netlink_attributes.specs.Attributes.{partOf}
 use Rattle.netlink.specs.Walk.{slotNumber}
 use Rattle.netlink.specs.declared.walk.Slot.{Slot}
 use Rattle.refusal.specs.declared.Refusal.the-variants.{MissingIn, ShortBitmap, PastLength}

@@ -2,7 +2,6 @@
 ghost use mathlib.Core.Path.{_≡_};
 ghost use Rattle.bitset_form.specs.Bitset.{judgedAs};
 ghost use Rattle.bitset_compact.specs.Compact.{wholeReading, maskedReading, compactReading};
-use bits::some_past;
 use bits::words_for;
 use bitset_form::Form;
 use bitset_form::Judged;
@@ -14,11 +13,12 @@ use bitset_form::policies::SIZE;
 use bitset_form::policies::VALUE;
 use bitset_form::refused;
 use bitset_form::within;
-use netlink::attributes::payload;
-use netlink::attributes::place;
 use netlink::walk::Slot;
 use netlink::walk::slot_number;
+use netlink_attributes::payload;
+use netlink_attributes::place;
 use refusal::Refusal;
+use word_bytes::some_past;
 
 // Under NOMASK: VALUE alone counts.
 fn judge_whole(s: &[u8], n: usize, size: usize, value: Slot) -> Judged

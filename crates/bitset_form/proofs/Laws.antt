@@ -11,7 +11,7 @@ use Rattle.basics.specs.Put.{put}
 use Rattle.basics.proofs.Put.{put-nil, put-take, put-whole}
 use Rattle.bits.specs.Bit.{test, number}
 use Rattle.bits.specs.Set.{has, wordOf, wordsOf, allBelow}
-use Rattle.bits.specs.Bytes.{wordsIn}
+use Rattle.word_bytes.specs.Bytes.{wordsIn}
 use Rattle.bits.specs.Change.{merge}
 use Rattle.bits.proofs.Bit.{number-cong, test-zero}
 use Rattle.bits.proofs.Words.{length-wordsOf, getD-wordsOf, has-word}

@@ -1,7 +1,7 @@
 // The one form of every change: a mask and the values of its bits.
 ghost use mathlib.Core.Path.{_≡_};
 ghost use Rattle.bits.specs.Set.{has, wordsOf, allBelow};
-ghost use Rattle.bits.specs.Bytes.{wordsIn};
+ghost use Rattle.word_bytes.specs.Bytes.{wordsIn};
 ghost use Rattle.bitset_form.specs.Bitset.{refusedAs, underNomask};
 ghost use Rattle.bitset_form.specs.Form.{cutAt, both};
 use refusal::Refusal;
@@ -54,7 +54,7 @@ pub fn cut_at(bitmap: &[u8], size: usize) -> [u32; 16]
 {
     let mut words = [0u32; 16];
     for j in 0..16 {
-        words[j] = bits::cut_word(bits::word_in(bitmap, j), size, j);
+        words[j] = bits::cut_word(word_bytes::word_in(bitmap, j), size, j);
     }
     words
 }
@@ -65,7 +65,7 @@ pub fn within(bitmap: &[u8], mask: [u32; 16]) -> [u32; 16]
 {
     let mut words = [0u32; 16];
     for j in 0..16 {
-        words[j] = bits::merge_word(mask[j], bits::word_in(bitmap, j), 0);
+        words[j] = bits::merge_word(mask[j], word_bytes::word_in(bitmap, j), 0);
     }
     words
 }

@@ -5,7 +5,7 @@ use mathlib.Core.Bool.{Bool, cond}
 use mathlib.Core.List.{List, [], _++_}
 use Rattle.basics.specs.Numbers.{le32}
 use Rattle.bits.specs.Set.{has}
-use Rattle.bits.specs.Bytes.{bytesOf}
+use Rattle.word_bytes.specs.Bytes.{bytesOf}
 use Rattle.netlink_write.specs.Attributes.{attr, nest}
 use Rattle.bitset_reply.specs.List.{bitsBytes}
 

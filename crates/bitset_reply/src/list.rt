@@ -2,7 +2,7 @@
 ghost use Prim.Native.Nat.{_+_, _*_, _≤_, _<_};
 ghost use lib.ListN.{length};
 ghost use Rattle.bits.specs.Set.{has};
-ghost use Rattle.netlink_write.specs.Page.{Wrote};
+ghost use Rattle.page.specs.Page.{Wrote};
 ghost use Rattle.netlink_write.specs.Attributes.{nest};
 ghost use Rattle.bitset_reply.specs.List.{bitIn, bitsBytes};
 use bitset_form::policies::BITS;

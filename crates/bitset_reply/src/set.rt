@@ -3,7 +3,7 @@ ghost use mathlib.Core.Path.{_≡_};
 ghost use Prim.Native.Nat.{_+_, _*_, _≤_};
 ghost use lib.ListN.{length};
 ghost use Rattle.bits.specs.Set.{wordsFor};
-ghost use Rattle.netlink_write.specs.Page.{Wrote};
+ghost use Rattle.page.specs.Page.{Wrote};
 ghost use Rattle.bitset_reply.specs.Set.{openingBytes, compactBytes, verboseBytes, contentsBytes, setBytes};
 use crate::list::put_bits_nest;
 use bitset_form::policies::NOMASK;

@@ -4,7 +4,7 @@ use mathlib.Core.List.{List, _++_}
 use lib.ListN.{take}
 use Rattle.basics.specs.Numbers.{le32}
 use Rattle.bits.specs.Set.{wordsFor}
-use Rattle.bits.specs.Bytes.{bytesOf}
+use Rattle.word_bytes.specs.Bytes.{bytesOf}
 use Rattle.netlink_write.specs.Attributes.{attr}
 
 -- SIZE, VALUE, MASK

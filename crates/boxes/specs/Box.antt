@@ -6,7 +6,7 @@ use lib.Dec.{leb}
 use Rattle.entries.specs.Entry.{count}
 use Rattle.names.specs.Rule.{namesRight}
 use Rattle.roll.specs.Record.{portCount}
-use Rattle.roll.specs.Rule.{rollRight}
+use Rattle.roll_rule.specs.Rule.{rollRight}
 use Rattle.boxes.specs.Settings.{settingsRight}
 
 -- "Family number, 16 to 65,535"

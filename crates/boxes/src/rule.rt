@@ -24,7 +24,7 @@ pub fn box_right(
         return false;
     }
     let ports = roll::ports(roll);
-    if !roll::roll_right_of(roll, ports) {
+    if !roll_rule::roll_right_of(roll, ports) {
         return false;
     }
     if !names::names_right(debug) {

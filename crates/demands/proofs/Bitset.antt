@@ -7,8 +7,8 @@ use lib.ListN.{getD}
 use lib.Dec.{leb}
 use Rattle.entries.specs.Entry.{count}
 use Rattle.names.specs.Search.{lookup}
-use Rattle.netlink.specs.Attributes.{Attributes, attributes, partOf}
-use Rattle.netlink.specs.Attributes.Attributes.{done, broken, attribute}
+use Rattle.netlink_attributes.specs.Attributes.{Attributes, attributes, partOf}
+use Rattle.netlink_attributes.specs.Attributes.Attributes.{done, broken, attribute}
 use Rattle.netlink.specs.Walk.{absent, walked, slotNumber}
 use Rattle.netlink.specs.declared.walk.Slot.{Slot}
 use Rattle.refusal.specs.declared.Refusal.{Refusal}
@@ -19,8 +19,8 @@ use Rattle.bitset_form.specs.Bitset.Reading.{refused, accepted}
 use Rattle.bitset_compact.specs.Compact.{wholeReading, maskedReading, compactReading}
 use Rattle.bitset_bit.specs.Bit.{byIndex, byName, identified, onLooked, partsReading, bitReading}
 use Rattle.refusal.specs.Refusal.{onStop}
-use Rattle.bitset.specs.BitList.{ListReading, onBit, bitsReading, asBitset, listReading}
-use Rattle.bitset.specs.BitList.ListReading.{stopped, entries}
+use Rattle.bitset_list.specs.BitList.{ListReading, onBit, bitsReading, asBitset, listReading}
+use Rattle.bitset_list.specs.BitList.ListReading.{stopped, entries}
 use Rattle.bitset.specs.Judge as J
 use Rattle.bitset.specs.declared.judge.Mixing.{Mixing}
 use Rattle.bitset_bit.specs.declared.Identity.the-variants.{Number, Neither}

@@ -9,12 +9,12 @@ use lib.Seq.{length-take-le}
 use native.Mathlib.Omega.{arith}
 use borrow.Author.Tests.{ltb-false}
 use Rattle.basics.specs.Numbers.{u32At}
-use Rattle.netlink.specs.Attributes.{partOf}
+use Rattle.netlink_attributes.specs.Attributes.{partOf}
 use Rattle.netlink_headers.specs.Headers.{messageHeader}
 use Rattle.netlink_headers.specs.Lengths.{roundUp4}
 use Rattle.netlink_headers.specs.Messages.{messageAt}
 use Rattle.netlink_headers.specs.declared.messages.MessageRead.the-variants.{Message, Misstated, Cut, AtEnd, Outside}
-use Rattle.netlink.proofs.attributes.Laws.{part-in}
+use Rattle.netlink_attributes.proofs.Laws.{part-in}
 use Rattle.refusal.specs.declared.Refusal.the-variants as R
 use Rattle.boxes.specs.Box.{boxRight}
 use Rattle.handler.specs.Call.{stays, onMessage, messageOutcome, positionOutcome, outcome}

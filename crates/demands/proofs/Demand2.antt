@@ -16,7 +16,7 @@ use Rattle.basics.proofs.Truth.{clash}
 use Rattle.bits.specs.Set.{has, wordsFor}
 use Rattle.bits.specs.Change.{Below}
 use Rattle.bits.proofs.Cut.{none-below}
-use Rattle.bits.proofs.WordBytes.{Small}
+use Rattle.word_bytes.proofs.WordBytes.{Small}
 use Rattle.entries.specs.Entry.{count}
 use Rattle.names.specs.Rule.{namesRight}
 use Rattle.netlink_headers.specs.Headers.{messageHeader}
@@ -40,10 +40,10 @@ use Rattle.read_back.proofs.Reply.{reply-attributes, reply-back}
 use Rattle.admission.specs.Commands.{commandOf}
 use Rattle.request.proofs.aim.Place.{aimed-in}
 use Rattle.response.specs.Answer.{Outcome, ackBytes}
-use Rattle.handler.specs.Obey.{shown}
+use Rattle.obey.specs.Obey.{shown}
 use Rattle.handler.specs.Call.{outcome}
 use Rattle.reply.specs.Message.{headingOf}
-use Rattle.handler.specs.Obey.{setOf, gotten}
+use Rattle.obey.specs.Obey.{setOf, gotten}
 use Rattle.response.specs.declared.Kind.the-variants.{Done}
 use Rattle.demands.specs.Answer.{Counted}
 use Rattle.demands.specs.Call.{messageOf}

@@ -11,7 +11,7 @@ use borrow.Author.Tests.{eqb-true}
 use Rattle.basics.specs.Numbers.{byteAt, u32At}
 use Rattle.basics.specs.Scan.{all}
 use Rattle.basics.proofs.Truth.{both-true}
-use Rattle.netlink.specs.Attributes.{partOf}
+use Rattle.netlink_attributes.specs.Attributes.{partOf}
 use Rattle.netlink.specs.Policy.{nulAt}
 use Rattle.netlink.specs.Walk.{slotNumber}
 use Rattle.netlink.specs.declared.walk.Slot.{Slot}
@@ -20,12 +20,13 @@ use Rattle.roll.specs.Find.{byIndex, byName}
 use Rattle.roll.specs.Name.{nameAt, nulThenNul, nameRight}
 use Rattle.roll.specs.Record.{Records, records}
 use Rattle.roll.specs.Record.Records.{port}
-use Rattle.roll.specs.Rule.{each, portRight, rollRight}
+use Rattle.roll_rule.specs.Rule.{portRight, rollRight}
+use Rattle.roll_distinct.specs.Distinct.{each}
 use Rattle.roll.specs.declared.find.Found.{Found}
 use Rattle.roll.specs.declared.find.Found.the-variants as F
 use Rattle.roll.proofs.find.Meaning.{Among, index-among, name-among}
 use Rattle.roll.proofs.find.Meaning.Among.{here, later}
-use Rattle.roll.proofs.rule.Laws.{right-means}
+use Rattle.roll_rule.proofs.Laws.{right-means}
 use Rattle.request.specs.Aim.{withFlags, onHeader, aimOf}
 use Rattle.request.specs.Header.{headerOf}
 use Rattle.request.specs.Target.{onFound, otherName, portByIndex, portByName, targetOf}

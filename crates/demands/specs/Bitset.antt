@@ -6,11 +6,11 @@ use mathlib.Core.Bool.{Bool, _&&_, not, cond}
 use lib.ListN.{length, getD}
 use lib.Dec.{leb, ltb}
 use Rattle.bits.specs.Set.{has, wordsFor, somePast}
-use Rattle.bits.specs.Bytes.{wordsIn}
+use Rattle.word_bytes.specs.Bytes.{wordsIn}
 use Rattle.entries.specs.Entry.{count}
 use Rattle.names.specs.Search.{lookup}
-use Rattle.netlink.specs.Attributes.{Attributes, attributes, partOf}
-use Rattle.netlink.specs.Attributes.Attributes.{done, broken, attribute}
+use Rattle.netlink_attributes.specs.Attributes.{Attributes, attributes, partOf}
+use Rattle.netlink_attributes.specs.Attributes.Attributes.{done, broken, attribute}
 use Rattle.netlink.specs.Walk.{absent, walked, slotNumber}
 use Rattle.netlink.specs.declared.walk.Slot.{Slot}
 use Rattle.refusal.specs.declared.Refusal.the-variants.{Mixed, MissingIn, ShortBitmap, PastLength, UnknownBit, NoBit}

@@ -11,8 +11,8 @@ use Rattle.basics.specs.Numbers.{u32At}
 use Rattle.bits.specs.Set.{has}
 use Rattle.bits.specs.Change.{Same}
 use Rattle.entries.specs.Entry.{count}
-use Rattle.netlink.specs.Attributes.{attributes}
-use Rattle.netlink.specs.Attributes.Attributes.{done, attribute}
+use Rattle.netlink_attributes.specs.Attributes.{attributes}
+use Rattle.netlink_attributes.specs.Attributes.Attributes.{done, attribute}
 use Rattle.netlink_headers.specs.declared.headers.MessageHeader.{MessageHeader}
 use Rattle.bitset_form.specs.Bitset.{Bitset, effect}
 use Rattle.roll.specs.Name.{nameAt}
@@ -24,7 +24,7 @@ use Rattle.read_back.specs.Claims.{ReadsBack}
 use Rattle.reply.specs.Message.{replyBytes}
 use Rattle.response.specs.Answer.{Outcome, ackBytes}
 use Rattle.reply.specs.Message.{headingOf}
-use Rattle.handler.specs.Obey.{placeIn, widthIn, setOf}
+use Rattle.obey.specs.Obey.{placeIn, widthIn, setOf}
 use Rattle.demands.specs.Message.{Named, Carries}
 
 -- a done SET: the named set of the named port is what the bitset makes of it, every other set and every other word is as before, and the box

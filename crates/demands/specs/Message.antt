@@ -6,7 +6,7 @@ use mathlib.Core.Bool.{true, false}
 use Rattle.basics.specs.Numbers.{byteAt}
 use Rattle.basics.specs.Put.{splice}
 use Rattle.bits.specs.Set.{has, wordsOf}
-use Rattle.netlink.specs.Attributes.{partOf}
+use Rattle.netlink_attributes.specs.Attributes.{partOf}
 use Rattle.netlink_headers.specs.declared.headers.MessageHeader.{MessageHeader}
 use Rattle.netlink.specs.declared.walk.Slot.{Slot}
 use Rattle.refusal.specs.declared.Refusal.{Refusal}
@@ -22,7 +22,7 @@ use Rattle.admission.specs.declared.commands.Command.{Command}
 use Rattle.admission.specs.declared.commands.CommandRead.the-variants.{Listed}
 use Rattle.request.specs.declared.top.Top.the-variants.{Nests}
 use Rattle.response.specs.Answer.{Outcome, speech, done, quiet, refusal, ackBytes, leaves}
-use Rattle.handler.specs.Obey.{placeIn, widthIn, setOf, gotten}
+use Rattle.obey.specs.Obey.{placeIn, widthIn, setOf, gotten}
 use Rattle.response.specs.declared.Kind.the-variants.{Skipped}
 
 -- what the request m names: a listed command, its header and bitset, and the port of the roll that its header gives

@@ -10,7 +10,7 @@ use borrow.Rule.Slice.PartMut.{putMid}
 use Rattle.basics.specs.Put.{put}
 use Rattle.basics.proofs.Put.{put-nil, then-rest}
 use Rattle.netlink_headers.specs.Headers.{messageHeaderAt, genericHeaderAt}
-use Rattle.netlink.specs.Attributes.{partOf}
+use Rattle.netlink_attributes.specs.Attributes.{partOf}
 use Rattle.netlink.specs.Walk.{absent, walked, slotNumber}
 use Rattle.netlink_headers.specs.declared.headers.MessageHeader.{MessageHeader}
 use Rattle.netlink_headers.specs.declared.headers.MessageHeaderRead.{MessageHeaderRead}
@@ -26,7 +26,7 @@ use Rattle.netlink.specs.declared.walk.Stop.{Stop}
 use Rattle.netlink.specs.declared.walk.Stop.the-variants.{Whole, At}
 use Rattle.netlink.specs.declared.walk.Walked.{Walked}
 use Rattle.netlink_headers.proofs.headers.Laws.{message-fits}
-use Rattle.netlink_write.specs.Page.{Wrote}
+use Rattle.page.specs.Page.{Wrote}
 use Rattle.netlink_write.specs.Headers.{messageHeaderBytes, genericHeaderBytes}
 use Rattle.netlink_write.specs.Attributes.{numbered}
 use Rattle.netlink_error.specs.Error.{errorMessage}

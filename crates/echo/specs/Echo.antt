@@ -5,7 +5,7 @@ use mathlib.Core.Bool.{cond, not}
 use lib.ListN.{getD}
 use lib.Dec.{eqb, ltb}
 use Rattle.netlink_headers.specs.Headers.{messageHeaderAt, genericHeaderAt}
-use Rattle.netlink.specs.Attributes.{partOf}
+use Rattle.netlink_attributes.specs.Attributes.{partOf}
 use Rattle.netlink.specs.Walk.{absent, walked, slotNumber}
 use Rattle.netlink_headers.specs.declared.headers.MessageHeader.{MessageHeader}
 use Rattle.netlink_headers.specs.declared.headers.MessageHeaderRead.{MessageHeaderRead}

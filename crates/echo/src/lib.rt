@@ -2,15 +2,15 @@
 ghost use mathlib.Core.Path.{_≡_};
 ghost use Prim.Native.Nat.{_≤_};
 ghost use lib.ListN.{length};
-ghost use Rattle.netlink_write.specs.Page.{Wrote};
+ghost use Rattle.page.specs.Page.{Wrote};
 ghost use Rattle.echo.specs.Echo.{policy, nestReading, requestReading, reply, answered};
-use netlink::attributes::payload;
-use netlink::attributes::place;
 use netlink::policy::Rule;
 use netlink::walk::Slot;
 use netlink::walk::Stop;
 use netlink::walk::slot_number;
 use netlink::walk::walk;
+use netlink_attributes::payload;
+use netlink_attributes::place;
 use netlink_error::Detail;
 use netlink_error::put_error;
 use netlink_headers::headers::GenericHeader;

@@ -5,7 +5,7 @@ use mathlib.Core.List.{List}
 use mathlib.Core.Bool.{Bool, _&&_, cond}
 use lib.ListN.{length}
 use lib.Dec.{eqb, leb}
-use Rattle.bits.specs.Bytes.{wordsIn, bytesOf}
+use Rattle.word_bytes.specs.Bytes.{wordsIn, bytesOf}
 use Rattle.refusal.specs.declared.Refusal.the-variants.{Box}
 use Rattle.response.specs.Answer.{Speech, Outcome, Said, quiet}
 use Rattle.response.specs.declared.Kind.the-variants.{Refused}

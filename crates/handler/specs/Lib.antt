@@ -1,3 +1,2 @@
-pub mod Obey
 pub mod Call
 pub mod Bytes

@@ -35,7 +35,7 @@ fn handle_in<'a>(
     requires { ⌜ (length (now settings) % 4 ≡ 0) × (length (now words) ≡ length (now settings) / 4) ⌝ }
     ensures { λ r. ⌜ After (wordsOutcome (call .family) (call .admin) (now (roll .entry)) (now (debug .entry)) (now (flags .entry)) (now (settings .entry)) (now (datagram .entry)) (call .position) (length (now (page .entry)))) (now (page .entry)) (now (page .exit)) (now (settings .exit)) r ⌝ }
 {
-    bits::read_words(settings, words);
+    word_bytes::read_words(settings, words);
     let answer = handle(
         call.family,
         call.admin,
@@ -47,7 +47,7 @@ fn handle_in<'a>(
         call.position,
         page,
     );
-    bits::write_words(words, settings);
+    word_bytes::write_words(words, settings);
     answer
 }
 

@@ -1,5 +1,3 @@
 // The handler: one message of a datagram answered, the settings kept.
 pub mod bytes;
 pub mod call;
-pub mod obey;
-pub mod show;

@@ -1,3 +1,2 @@
 pub mod Rules
 pub mod Search
-pub mod Along

@@ -17,7 +17,7 @@ use Rattle.basics.proofs.Truth.{false-of, clash}
 use Rattle.entries.specs.Entry.{count, entryAt, sameByte, same, isEmpty, distinct}
 use Rattle.entries.proofs.Entries.{entry-byte, entry-length, same-bytes, same-of, distinct-one}
 use Rattle.names.specs.Rule.{namesRight}
-use Rattle.names.specs.Search.{isName, noName, notFound, foundAt, lookup, indexable}
+use Rattle.names.specs.Search.{isName, noName, notFound, foundAt, lookup}
 use Rattle.names.proofs.Rules.{right-means}
 
 -- the names that can stand in no list
@@ -150,15 +150,3 @@ pub lookup-own : (names : List ℕ) → namesRight names ≡ true → (i : ℕ) 
 lookup-own names right i h e =
     ap (lookup names) (sym (take-all 32 (entryAt names i) (omega (arith, entry-length names i h))))
     ∙ lookup-name names right i 32 h e (omega arith) (λ j l u. absurd (omega arith))
-
--- whether tables can lead through the list
-module _ (names : List ℕ) (n : ℕ) (e : n ≡ count names) where
-  pub index-many : 512 < n → false ≡ indexable names
-  unfolding indexable
-  index-many h = sym (rw (← e, lt-leb _ _ h))
-
-  pub index-few : (r : Bool) → n ≤ 512 → r ≡ distinct names → r ≡ indexable names
-  unfolding indexable
-  index-few r h q = q ∙ sym (rw (← e, le-leb _ _ h))
-
-pub ruleset index-laws = (index-many, index-few)

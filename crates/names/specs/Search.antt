@@ -27,7 +27,3 @@ unfoldable pub lookup : List ℕ → List ℕ → Lookup
 lookup names name =
     cond (noName name) notFound
     (cond (ltb (first (count names) (isName names name)) (count names)) (foundAt (first (count names) (isName names name))) notFound)
-
--- the lists that tables can lead through: names that are distinct, and at most 512
-unfoldable pub indexable : List ℕ → Bool
-indexable names = leb (count names) 512 && distinct names

@@ -1,12 +1,9 @@
 // Lists of names, 32 bytes an entry: their rule, and the search for a name.
-pub mod indexed;
 pub mod rule;
 
 use entries::byte_at;
 pub use entries::count;
 pub use entries::entry;
-pub use indexed::index;
-pub use indexed::look_up;
 pub use rule::names_right;
 ghost use mathlib.Core.Path.{_≡_};
 ghost use Rattle.names.specs.Search.{noName, lookup};
@@ -18,7 +15,7 @@ pub struct Lookup {
 }
 
 // Whether a name can stand in no list: it is empty, or longer than an entry.
-fn no_name(name: &[u8]) -> bool
+pub fn no_name(name: &[u8]) -> bool
     ensures { λ r. ⌜ r ≡ noName (now (name .entry)) ⌝ }
 {
     if byte_at(name, 0) == 0 {

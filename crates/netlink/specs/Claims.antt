@@ -1,28 +1,15 @@
--- What the laws about attributes and walks say: `apart` (proofs/attributes/Apart.antt), and that a walk tells the first fault in order, or for
--- each type the last attribute (proofs/walk/Meaning.antt).
-use Prim.Native.Nat.{ℕ, _+_, _-_, _≤_, _<_}
+-- What the laws about walks say: that a walk tells the first fault in order, or for each type the last attribute (proofs/walk/Meaning.antt).
+use Prim.Native.Nat.{ℕ, _-_}
 use mathlib.Core.Path.{_≡_}
 use mathlib.Core.List.{List}
 use mathlib.Core.Logic.{_⊎_}
-use lib.ListN.{length, take, drop}
-use Rattle.basics.specs.Numbers.{u16At}
-use Rattle.netlink.specs.Attributes.{Attributes, partOf}
-use Rattle.netlink.specs.Attributes.Attributes.{done, broken, attribute}
+use Rattle.netlink_attributes.specs.Attributes.{Attributes, partOf}
+use Rattle.netlink_attributes.specs.Attributes.Attributes.{done, broken, attribute}
 use Rattle.netlink.specs.Policy.{ruleOf, judged}
 use Rattle.netlink.specs.declared.policy.Rule.{Rule}
 use Rattle.netlink.specs.declared.policy.Fault.{Fault}
 use Rattle.netlink.specs.declared.policy.Fault.the-variants.{Length}
 use Rattle.netlink.specs.declared.policy.Verdict.the-variants.{Right, Wrong}
-
--- demand 2, "its own part of the datagram, inside its parent, apart from its siblings": the attribute at a place has its header there; its
--- payload is the list's bytes from the header's end to the stated end, inside the list; the next stands no sooner than that end
-abbrev pub Apart : List ℕ → ℕ → Attributes → Type 0
-Apart s at done = Unit {0}
-Apart s at (broken p) = (p ≡ at) × (p < length s)
-Apart s at (attribute k b start end rest) =
-    (start ≡ at + 4) × (end ≡ at + u16At s at) × (start ≤ end) × (end ≤ length s)
-    × (partOf s start end ≡ take (u16At s at - 4) (drop (at + 4) s))
-    × ((next : ℕ) × (end ≤ next) × (next ≤ length s) × Apart s next rest)
 
 -- the attributes that are left once those before, each of them right, are passed
 pub data Passed (policy : List Rule) (s : List ℕ) : Attributes → Attributes → Type 0 where

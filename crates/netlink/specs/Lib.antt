@@ -1,4 +1,3 @@
-pub mod Attributes
 pub mod Policy
 pub mod Walk
 pub mod Claims

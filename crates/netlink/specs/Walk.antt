@@ -6,8 +6,8 @@ use mathlib.Core.Bool.{true, false, cond}
 use lib.ListN.{replicate}
 use lib.Dec.{eqb}
 use Rattle.basics.specs.Numbers.{u32At}
-use Rattle.netlink.specs.Attributes.{Attributes, attributes, partOf}
-use Rattle.netlink.specs.Attributes.Attributes.{done, broken, attribute}
+use Rattle.netlink_attributes.specs.Attributes.{Attributes, attributes, partOf}
+use Rattle.netlink_attributes.specs.Attributes.Attributes.{done, broken, attribute}
 use Rattle.netlink.specs.Policy.{ruleOf, judged}
 use Rattle.netlink.specs.declared.policy.Rule.{Rule}
 use Rattle.netlink.specs.declared.policy.Fault.{Fault}

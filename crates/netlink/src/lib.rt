@@ -1,4 +1,3 @@
-// Reading netlink: the attributes of a parent, and the walk of a parent under a policy.
-pub mod attributes;
+// Reading netlink: the walk of a parent under a policy.
 pub mod policy;
 pub mod walk;

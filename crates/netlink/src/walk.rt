@@ -1,14 +1,14 @@
 // The walk of a parent: every attribute in turn, judged by the policy.
 ghost use mathlib.Core.Path.{_≡_};
 ghost use Rattle.netlink.specs.Walk.{absentAll, found, stopped, walked, slotNumber};
-use crate::attributes::AttributeRead;
-use crate::attributes::payload;
-use crate::attributes::read_attribute;
 use crate::policy::Fault;
 use crate::policy::Rule;
 use crate::policy::Verdict;
 use crate::policy::judge;
 use crate::policy::rule_of;
+use netlink_attributes::AttributeRead;
+use netlink_attributes::payload;
+use netlink_attributes::read_attribute;
 use numbers::u32_at;
 
 // Where the payload of the last attribute of a type stands.

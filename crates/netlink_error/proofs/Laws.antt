@@ -9,14 +9,14 @@ use lib.Seq.{length-take-le}
 use Rattle.basics.specs.Numbers.{le32, u32At}
 use Rattle.netlink_headers.specs.declared.headers.MessageHeader.{MessageHeader}
 use Rattle.basics.specs.Put.{put}
-use Rattle.netlink_write.specs.Page.{Wrote}
+use Rattle.page.specs.Page.{Wrote}
 use Rattle.netlink_write.specs.Headers.{messageHeaderBytes}
 use Rattle.netlink_write.specs.Attributes.{attr}
 use Rattle.netlink_error.specs.Error.{detailBytes, flagsOf, negative, errorHeader, errorStart, errorMessage}
 use Rattle.netlink_error.specs.declared.Detail.{Detail}
 use Rattle.netlink_error.specs.declared.Detail.the-variants.{Nothing, Offset, MissTop, MissIn}
 use Rattle.basics.proofs.Put.{put-nil, then-rest}
-use Rattle.netlink_write.proofs.Page.{then-sized}
+use Rattle.page.proofs.Page.{then-sized}
 use Rattle.netlink_write.proofs.headers.Laws.{length-message-header}
 
 module _ (d : Detail) where

@@ -3,15 +3,15 @@ ghost use mathlib.Core.Path.{_≡_};
 ghost use Prim.Native.Nat.{_≤_};
 ghost use lib.ListN.{length};
 ghost use Rattle.basics.specs.Put.{put};
-ghost use Rattle.netlink_write.specs.Page.{Wrote};
+ghost use Rattle.page.specs.Page.{Wrote};
 ghost use Rattle.netlink_error.specs.declared.Detail.the-variants.{Nothing};
 ghost use Rattle.netlink_error.specs.Error.{detailBytes, flagsOf, negative, errorStart, errorMessage};
 use netlink_headers::headers::MessageHeader;
 use netlink_write::attributes::put_low_number;
-use netlink_write::bytes::put_bytes;
 use netlink_write::headers::put_message_header;
-use netlink_write::numbers::put_u32;
 use numbers::u32_at;
+use page::bytes::put_bytes;
+use page::put_u32;
 
 // The message type of an error message, its flags, and the types of its attributes.
 const ERROR: u16 = 2;

@@ -18,10 +18,3 @@ impl Stated {
         Step((n + 3) / 4 * 4)
     }
 }
-
-// A position, at most the end: a step past the parent's end stops there.
-pub fn capped(at: usize, end: usize) -> usize
-    ensures { λ r. ⌜ r ≡ min at end ⌝ }
-{
-    if at <= end { at } else { end }
-}

@@ -4,7 +4,7 @@ ghost use Rattle.netlink_headers.specs.Messages.{messageAt};
 use crate::headers::MessageHeader;
 use crate::headers::MessageHeaderRead;
 use crate::lengths::Stated;
-use crate::lengths::capped;
+use numbers::capped;
 
 pub enum MessageRead {
     // The message ends at its stated end; `next` is past its step, at most the datagram's end.

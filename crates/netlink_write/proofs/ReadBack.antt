@@ -11,17 +11,17 @@ use Rattle.basics.specs.Numbers.{byteAt, u16At, u32At}
 use Rattle.basics.proofs.Numbers.{digits16, digits32, byte-past, u16-past, u32-past}
 use Rattle.netlink_headers.specs.Lengths.{roundUp4}
 use Rattle.netlink_headers.specs.Headers.{messageHeaderAt, genericHeaderAt}
-use Rattle.netlink.specs.Attributes.{attributeAt, partOf, onRead, attributes}
-use Rattle.netlink.specs.Attributes.Attributes.{done, attribute}
+use Rattle.netlink_attributes.specs.Attributes.{attributeAt, partOf, onRead, attributes}
+use Rattle.netlink_attributes.specs.Attributes.Attributes.{done, attribute}
 use Rattle.netlink.specs.Policy.{nulAt, isName}
 use Rattle.netlink_headers.specs.declared.headers.MessageHeader.{MessageHeader}
 use Rattle.netlink_headers.specs.declared.headers.MessageHeaderRead.the-variants as M
 use Rattle.netlink_headers.specs.declared.headers.GenericHeader.{GenericHeader}
 use Rattle.netlink_headers.specs.declared.headers.GenericHeaderRead.the-variants as G
-use Rattle.netlink.specs.declared.attributes.AttributeRead.{AttributeRead}
-use Rattle.netlink.specs.declared.attributes.AttributeRead.the-variants.{Attribute}
+use Rattle.netlink_attributes.specs.declared.AttributeRead.{AttributeRead}
+use Rattle.netlink_attributes.specs.declared.AttributeRead.the-variants.{Attribute}
 use Rattle.netlink_headers.proofs.headers.Laws.{message-whole, generic-whole}
-use Rattle.netlink.proofs.attributes.Laws.{attribute-end, attribute-here, attributes-step, part-in}
+use Rattle.netlink_attributes.proofs.Laws.{attribute-end, attribute-here, attributes-step, part-in}
 use Rattle.netlink_write.specs.Headers.{messageHeaderBytes, genericHeaderBytes, attributeHeaderBytes}
 use Rattle.netlink_write.specs.Attributes.{padding, attr, nest, nameBytes}
 use Rattle.netlink_write.proofs.headers.Laws.{length-attribute-header}

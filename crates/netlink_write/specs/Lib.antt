@@ -1,3 +1,2 @@
-pub mod Page
 pub mod Headers
 pub mod Attributes

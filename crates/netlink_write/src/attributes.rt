@@ -6,15 +6,15 @@ ghost use lib.ListN.{length, take};
 ghost use Rattle.basics.specs.Numbers.{le32};
 ghost use Rattle.basics.specs.Put.{put};
 ghost use Rattle.netlink.specs.Policy.{nulAt};
-ghost use Rattle.netlink_write.specs.Page.{Wrote};
+ghost use Rattle.page.specs.Page.{Wrote};
 ghost use Rattle.netlink_write.specs.Headers.{attributeHeaderBytes};
 ghost use Rattle.netlink_write.specs.Attributes.{attr, filled, nameBytes, identity, numbered};
-use crate::bytes::put_filled;
 use crate::headers::put_attribute_header;
-use crate::numbers::put_low;
 use netlink::policy::nul_at;
 use netlink_headers::headers::AttributeHeader;
 use netlink_headers::lengths::Stated;
+use page::bytes::put_filled;
+use page::put_low;
 
 // The type bit that marks a nest.
 const NEST: u16 = 0x8000;

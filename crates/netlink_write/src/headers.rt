@@ -6,10 +6,10 @@ ghost use lib.ListN.{length};
 ghost use Rattle.basics.specs.Numbers.{le16, le32};
 ghost use Rattle.basics.specs.Put.{put};
 ghost use Rattle.netlink_write.specs.Headers.{messageHeaderBytes, genericHeaderBytes, attributeHeaderBytes};
-use crate::numbers::put_u16;
-use crate::numbers::put_u32;
 use netlink_headers::headers::GenericHeader;
 use netlink_headers::headers::MessageHeader;
+use page::put_u16;
+use page::put_u32;
 
 // Two numbers of 16 bits: 4 bytes.
 fn put_two_u16(page: &mut [u8], first: u16, second: u16)

@@ -15,10 +15,10 @@ use native.Mathlib.Omega.{arith}
 use borrow.Author.Tests.{le-ltb, ltb-false}
 use Rattle.basics.specs.Numbers.{le32}
 use Rattle.bits.specs.Set.{has, wordsOf, wordsFor}
-use Rattle.bits.specs.Bytes.{bytesOf}
+use Rattle.word_bytes.specs.Bytes.{bytesOf}
 use Rattle.bits.specs.Change.{Same, Below, merge}
 use Rattle.bits.proofs.Words.{length-wordsOf, has-wordsOf, wordsOf-cong}
-use Rattle.bits.proofs.WordBytes.{length-bytesOf}
+use Rattle.word_bytes.proofs.WordBytes.{length-bytesOf}
 use Rattle.entries.specs.Entry.{count}
 use Rattle.names.specs.Rule.{namesRight}
 use Rattle.names.proofs.Rules.{right-means}

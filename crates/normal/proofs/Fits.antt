@@ -9,14 +9,14 @@ use native.Mathlib.Omega.{arith}
 use borrow.Author.Tests.{le-leb, leb-false, ltb-true, ne-eqb}
 use Rattle.basics.proofs.Scan.{any-not}
 use Rattle.bits.specs.Set.{has, somePast, past, wordsFor}
-use Rattle.bits.specs.Bytes.{wordsIn}
+use Rattle.word_bytes.specs.Bytes.{wordsIn}
 use Rattle.bits.specs.Change.{Below, Listed, listMask}
 use Rattle.entries.specs.Entry.{count}
 use Rattle.names.specs.Search.{lookup}
 use Rattle.names.specs.declared.Lookup.{Lookup}
 use Rattle.names.proofs.Search.{lookup-found}
-use Rattle.netlink.specs.Attributes.{Attributes, attributes, partOf}
-use Rattle.netlink.specs.Attributes.Attributes.{done, broken, attribute}
+use Rattle.netlink_attributes.specs.Attributes.{Attributes, attributes, partOf}
+use Rattle.netlink_attributes.specs.Attributes.Attributes.{done, broken, attribute}
 use Rattle.netlink.specs.Walk.{absent, walked, slotNumber}
 use Rattle.netlink.specs.declared.walk.Slot.{Slot}
 use Rattle.netlink.specs.declared.walk.Stop.{Stop}
@@ -30,8 +30,8 @@ use Rattle.bitset_form.specs.Bitset.Reading.{refused, accepted}
 use Rattle.bitset_compact.specs.Compact.{bitmap, wholeReading, maskedReading, compactReading}
 use Rattle.bitset_bit.specs.Bit.{byIndex, onLookup, byName, identified, onLooked, partsReading, bitReading}
 use Rattle.refusal.specs.Refusal.{onStop}
-use Rattle.bitset.specs.BitList.{ListReading, onBit, bitsReading, asBitset, listReading}
-use Rattle.bitset.specs.BitList.ListReading.{stopped, entries}
+use Rattle.bitset_list.specs.BitList.{ListReading, onBit, bitsReading, asBitset, listReading}
+use Rattle.bitset_list.specs.BitList.ListReading.{stopped, entries}
 use Rattle.bitset.specs.Judge as J
 use Rattle.bitset.specs.declared.judge.Mixing.{Mixing}
 use Rattle.bitset.specs.declared.judge.Mixing.the-variants.{Pure, At}

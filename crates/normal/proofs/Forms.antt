@@ -8,9 +8,9 @@ use lib.Seq.{take-at, drop-at}
 use native.Mathlib.Omega.{arith}
 use Rattle.basics.specs.Numbers.{le32}
 use Rattle.bits.specs.Set.{wordsOf, wordsFor}
-use Rattle.bits.specs.Bytes.{bytesOf}
+use Rattle.word_bytes.specs.Bytes.{bytesOf}
 use Rattle.bits.proofs.Words.{length-wordsOf, take-wordsOf}
-use Rattle.bits.proofs.WordBytes.{length-bytesOf, bytes-same}
+use Rattle.word_bytes.proofs.WordBytes.{length-bytesOf, bytes-same}
 use Rattle.bits.proofs.Change.{alike-words, words-alike}
 use Rattle.netlink_write.specs.Headers.{attributeHeaderBytes}
 use Rattle.netlink_write.specs.Attributes.{attr}

@@ -20,7 +20,7 @@ use Rattle.bitset_form.specs.Bitset.Reading.{refused, accepted}
 use Rattle.bitset.specs.Judge.{bitsetReading}
 use Rattle.bitset_form.specs.declared.Judgement.the-variants.{Accepted, Refused}
 use Rattle.bitset_form.specs.declared.Judged.{Judged}
-use Rattle.netlink_write.specs.Page.{Wrote}
+use Rattle.page.specs.Page.{Wrote}
 use Rattle.bitset_write.specs.Form.{formBytes}
 use Rattle.normal.specs.Normal.{normalForm, Outcome, refusedBy, onReading, normalised, shown, Normalised}
 use Rattle.normal.specs.declared.Normal.{Normal}

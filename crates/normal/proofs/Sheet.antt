@@ -5,11 +5,11 @@ use Rattle.basics.specs.Numbers.{u16At, u32At}
 use Rattle.basics.specs.Scan.{all, any, first}
 use Rattle.bits.specs.Bit.{number}
 use Rattle.bits.specs.Set.{has, wordsOf, somePast, past}
-use Rattle.bits.specs.Bytes.{table, wordsIn, bytesOf}
+use Rattle.word_bytes.specs.Bytes.{table, wordsIn, bytesOf}
 use Rattle.bits.specs.Change.{applied, listMask, listValue}
 use Rattle.entries.specs.Entry.{entryAt, sameByte, same}
 use Rattle.names.specs.Search.{isName, noName, lookup}
-use Rattle.netlink.specs.Attributes.{attributeAt, partOf, attributesUpTo, attributes}
+use Rattle.netlink_attributes.specs.Attributes.{attributeAt, partOf, attributesUpTo, attributes}
 use Rattle.netlink.specs.Policy as P
 use Rattle.netlink.specs.Walk.{firstFault, lastOf, walked, slotNumber}
 use Rattle.netlink_write.specs.Headers.{attributeHeaderBytes}
@@ -17,7 +17,7 @@ use Rattle.netlink_write.specs.Attributes.{padding, attr, nest}
 use Rattle.bitset_form.specs.Bitset.{effect, maskOf, valueOf}
 use Rattle.bitset_compact.specs.Compact.{wholeReading, maskedReading, compactReading}
 use Rattle.bitset_bit.specs.Bit as BT
-use Rattle.bitset.specs.BitList as BL
+use Rattle.bitset_list.specs.BitList as BL
 use Rattle.bitset.specs.Judge.{mixedAt, partsReading, bitsetReading}
 use Rattle.bitset_write.specs.Form.{partsBytes, formBytes}
 use Rattle.normal.specs.Normal.{normalForm}

@@ -13,14 +13,14 @@ use Rattle.basics.proofs.Numbers.{u32-le32}
 use Rattle.basics.proofs.Scan.{any-none}
 use Rattle.basics.proofs.Truth.{cond-false}
 use Rattle.bits.specs.Set.{has, wordsOf, wordsFor, somePast, past}
-use Rattle.bits.specs.Bytes.{bytesOf}
+use Rattle.word_bytes.specs.Bytes.{bytesOf}
 use Rattle.bits.proofs.Words.{length-wordsOf}
-use Rattle.bits.proofs.WordBytes.{Small, small-wordsOf, length-bytesOf, words-of-bytes}
+use Rattle.word_bytes.proofs.WordBytes.{Small, small-wordsOf, length-bytesOf, words-of-bytes}
 use Rattle.entries.specs.Entry.{count}
 use Rattle.names.specs.Rule.{namesRight}
 use Rattle.names.proofs.Rules.{right-means}
-use Rattle.netlink.specs.Attributes.{attributes, partOf}
-use Rattle.netlink.specs.Attributes.Attributes.{done, attribute}
+use Rattle.netlink_attributes.specs.Attributes.{attributes, partOf}
+use Rattle.netlink_attributes.specs.Attributes.Attributes.{done, attribute}
 use Rattle.netlink.specs.Policy.{ruleOf, plain, judged}
 use Rattle.netlink.specs.Walk.{found, absent, firstFault, lastOf, walked, slotNumber}
 use Rattle.netlink.specs.declared.walk.Slot.{Slot}

@@ -6,7 +6,7 @@ use lib.ListN.{replicate}
 use lib.Dec.{eqb}
 use Rattle.basics.specs.Numbers.{le32}
 use Rattle.bits.specs.Set.{has, wordsOf}
-use Rattle.bits.specs.Bytes.{bytesOf}
+use Rattle.word_bytes.specs.Bytes.{bytesOf}
 use Rattle.netlink_write.specs.Attributes.{attr, nest}
 use Rattle.netlink_error.specs.declared.Detail.{Detail}
 use Rattle.netlink_error.specs.declared.Detail.the-variants.{Nothing, Offset, MissTop, MissIn}

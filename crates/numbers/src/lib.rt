@@ -1,6 +1,6 @@
 // Little-endian numbers in a slice. Past the end of the slice a byte counts as 0, so every position has an answer.
 ghost use mathlib.Core.Path.{_≡_};
-ghost use Prim.Native.Nat.{_+_, _≤_, _<_};
+ghost use Prim.Native.Nat.{_+_, _≤_, _<_, min};
 ghost use lib.ListN.{length};
 ghost use Rattle.basics.specs.Numbers.{byteAt, u16At, u32At};
 
@@ -60,6 +60,13 @@ fn u32_near_end(s: &[u8], at: usize) -> u32
     let c = wide32(byte_at(s, at + 2));
     let d = wide32(byte_at(s, at + 3));
     a + b * 256 + c * 65536 + d * 16777216
+}
+
+// A position, at most the end: a step past the parent's end stops there.
+pub fn capped(at: usize, end: usize) -> usize
+    ensures { λ r. ⌜ r ≡ min at end ⌝ }
+{
+    if at <= end { at } else { end }
 }
 
 fn wide16(x: u8) -> u16

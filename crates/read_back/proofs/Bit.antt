@@ -10,8 +10,8 @@ use borrow.Author.Tests.{lt-leb}
 use Rattle.basics.specs.Numbers.{le32, u32At}
 use Rattle.basics.proofs.Numbers.{u32-le32}
 use Rattle.entries.specs.Entry.{count}
-use Rattle.netlink.specs.Attributes.{attributes, partOf}
-use Rattle.netlink.specs.Attributes.Attributes.{done, attribute}
+use Rattle.netlink_attributes.specs.Attributes.{attributes, partOf}
+use Rattle.netlink_attributes.specs.Attributes.Attributes.{done, attribute}
 use Rattle.netlink.specs.Policy.{nulAt, ruleOf, plain, judged}
 use Rattle.netlink.specs.Walk.{found, absent, firstFault, lastOf, walked, slotNumber}
 use Rattle.netlink.specs.declared.walk.Slot.{Slot}

@@ -10,15 +10,15 @@ use borrow.Author.Tests.{eq-eqb, ne-eqb}
 use Rattle.basics.proofs.Order.{lt-or-ge}
 use Rattle.bits.specs.Change.{Below, Listed, listMask}
 use Rattle.entries.specs.Entry.{count, entryAt}
-use Rattle.netlink.specs.Attributes.{attributes, partOf}
+use Rattle.netlink_attributes.specs.Attributes.{attributes, partOf}
 use Rattle.netlink.specs.Policy.{nulAt, ruleOf, nested, judged}
 use Rattle.netlink.specs.Walk.{firstFault}
 use Rattle.netlink.specs.declared.walk.Stop.the-variants.{Whole}
 use Rattle.netlink_write.specs.Attributes.{identity, numbered}
 use Rattle.netlink_write.proofs.ReadBack.{attributes-end}
 use Rattle.bitset_form.specs.Policies.{bitsPolicy}
-use Rattle.bitset.specs.BitList.{bitsReading}
-use Rattle.bitset.specs.BitList.ListReading.{entries}
+use Rattle.bitset_list.specs.BitList.{bitsReading}
+use Rattle.bitset_list.specs.BitList.ListReading.{entries}
 use Rattle.bitset_reply.specs.List.{bitIn, bitsBytes}
 use Rattle.bitset_reply.proofs.list.Lengths.{identity-whole, identity-most, Short}
 use Rattle.read_back.proofs.Places.{upTo, nest-at, contents-at, cut-at}

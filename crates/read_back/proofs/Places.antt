@@ -5,13 +5,13 @@ use mathlib.Core.List.{List, [], _++_, append-assoc}
 use lib.ListN.{length, length-append}
 use lib.Seq.{take-all}
 use native.Mathlib.Omega.{arith}
-use Rattle.netlink.specs.Attributes.{Attributes, attributes, partOf}
-use Rattle.netlink.specs.Attributes.Attributes.{attribute}
+use Rattle.netlink_attributes.specs.Attributes.{Attributes, attributes, partOf}
+use Rattle.netlink_attributes.specs.Attributes.Attributes.{attribute}
 use Rattle.netlink.specs.Walk.{absent, firstFault, lastOf, eachType, onStop, walked}
 use Rattle.netlink.specs.declared.policy.Rule.{Rule}
 use Rattle.netlink.specs.declared.walk.Stop.{Stop}
 use Rattle.netlink.specs.declared.walk.Stop.the-variants.{Whole}
-use Rattle.netlink.proofs.attributes.Laws.{part-in}
+use Rattle.netlink_attributes.proofs.Laws.{part-in}
 use Rattle.netlink_write.specs.Headers.{attributeHeaderBytes}
 use Rattle.netlink_write.specs.Attributes.{attr, nest}
 use Rattle.netlink_write.proofs.headers.Laws.{length-attribute-header}

@@ -7,12 +7,12 @@ use lib.ListN.{length, length-append}
 use native.Mathlib.Omega.{arith}
 use Rattle.bits.specs.Set.{has, wordsFor}
 use Rattle.bits.specs.Change.{Below}
-use Rattle.bits.proofs.WordBytes.{Small}
+use Rattle.word_bytes.proofs.WordBytes.{Small}
 use Rattle.entries.specs.Entry.{count}
 use Rattle.names.specs.Rule.{namesRight}
 use Rattle.names.proofs.Rules.{right-means}
-use Rattle.netlink.specs.Attributes.{attributes}
-use Rattle.netlink.specs.Attributes.Attributes.{done, attribute}
+use Rattle.netlink_attributes.specs.Attributes.{attributes}
+use Rattle.netlink_attributes.specs.Attributes.Attributes.{done, attribute}
 use Rattle.netlink.specs.Policy.{nulAt}
 use Rattle.netlink_write.specs.Attributes.{nest, identity, numbered}
 use Rattle.netlink_write.proofs.ReadBack.{attributes-end}

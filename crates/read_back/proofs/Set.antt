@@ -12,14 +12,14 @@ use Rattle.basics.proofs.Numbers.{u32-le32}
 use Rattle.basics.proofs.Order.{lt-or-ge}
 use Rattle.basics.proofs.Scan.{any-none}
 use Rattle.bits.specs.Set.{has, wordsFor, past, somePast}
-use Rattle.bits.specs.Bytes.{bytesOf}
+use Rattle.word_bytes.specs.Bytes.{bytesOf}
 use Rattle.bits.specs.Change.{Below}
-use Rattle.bits.proofs.WordBytes.{Small, length-bytesOf, words-of-bytes}
+use Rattle.word_bytes.proofs.WordBytes.{Small, length-bytesOf, words-of-bytes}
 use Rattle.entries.specs.Entry.{count}
 use Rattle.names.specs.Rule.{namesRight}
 use Rattle.names.proofs.Rules.{right-means}
-use Rattle.netlink.specs.Attributes.{Attributes, attributes, partOf}
-use Rattle.netlink.specs.Attributes.Attributes.{done, attribute}
+use Rattle.netlink_attributes.specs.Attributes.{Attributes, attributes, partOf}
+use Rattle.netlink_attributes.specs.Attributes.Attributes.{done, attribute}
 use Rattle.netlink.specs.Policy.{ruleOf, plain, nested, judged}
 use Rattle.netlink.specs.Walk.{found, absent, firstFault, lastOf, walked, slotNumber}
 use Rattle.netlink.specs.declared.walk.Stop.the-variants.{Whole}
@@ -34,7 +34,7 @@ use Rattle.bitset_form.specs.Bitset.Bitset.{whole, only}
 use Rattle.bitset_form.specs.Bitset.Reading.{refused, accepted}
 use Rattle.bitset_compact.specs.Compact.{wholeReading, compactReading}
 use Rattle.refusal.specs.Refusal.{onStop}
-use Rattle.bitset.specs.BitList.{listReading}
+use Rattle.bitset_list.specs.BitList.{listReading}
 use Rattle.bitset.specs.Judge.{mixedAt, partsReading, bitsetReading}
 use Rattle.bitset_reply.specs.List.{bitsBytes}
 use Rattle.bitset_reply.specs.Set.{openingBytes, compactBytes, verboseBytes, contentsBytes}

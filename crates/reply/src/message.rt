@@ -4,7 +4,7 @@ ghost use Prim.Native.Nat.{_+_, _≤_};
 ghost use lib.ListN.{length};
 ghost use Rattle.basics.specs.Put.{put};
 ghost use Rattle.bits.specs.Set.{wordsFor};
-ghost use Rattle.netlink_write.specs.Page.{Wrote};
+ghost use Rattle.page.specs.Page.{Wrote};
 ghost use Rattle.reply.specs.Message.{headingOf, headersBytes, attributesBytes, replyBytes};
 use bitset_reply::set::put_set;
 use netlink_headers::headers::GenericHeader;

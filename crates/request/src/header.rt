@@ -6,12 +6,12 @@ use crate::policies::FLAGS;
 use crate::policies::INDEX;
 use crate::policies::NAME;
 use crate::policies::header_policy;
-use netlink::attributes::payload;
-use netlink::attributes::place;
 use netlink::walk::Slot;
 use netlink::walk::Stop;
 use netlink::walk::slot_number;
 use netlink::walk::walk;
+use netlink_attributes::payload;
+use netlink_attributes::place;
 use refusal::Refusal;
 use refusal::of_fault;
 

@@ -1,10 +1,10 @@
 // The port that a header names: refusals 16 and 17.
 ghost use mathlib.Core.Path.{_≡_};
 ghost use Rattle.request.specs.Target.{otherName, portByIndex, portByName, targetOf};
-use netlink::attributes::payload;
-use netlink::attributes::place;
 use netlink::walk::Slot;
 use netlink::walk::slot_number;
+use netlink_attributes::payload;
+use netlink_attributes::place;
 use refusal::Refusal;
 use roll::Found;
 use roll::find_index;

@@ -5,7 +5,7 @@ use mathlib.Core.List.{List}
 use borrow.Author.Tests.{eq-eqb, ne-eqb}
 use Rattle.basics.proofs.Put.{put-nil}
 use Rattle.netlink_headers.specs.declared.headers.MessageHeader.{MessageHeader}
-use Rattle.netlink_write.specs.Page.{Wrote}
+use Rattle.page.specs.Page.{Wrote}
 use Rattle.netlink_error.specs.Error.{errorMessage}
 use Rattle.netlink_error.specs.declared.Detail.the-variants.{Nothing}
 use Rattle.refusal.specs.Refusal.{rowOf, errnoOf, detailOf}

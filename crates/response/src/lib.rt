@@ -2,7 +2,7 @@
 ghost use mathlib.Core.Path.{_≡_};
 ghost use Prim.Native.Nat.{_≤_};
 ghost use lib.ListN.{length};
-ghost use Rattle.netlink_write.specs.Page.{Wrote};
+ghost use Rattle.page.specs.Page.{Wrote};
 ghost use Rattle.response.specs.Answer.{kindNumber, refusalNumber, Said, refusal, speech, done, ackBytes};
 use netlink_error::put_ack;
 use netlink_error::put_error;

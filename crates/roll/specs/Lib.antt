@@ -1,5 +1,3 @@
 pub mod Record
 pub mod Name
 pub mod Find
-pub mod Rule
-pub mod Marks

@@ -6,7 +6,7 @@ use lib.ListN.{length}
 use lib.Dec.{leb, eqb}
 use Rattle.basics.specs.Numbers.{byteAt}
 use Rattle.basics.specs.Scan.{all}
-use Rattle.netlink.specs.Attributes.{partOf}
+use Rattle.netlink_attributes.specs.Attributes.{partOf}
 
 -- the 16 bytes at a place of the roll, none where they do not lie in it
 unfoldable pub nameAt : List ℕ → ℕ → List ℕ

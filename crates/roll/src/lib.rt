@@ -1,10 +1,8 @@
-// The port roll, read record by record: its rule, how many ports it has, and the port of an index or of a name.
+// The port roll, read record by record: how many ports it has, and the port of an index or of a name.
 pub mod count;
 pub mod find;
-pub mod marks;
 pub mod name;
 pub mod record;
-pub mod rule;
 
 pub use count::ports;
 pub use find::Found;
@@ -14,5 +12,3 @@ pub use name::name_at;
 pub use name::same_name;
 pub use record::RecordRead;
 pub use record::read_record;
-pub use rule::roll_right;
-pub use rule::roll_right_of;

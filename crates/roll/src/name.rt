@@ -2,7 +2,7 @@
 ghost use mathlib.Core.Path.{_≡_};
 ghost use Prim.Native.Nat.{_<_};
 ghost use Rattle.roll.specs.Name.{nameAt, sameName, isNameAt, nulThenNul, nameRight};
-use netlink::attributes::payload;
+use netlink_attributes::payload;
 use numbers::byte_at;
 use numbers::u32_at;
 

@@ -21,7 +21,7 @@ use Rattle.bitset_form.specs.Bitset.{Reading, refusedAs, judgedAs}
 use Rattle.bitset_form.specs.Bitset.Reading.{refused}
 use Rattle.bitset_compact.specs.Compact.{compactReading}
 use Rattle.refusal.specs.Refusal.{onStop}
-use Rattle.bitset.specs.BitList.{listReading}
+use Rattle.bitset_list.specs.BitList.{listReading}
 use Rattle.bitset_form.specs.declared.Judged.{Judged}
 use Rattle.bitset.specs.Judge.{mixedAt, onMixing, partsReading, bitsetReading}
 use Rattle.bitset.specs.declared.judge.Mixing.{Mixing}

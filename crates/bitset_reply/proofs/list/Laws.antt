@@ -14,10 +14,10 @@ use Rattle.basics.specs.Put.{put}
 use Rattle.basics.proofs.Put.{put-nil}
 use Rattle.entries.specs.Entry.{count, entryAt}
 use Rattle.entries.proofs.Entries.{entry-none, entry-length}
-use Rattle.netlink_write.specs.Page.{Wrote}
+use Rattle.page.specs.Page.{Wrote}
 use Rattle.netlink_write.specs.Headers.{attributeHeaderBytes}
 use Rattle.netlink_write.specs.Attributes.{nest, numbered}
-use Rattle.netlink_write.proofs.Page.{wrote-then}
+use Rattle.page.proofs.Page.{wrote-then}
 use Rattle.netlink_write.proofs.attributes.Laws.{nest-wrote}
 use Rattle.bitset_reply.specs.List.{bitIn, bitsBytes}
 

@@ -9,11 +9,11 @@ use borrow.Rule.Slice.PartMut.{putMid}
 use Rattle.basics.specs.Numbers.{le32}
 use Rattle.basics.specs.Put.{put}
 use Rattle.bits.specs.Set.{has}
-use Rattle.bits.specs.Bytes.{bytesOf}
-use Rattle.netlink_write.specs.Page.{Wrote}
+use Rattle.word_bytes.specs.Bytes.{bytesOf}
+use Rattle.page.specs.Page.{Wrote}
 use Rattle.netlink_write.specs.Headers.{attributeHeaderBytes}
 use Rattle.netlink_write.specs.Attributes.{attr, nest}
-use Rattle.netlink_write.proofs.Page.{wrote-then}
+use Rattle.page.proofs.Page.{wrote-then}
 use Rattle.netlink_write.proofs.attributes.Laws.{nest-wrote}
 use Rattle.bitset_reply.specs.List.{bitsBytes}
 use Rattle.bitset_reply.specs.Set.{openingBytes, compactBytes, verboseBytes, contentsBytes, setBytes}

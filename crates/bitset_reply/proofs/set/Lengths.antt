@@ -7,8 +7,8 @@ use lib.ListN.{length, length-append}
 use native.Mathlib.Omega.{arith}
 use Rattle.basics.specs.Numbers.{le32}
 use Rattle.bits.specs.Set.{has, wordsFor}
-use Rattle.bits.specs.Bytes.{bytesOf}
-use Rattle.bits.proofs.WordBytes.{length-bytesOf}
+use Rattle.word_bytes.specs.Bytes.{bytesOf}
+use Rattle.word_bytes.proofs.WordBytes.{length-bytesOf}
 use Rattle.netlink_write.specs.Attributes.{attr, nest}
 use Rattle.netlink_write.proofs.attributes.Laws.{length-attr, length-nest}
 use Rattle.bitset_reply.specs.List.{bitsBytes}

@@ -6,9 +6,9 @@ use lib.ListN.{length, take, drop}
 use native.Mathlib.Omega.{arith}
 use borrow.Rule.Slice.PartMut.{putMid}
 use Rattle.basics.specs.Put.{put}
-use Rattle.bits.specs.Bytes.{bytesOf}
-use Rattle.bits.proofs.WordBytes.{length-bytesOf}
-use Rattle.netlink_write.specs.Page.{Wrote}
+use Rattle.word_bytes.specs.Bytes.{bytesOf}
+use Rattle.word_bytes.proofs.WordBytes.{length-bytesOf}
+use Rattle.page.specs.Page.{Wrote}
 use Rattle.netlink_write.specs.Headers.{attributeHeaderBytes}
 use Rattle.netlink_write.specs.Attributes.{attr}
 use Rattle.netlink_write.proofs.attributes.Laws.{attribute-wrote}

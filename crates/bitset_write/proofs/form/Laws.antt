@@ -7,10 +7,10 @@ use native.Mathlib.Omega.{arith}
 use borrow.Rule.Slice.PartMut.{putMid}
 use Rattle.basics.specs.Numbers.{le32}
 use Rattle.bits.specs.Set.{wordsFor}
-use Rattle.bits.specs.Bytes.{bytesOf}
-use Rattle.netlink_write.specs.Page.{Wrote}
+use Rattle.word_bytes.specs.Bytes.{bytesOf}
+use Rattle.page.specs.Page.{Wrote}
 use Rattle.netlink_write.specs.Attributes.{attr}
-use Rattle.netlink_write.proofs.Page.{wrote-then}
+use Rattle.page.proofs.Page.{wrote-then}
 use Rattle.bitset_write.specs.Form.{partsBytes, formBytes}
 
 pub parts-wrote : (P A B C value mask : List ℕ) (n a v at m : ℕ) → 144 ≤ length P → length value ≤ 16 → a ≡ 8 → Wrote (attr 2 (le32 n)) P A a

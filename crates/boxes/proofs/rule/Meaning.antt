@@ -13,8 +13,8 @@ use Rattle.entries.specs.Entry.{count}
 use Rattle.names.specs.Rule.{namesRight}
 use Rattle.names.proofs.Rules as N
 use Rattle.roll.specs.Record.{portCount}
-use Rattle.roll.specs.Rule.{rollRight}
-use Rattle.roll.proofs.rule.Laws as R
+use Rattle.roll_rule.specs.Rule.{rollRight}
+use Rattle.roll_rule.proofs.Laws as R
 use Rattle.layout.specs.Layout.{words}
 use Rattle.boxes.specs.Settings.{settingsRight}
 use Rattle.boxes.specs.Box.{familyRight, adminRight, boxRight}

@@ -10,8 +10,8 @@ use borrow.Author.Tests.{eq-eqb, ne-eqb, eqb-true, leb-true, not-true, not-false
 use Rattle.basics.specs.Put.{put}
 use Rattle.basics.proofs.Put.{put-nil, put-whole}
 use Rattle.basics.proofs.Truth.{both-true}
-use Rattle.bits.specs.Bytes.{wordsIn, bytesOf}
-use Rattle.bits.proofs.WordBytes.{length-wordsIn, length-bytesOf}
+use Rattle.word_bytes.specs.Bytes.{wordsIn, bytesOf}
+use Rattle.word_bytes.proofs.WordBytes.{length-wordsIn, length-bytesOf}
 use Rattle.refusal.specs.declared.Refusal.the-variants as R
 use Rattle.response.specs.Answer.{Did}
 use Rattle.response.specs.declared.Kind.the-variants.{Refused}

@@ -14,8 +14,8 @@ use Rattle.entries.specs.Entry.{count}
 use Rattle.netlink_headers.specs.Lengths.{roundUp4}
 use Rattle.netlink_headers.specs.Headers.{messageHeader}
 use Rattle.netlink_headers.specs.Messages.{messageAt}
-use Rattle.netlink.proofs.attributes.Laws.{part-in}
-use Rattle.netlink.specs.Attributes.{partOf}
+use Rattle.netlink_attributes.proofs.Laws.{part-in}
+use Rattle.netlink_attributes.specs.Attributes.{partOf}
 use Rattle.netlink_headers.specs.declared.headers.MessageHeader.{MessageHeader}
 use Rattle.netlink_headers.specs.declared.messages.MessageRead.{MessageRead}
 use Rattle.netlink_headers.specs.declared.messages.MessageRead.the-variants.{Message, Misstated, Cut, AtEnd, Outside}
@@ -30,12 +30,12 @@ use Rattle.admission.specs.declared.commands.Command.{Command}
 use Rattle.admission.specs.declared.Admission.{Admission}
 use Rattle.admission.specs.declared.Admission.the-variants as A
 use Rattle.response.specs.Answer.{Outcome, quiet, refusal, leaves, Said, Did}
-use Rattle.handler.specs.Obey.{Fit, obeyed}
+use Rattle.obey.specs.Obey.{Fit, obeyed}
 use Rattle.handler.specs.Call.{onAdmission, messageOutcome, onMessage, positionOutcome, outcome}
 use Rattle.response.specs.declared.Kind.{Kind}
 use Rattle.response.specs.declared.Kind.the-variants.{End, Skipped, Refused}
 use Rattle.response.specs.declared.Answer.{Answer}
-use Rattle.handler.proofs.obey.Laws.{leaves-did}
+use Rattle.obey.proofs.Laws.{leaves-did}
 
 -- nothing is written, and the settings stay
 pub quiet-did : (o : Outcome) (k : Kind) (next : ℕ) (P ws : List ℕ) (r : Answer) → r ≡ record { kind = k; next = next; written = 0 } → o ≡ leaves (quiet k next) ws

@@ -14,7 +14,7 @@ use Rattle.netlink_headers.specs.Headers.{messageHeader}
 use Rattle.netlink_headers.specs.Messages.{messageAt}
 use Rattle.netlink_headers.specs.declared.headers.MessageHeader.{MessageHeader}
 use Rattle.netlink_headers.specs.declared.messages.MessageRead.the-variants.{Message, Misstated, Cut, AtEnd, Outside}
-use Rattle.netlink.specs.Attributes.{partOf}
+use Rattle.netlink_attributes.specs.Attributes.{partOf}
 use Rattle.netlink.specs.declared.walk.Slot.{Slot}
 use Rattle.refusal.specs.declared.Refusal.the-variants as R
 use Rattle.bitset_form.specs.Bitset.{Reading}
@@ -34,7 +34,7 @@ use Rattle.request.specs.declared.top.Top.the-variants as T
 use Rattle.request.specs.declared.aim.Aim.{Aim}
 use Rattle.request.specs.declared.aim.Aim.the-variants as P
 use Rattle.response.specs.Answer.{Outcome, speech, done, leaves}
-use Rattle.handler.specs.Obey.{gotten, onReading, setOutcome, deed, onAim, aimed, onTop, obeyed}
+use Rattle.obey.specs.Obey.{gotten, onReading, setOutcome, deed, onAim, aimed, onTop, obeyed}
 use Rattle.handler.specs.Call.{onAdmission, messageOutcome, stays, onMessage, positionOutcome, outcome, isOver}
 
 -- whatever is said of a message, the next position is the one after it

@@ -11,8 +11,8 @@ use native.Mathlib.Omega.{arith}
 use borrow.Author.Tests.{eqb-true, eqb-false}
 use Rattle.basics.proofs.Order.{lt-or-ge}
 use Rattle.basics.specs.Numbers.{u32At}
-use Rattle.netlink.specs.Attributes.{attributeAt, partOf, Attributes, onRead, attributes}
-use Rattle.netlink.specs.Attributes.Attributes.{attribute}
+use Rattle.netlink_attributes.specs.Attributes.{attributeAt, partOf, Attributes, onRead, attributes}
+use Rattle.netlink_attributes.specs.Attributes.Attributes.{attribute}
 use Rattle.netlink.specs.Policy.{ruleOf, judged}
 use Rattle.netlink.specs.Walk.{found, absent, absentAll, firstFault, lastOf, eachType, stopped, onStop, walked, slotNumber}
 use Rattle.netlink.specs.declared.policy.Rule.{Rule}
@@ -21,12 +21,12 @@ use Rattle.netlink.specs.declared.policy.Fault.{Fault}
 use Rattle.netlink.specs.declared.policy.Fault.the-variants.{Length, Unknown}
 use Rattle.netlink.specs.declared.policy.Verdict.{Verdict}
 use Rattle.netlink.specs.declared.policy.Verdict.the-variants.{Right, Wrong}
-use Rattle.netlink.specs.declared.attributes.AttributeRead.{AttributeRead}
-use Rattle.netlink.specs.declared.attributes.AttributeRead.the-variants.{Attribute, Broken, End}
+use Rattle.netlink_attributes.specs.declared.AttributeRead.{AttributeRead}
+use Rattle.netlink_attributes.specs.declared.AttributeRead.the-variants.{Attribute, Broken, End}
 use Rattle.netlink.specs.declared.walk.Slot.{Slot}
 use Rattle.netlink.specs.declared.walk.Stop.the-variants.{Whole}
 use Rattle.netlink.specs.declared.walk.Walked.{Walked}
-use Rattle.netlink.proofs.attributes.Laws.{Bounded, bounded, attributes-step}
+use Rattle.netlink_attributes.proofs.Laws.{Bounded, bounded, attributes-step}
 use Rattle.netlink.proofs.policy.Laws.{rule-past}
 
 module _ (s : List ℕ) (slot : Slot) where

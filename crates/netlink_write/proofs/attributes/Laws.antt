@@ -11,11 +11,11 @@ use Rattle.basics.specs.Numbers.{le32}
 use Rattle.netlink_headers.specs.Lengths.{roundUp4}
 use Rattle.netlink.specs.Policy.{nulAt}
 use Rattle.basics.specs.Put.{put}
-use Rattle.netlink_write.specs.Page.{Wrote}
+use Rattle.page.specs.Page.{Wrote}
 use Rattle.netlink_write.specs.Headers.{attributeHeaderBytes}
 use Rattle.netlink_write.specs.Attributes.{padding, attr, filled, nest, nameBytes, named, identity, numbered}
 use Rattle.basics.proofs.Put.{then-rest}
-use Rattle.netlink_write.proofs.Page.{then-front, then-sized}
+use Rattle.page.proofs.Page.{then-front, then-sized}
 use Rattle.netlink_write.proofs.headers.Laws.{length-attribute-header}
 
 -- an attribute is as long as the step to the next

@@ -9,10 +9,10 @@ use Rattle.basics.specs.Numbers.{le16, le32}
 use Rattle.netlink_headers.specs.declared.headers.MessageHeader.{MessageHeader}
 use Rattle.netlink_headers.specs.declared.headers.GenericHeader.{GenericHeader}
 use Rattle.basics.specs.Put.{put}
-use Rattle.netlink_write.specs.Page.{Wrote}
+use Rattle.page.specs.Page.{Wrote}
 use Rattle.netlink_write.specs.Headers.{messageHeaderBytes, genericHeaderBytes, attributeHeaderBytes}
 use Rattle.basics.proofs.Put.{then-rest}
-use Rattle.netlink_write.proofs.Page.{then-sized}
+use Rattle.page.proofs.Page.{then-sized}
 
 pub length-message-header : (h : MessageHeader) → length (messageHeaderBytes h) ≡ 16
 unfolding messageHeaderBytes

@@ -8,10 +8,10 @@ use native.Mathlib.Omega.{arith}
 use borrow.Rule.Slice.PartMut.{putMid}
 use Rattle.basics.specs.Put.{put}
 use Rattle.basics.proofs.Put.{then-rest}
-use Rattle.netlink_write.specs.Page.{Wrote}
+use Rattle.page.specs.Page.{Wrote}
 use Rattle.netlink_write.specs.Headers.{messageHeaderBytes, genericHeaderBytes}
 use Rattle.netlink_write.specs.Attributes.{numbered}
-use Rattle.netlink_write.proofs.Page.{wrote-then, then-sized}
+use Rattle.page.proofs.Page.{wrote-then, then-sized}
 use Rattle.netlink_write.proofs.headers.Laws.{length-message-header, length-generic-header}
 use Rattle.bitset_reply.specs.Set.{setBytes}
 use Rattle.reply.specs.Message.{messageHeader, genericHeader, headersBytes, attributesBytes, replyBytes}

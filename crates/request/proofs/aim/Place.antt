@@ -5,10 +5,10 @@ use mathlib.Core.List.{List}
 use mathlib.Core.Bool.{Bool, true, false, cond}
 use lib.ListN.{length, length-take, length-drop}
 use native.Mathlib.Omega.{arith}
-use Rattle.netlink.specs.Attributes.{partOf}
+use Rattle.netlink_attributes.specs.Attributes.{partOf}
 use Rattle.netlink.specs.Walk.{slotNumber}
 use Rattle.netlink.specs.declared.walk.Slot.{Slot}
-use Rattle.netlink.proofs.attributes.Laws.{part-in}
+use Rattle.netlink_attributes.proofs.Laws.{part-in}
 use Rattle.roll.specs.Name.{nameAt}
 use Rattle.roll.specs.Record.{recordAt, Records, onRecord, recordsUpTo, records, portCount}
 use Rattle.roll.specs.Record.Records.{done, broken, port}

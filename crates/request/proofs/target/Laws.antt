@@ -5,7 +5,7 @@ use mathlib.Core.List.{List}
 use mathlib.Core.Bool.{Bool, true, false, _&&_, not, cond}
 use borrow.Author.Tests.{not-true, not-false}
 use Rattle.basics.proofs.Truth.{cond-true, cond-false}
-use Rattle.netlink.specs.Attributes.{partOf}
+use Rattle.netlink_attributes.specs.Attributes.{partOf}
 use Rattle.netlink.specs.Walk.{slotNumber}
 use Rattle.netlink.specs.declared.walk.Slot.{Slot}
 use Rattle.refusal.specs.declared.Refusal.the-variants.{UnknownPort, OtherName}

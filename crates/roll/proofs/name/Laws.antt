@@ -14,8 +14,8 @@ use Rattle.basics.proofs.Numbers.{same-four}
 use Rattle.basics.proofs.Order.{lt-or-ge}
 use Rattle.basics.proofs.Scan.{all-none, all-more, all-fails, all-done, all-of, all-each}
 use Rattle.basics.proofs.Truth.{false-of, both-true, clash}
-use Rattle.netlink.specs.Attributes.{partOf}
-use Rattle.netlink.proofs.attributes.Laws.{part-past}
+use Rattle.netlink_attributes.specs.Attributes.{partOf}
+use Rattle.netlink_attributes.proofs.Laws.{part-past}
 use Rattle.roll.specs.Name.{nameAt, sameByte, sameName, isNameAt, nulThenNul, nameRight}
 
 -- the field at a place

@@ -2,7 +2,7 @@ use Prim.Native.Nat.{_-_, _*_, _≤_}
 use mathlib.Core.Path.{_≡_}
 use lib.ListN.{length}
 use Rattle.bits.specs.Set.{has}
-use Rattle.netlink_write.specs.Page.{Wrote}
+use Rattle.page.specs.Page.{Wrote}
 use Rattle.bitset_reply.specs.List.{bitsBytes}
 use Rattle.bitset_reply.proofs.list.Laws.{bits-laws}
 use borrow.Author.Needs.{needs}

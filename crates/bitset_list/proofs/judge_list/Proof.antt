@@ -1,0 +1,82 @@
+use Rattle.bitset_list.proofs.Laws.{list-fault, list-only, list-listed}
+use Rattle.entries.proofs.Chains.{head-zero}
+use borrow.Author.Needs.{needs}
+use Rattle.bitset_list.proofs.judge_list.Statement.{statement}
+use Rattle.bitset_list.proofs.judge_list.Tie as tie
+
+payload-requires : tie.Need-payload-requires
+payload-requires c κs = search needs
+
+bits-policy-requires : tie.Need-bits-policy-requires
+bits-policy-requires c κs = search needs
+
+walk-requires : tie.Need-walk-requires
+walk-requires c κs = search needs
+
+enum-known-stop : tie.Need-enum-known-stop
+enum-known-stop c = search needs
+
+of-fault-requires : tie.Need-of-fault-requires
+of-fault-requires c κs = search needs
+
+refused-requires : tie.Need-refused-requires
+refused-requires c κs = search needs
+
+returns : tie.Need-returns
+returns c = search (needs, list-fault)
+
+enum-told : tie.Need-enum-told
+enum-told c = search needs
+
+slice-aggregate-index : tie.Need-slice-aggregate-index
+slice-aggregate-index c = search needs
+
+slice-aggregate-index-2 : tie.Need-slice-aggregate-index-2
+slice-aggregate-index-2 c = search needs
+
+index-requires : tie.Need-index-requires
+index-requires c κs = ((search needs, search needs), head-zero _)
+
+slice-aggregate-judge-bits : tie.Need-slice-aggregate-judge-bits
+slice-aggregate-judge-bits c = search needs
+
+slice-aggregate-judge-bits-2 : tie.Need-slice-aggregate-judge-bits-2
+slice-aggregate-judge-bits-2 c = search needs
+
+judge-bits-requires : tie.Need-judge-bits-requires
+judge-bits-requires c κs = search needs
+
+count-requires : tie.Need-count-requires
+count-requires c κs = search needs
+
+under-nomask-requires : tie.Need-under-nomask-requires
+under-nomask-requires c κs = search needs
+
+returns-2 : tie.Need-returns-2
+returns-2 c = search (needs, list-only)
+
+returns-3 : tie.Need-returns-3
+returns-3 c = search (needs, list-listed)
+
+pub judge-list-spec : {M : Type 1} → statement M
+judge-list-spec =
+    tie.close
+    (tie.spec
+    payload-requires
+    bits-policy-requires
+    walk-requires
+    enum-known-stop
+    of-fault-requires
+    refused-requires
+    returns
+    enum-told
+    slice-aggregate-index
+    slice-aggregate-index-2
+    index-requires
+    slice-aggregate-judge-bits
+    slice-aggregate-judge-bits-2
+    judge-bits-requires
+    count-requires
+    under-nomask-requires
+    returns-2
+    returns-3)

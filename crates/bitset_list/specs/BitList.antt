@@ -1,0 +1,55 @@
+-- Document 01, "Bitsets": a bit list. BITS is walked whole; then each BIT in order is walked whole and judged.
+use Prim.Native.Nat.{ℕ}
+use mathlib.Core.Bool.{Bool, true, false}
+use mathlib.Core.List.{List, [], _∷_}
+use Rattle.bits.specs.Set.{wordsOf}
+use Rattle.bits.specs.Change.{Listed, listMask, listValue}
+use Rattle.netlink_attributes.specs.Attributes.{Attributes, attributes, partOf}
+use Rattle.netlink_attributes.specs.Attributes.Attributes.{done, broken, attribute}
+use Rattle.netlink.specs.Walk.{walked}
+use Rattle.netlink.specs.declared.walk.Slot.{Slot}
+use Rattle.refusal.specs.Refusal.{onStop}
+use Rattle.refusal.specs.declared.Refusal.{Refusal}
+use Rattle.bitset_form.specs.Policies.{bitsPolicy}
+use Rattle.bitset_form.specs.Bitset.{Reading, refusedAs}
+use Rattle.bitset_form.specs.Bitset.Bitset.{listed, only}
+use Rattle.bitset_form.specs.Bitset.Reading.{refused, accepted}
+use Rattle.bitset_form.specs.declared.Judgement.the-variants.{Accepted}
+use Rattle.bitset_form.specs.declared.Judged.{Judged}
+use Rattle.bitset_bit.specs.Bit.{bitReading}
+use Rattle.bitset_bit.specs.declared.BitRead.{BitRead}
+use Rattle.bitset_bit.specs.declared.BitRead.the-variants as B
+
+-- what the BITs say, in order
+pub data ListReading : Type 0 where
+  stopped : Refusal → ListReading
+  entries : List Listed → ListReading
+
+-- one BIT and those after it
+abbrev pub onBit : BitRead → ListReading → ListReading
+onBit (B.Refused r) rest = stopped r
+onBit (B.Bit number on) (entries es) = entries (record { bit = number; on = on } ∷ es)
+onBit (B.Bit number on) (stopped r) = stopped r
+
+-- each BIT in turn; BITS is walked whole before, so none is broken
+unfoldable pub bitsReading : List ℕ → List ℕ → Attributes → ListReading
+bitsReading s names done = entries []
+bitsReading s names (broken at) = entries []
+bitsReading s names (attribute k b a e rest) = onBit (bitReading (partOf s 0 e) names a) (bitsReading s names rest)
+
+-- the form of the listed bits, as judge_bits answers it
+unfoldable pub listJudged : ListReading → Judged
+listJudged (stopped r) = refusedAs r
+listJudged (entries es) =
+    record { judgement = Accepted; form = record { mask = wordsOf 16 (listMask es); value = wordsOf 16 (listValue es) } }
+
+-- a bit list, under NOMASK or not
+abbrev pub asBitset : Bool → ListReading → Reading
+asBitset nomask (stopped r) = refused r
+asBitset true (entries es) = accepted (only es)
+asBitset false (entries es) = accepted (listed es)
+
+unfoldable pub listReading : List ℕ → List ℕ → Slot → Slot → Reading
+listReading s names nomask bits =
+    onStop (walked bitsPolicy (partOf s 0 (bits .end)) (bits .start) .stop) refused
+    (asBitset (nomask .present) (bitsReading (partOf s 0 (bits .end)) names (attributes (partOf s 0 (bits .end)) (bits .start))))

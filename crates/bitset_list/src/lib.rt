@@ -1,0 +1,94 @@
+// A bit list: BITS, and in it any number of BITs.
+ghost use mathlib.Core.Path.{_≡_};
+ghost use Rattle.netlink_attributes.specs.Attributes.{attributes};
+ghost use Rattle.bitset_form.specs.Bitset.{judgedAs};
+ghost use Rattle.bitset_list.specs.BitList.{bitsReading, listReading, listJudged};
+ghost use Rattle.bitset_form.specs.declared.Judgement.the-variants.{Accepted};
+ghost use Rattle.entries.specs.Entry.{count};
+ghost use Rattle.entries.specs.Chain.{IndexedIf};
+use bitset_bit::BitRead;
+use bitset_bit::judge_bit;
+use bitset_form::Form;
+use bitset_form::Judged;
+use bitset_form::Judgement;
+use bitset_form::policies::bits_policy;
+use bitset_form::refused;
+use bitset_form::under_nomask;
+use netlink::walk::Slot;
+use netlink::walk::Stop;
+use netlink::walk::walk;
+use netlink_attributes::AttributeRead;
+use netlink_attributes::payload;
+use netlink_attributes::read_attribute;
+use refusal::of_fault;
+
+fn accepted(mask: [u32; 16], value: [u32; 16]) -> Judged
+    ensures { λ r. ⌜ r ≡ record { judgement = Accepted; form = record { mask = mask; value = value } } ⌝ }
+{
+    Judged {
+        judgement: Judgement::Accepted,
+        form: Form { mask, value },
+    }
+}
+
+// Judges each BIT in turn, and lists its bit. No setting moves before all are judged.
+fn judge_bits(
+    s: &[u8],
+    names: &[u8],
+    indexed: bool,
+    head: &[u16],
+    links: &[u16],
+    from: usize,
+) -> Judged
+    requires { ⌜ IndexedIf indexed (now names) (now head) (now links) ⌝ }
+    ensures { λ r. ⌜ r ≡ listJudged (bitsReading (now (s .entry)) (now (names .entry)) (attributes (now (s .entry)) from)) ⌝ }
+{
+    let mut mask = [0u32; 16];
+    let mut value = [0u32; 16];
+    let mut at = from;
+    loop {
+        match read_attribute(s, at) {
+            AttributeRead::End => {
+                return accepted(mask, value);
+            }
+            AttributeRead::Broken => {
+                return accepted(mask, value);
+            }
+            AttributeRead::Attribute {
+                start,
+                end,
+                next,
+                ..
+            } => match judge_bit(payload(s, 0, end), names, indexed, head, links, start) {
+                BitRead::Refused(why) => {
+                    return refused(why);
+                }
+                BitRead::Bit { number, on } => {
+                    bits::put_bit(&mut mask, number, true);
+                    bits::put_bit(&mut value, number, on);
+                    at = next;
+                }
+            },
+        }
+    }
+}
+
+// BITS is walked whole before the first BIT is opened.
+pub fn judge_list(s: &[u8], names: &[u8], nomask: Slot, bits: Slot) -> Judged
+    ensures { λ r. ⌜ r ≡ judgedAs (count (now (names .entry))) (listReading (now (s .entry)) (now (names .entry)) nomask bits) ⌝ }
+{
+    let contents = payload(s, 0, bits.end);
+    let walked = walk(bits_policy(), contents, bits.start);
+    let stop = walked.stop;
+    if let Stop::At { fault, at } = stop {
+        return refused(of_fault(fault, at));
+    }
+    let mut head = [0u16; 1025];
+    let mut links = [0u16; 512];
+    let indexed = name_index::index(names, &mut head, &mut links);
+    let judged = judge_bits(contents, names, indexed, &head, &links, bits.start);
+    if nomask.present {
+        return under_nomask(judged, names::count(names));
+    }
+    judged
+}

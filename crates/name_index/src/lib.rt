@@ -1,0 +1,73 @@
+// The search by tables that lead to each name: head, a place for each hash; next, one for each entry.
+ghost use mathlib.Core.Path.{_≡_};
+ghost use lib.ListN.{length};
+ghost use Rattle.entries.specs.Chain.{HeadRight, Indexed, IndexedIf};
+ghost use Rattle.names.specs.Search.{lookup};
+ghost use Rattle.name_index.specs.Index.{indexable};
+use entries::chain::distinct_in;
+use entries::chain::hash_of;
+use entries::chain::place_in;
+use entries::count;
+use entries::key::key_of;
+use names::Lookup;
+use names::find_name;
+use names::no_name;
+
+// Fills the tables that lead to each name, and says whether they do: where the names are distinct, and not too many.
+pub fn index(names: &[u8], head: &mut [u16], next: &mut [u16]) -> bool
+    requires { ⌜ (length (now head) ≡ 1025) × (length (now next) ≡ 512) ⌝ }
+    requires { ⌜ HeadRight (now names) (now head) 0 ⌝ }
+    ensures { λ r. ⌜ r ≡ indexable (now (names .entry)) ⌝ }
+    ensures { λ r. ⌜ IndexedIf r (now (names .entry)) (now (head .exit)) (now (next .exit)) ⌝ }
+{
+    if 512 < count(names) {
+        return false;
+    }
+    distinct_in(names, head, next)
+}
+
+// The entry that equals the name, which may end in NULs, where tables lead to each: the search goes along the name's chain alone, and passes
+// to the next entry at the first byte that differs.
+pub fn find(names: &[u8], head: &[u16], next: &[u16], name: &[u8]) -> Lookup
+    requires { ⌜ Indexed (now names) (now head) (now next) ⌝ }
+    ensures { λ r. ⌜ r ≡ lookup (now (names .entry)) (now (name .entry)) ⌝ }
+{
+    if no_name(name) {
+        return Lookup {
+            found: false,
+            bit: 0,
+        };
+    }
+    let key = key_of(name);
+    let mut p = place_in(head, hash_of(&key));
+    'entries: loop {
+        if p == 0 {
+            return Lookup {
+                found: false,
+                bit: 0,
+            };
+        }
+        let i = p - 1;
+        p = place_in(next, i);
+        for j in 0..32 {
+            if names[i * 32 + j] != key[j] {
+                continue 'entries;
+            }
+        }
+        return Lookup {
+            found: true,
+            bit: i,
+        };
+    }
+}
+
+// The entry that equals the name, by the tables where they lead to each.
+pub fn look_up(names: &[u8], indexed: bool, head: &[u16], next: &[u16], name: &[u8]) -> Lookup
+    requires { ⌜ IndexedIf indexed (now names) (now head) (now next) ⌝ }
+    ensures { λ r. ⌜ r ≡ lookup (now (names .entry)) (now (name .entry)) ⌝ }
+{
+    if indexed {
+        return find(names, head, next, name);
+    }
+    find_name(names, name)
+}

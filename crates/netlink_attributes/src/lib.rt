@@ -1,0 +1,74 @@
+// One attribute of a parent. A parent's contents are the bytes of a slice from a position to the slice's end.
+ghost use mathlib.Core.Path.{_≡_};
+ghost use Prim.Native.Nat.{_-_};
+ghost use Rattle.netlink_attributes.specs.Attributes.{attributeAt, partOf};
+use netlink_headers::headers::AttributeHeader;
+use netlink_headers::headers::AttributeHeaderRead;
+use netlink_headers::lengths::Stated;
+use numbers::capped;
+
+pub enum AttributeRead {
+    // Its type, the two bits above the type (2 for a nest, 1 for network byte order), where the payload starts and ends, and the place of
+    // the next attribute.
+    Attribute {
+        kind: u16,
+        bits: u16,
+        start: usize,
+        end: usize,
+        next: usize,
+    },
+    // 1 to 3 bytes left, or a length below 4 or more than is left.
+    Broken,
+    // Nothing left.
+    End,
+}
+
+// The attribute at a position.
+pub fn read_attribute(s: &[u8], at: usize) -> AttributeRead
+    ensures { λ r. ⌜ r ≡ attributeAt (now (s .entry)) at ⌝ }
+{
+    if s.len() <= at {
+        return AttributeRead::End;
+    }
+    let AttributeHeaderRead::Header(header) = AttributeHeader::read(s, at) else {
+        return AttributeRead::Broken;
+    };
+    let stated = header.length as usize;
+    if stated < AttributeHeader::SIZE {
+        return AttributeRead::Broken;
+    }
+    if s.len() - at < stated {
+        return AttributeRead::Broken;
+    }
+    let step = Stated(header.length as u32).step();
+    AttributeRead::Attribute {
+        kind: header.kind % 16384,
+        bits: header.kind / 16384,
+        start: at + AttributeHeader::SIZE,
+        end: at + stated,
+        next: capped(at + step.0, s.len()),
+    }
+}
+
+// The part of the caller's bytes from start to end: an attribute's payload where it stands. Empty where the two lie outside the slice.
+pub fn payload(s: &[u8], start: usize, end: usize) -> &[u8]
+    ensures { λ r. ⌜ now r ≡ partOf (now (s .entry)) start end ⌝ }
+{
+    if end < start {
+        return &s[..0];
+    }
+    if s.len() < end {
+        return &s[..0];
+    }
+    &s[start..end]
+}
+
+// The place of the attribute whose payload starts at `start`: its header's.
+pub fn place(start: usize) -> usize
+    ensures { λ r. ⌜ r ≡ start - 4 ⌝ }
+{
+    if start < AttributeHeader::SIZE {
+        return 0;
+    }
+    start - AttributeHeader::SIZE
+}

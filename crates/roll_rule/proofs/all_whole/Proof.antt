@@ -1,0 +1,64 @@
+use Prim.Native.Nat.{_-_}
+use lib.ListN.{length}
+use Rattle.roll.proofs.record.Laws.{turn-laws}
+use Rattle.roll_rule.proofs.Laws.{WholeFrom, whole-laws}
+use borrow.Author.Needs.{needs}
+use Rattle.roll_rule.proofs.all_whole.Statement.{statement}
+use Rattle.roll_rule.proofs.all_whole.Tie as tie
+
+abbrev Inv-loop : tie.InvT-loop
+Inv-loop roll at₀ at = WholeFrom roll at
+
+abbrev μ-loop : tie.MeasureT-loop
+μ-loop roll at₀ at = length roll - at
+
+loop-holds : tie.Need-loop-holds Inv-loop μ-loop
+loop-holds c = search (needs, turn-laws, whole-laws)
+
+read-record-requires : tie.Need-read-record-requires Inv-loop μ-loop
+read-record-requires c κs = search (needs, turn-laws, whole-laws)
+
+enum-known-index : tie.Need-enum-known-index Inv-loop μ-loop
+enum-known-index c = search (needs, turn-laws, whole-laws)
+
+loop-less : tie.Need-loop-less Inv-loop μ-loop
+loop-less c = search (needs, turn-laws, whole-laws)
+
+loop-again : tie.Need-loop-again Inv-loop μ-loop
+loop-again c = search (needs, turn-laws, whole-laws)
+
+enum-told : tie.Need-enum-told Inv-loop μ-loop
+enum-told c = search (needs, turn-laws, whole-laws)
+
+returns : tie.Need-returns Inv-loop μ-loop
+returns c = search (needs, turn-laws, whole-laws)
+
+enum-told-2 : tie.Need-enum-told-2 Inv-loop μ-loop
+enum-told-2 c = search (needs, turn-laws, whole-laws)
+
+returns-2 : tie.Need-returns-2 Inv-loop μ-loop
+returns-2 c = search (needs, turn-laws, whole-laws)
+
+enum-told-3 : tie.Need-enum-told-3 Inv-loop μ-loop
+enum-told-3 c = search (needs, turn-laws, whole-laws)
+
+returns-3 : tie.Need-returns-3 Inv-loop μ-loop
+returns-3 c = search (needs, turn-laws, whole-laws)
+
+pub all-whole-spec : {M : Type 1} → statement M
+all-whole-spec =
+    tie.close
+    (tie.spec
+    Inv-loop
+    μ-loop
+    loop-holds
+    read-record-requires
+    enum-known-index
+    loop-less
+    loop-again
+    enum-told
+    returns
+    enum-told-2
+    returns-2
+    enum-told-3
+    returns-3)
