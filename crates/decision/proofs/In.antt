@@ -3,7 +3,6 @@ use Prim.Native.Nat.{ℕ, _<_}
 use mathlib.Core.Path.{_≡_}
 use mathlib.Core.List.{List}
 use mathlib.Core.Bool.{Bool, true, false}
-use native.Mathlib.Omega.{arith}
 use Rattle.entries.specs.Entry.{count}
 use Rattle.netlink_attributes.specs.Attributes.{partOf}
 use Rattle.netlink.specs.declared.walk.Slot.{Slot}
@@ -29,7 +28,7 @@ use Rattle.decision.specs.declared.Decision.{Decision}
 module _ (roll : List ℕ) where
   reading-in : (x : Reading) (n position nest : ℕ) → position < portCount roll → PortIn roll (onReading x n position nest .plan)
   unfolding PortIn
-  reading-in (refused why) n position nest h = omega arith
+  reading-in (refused why) n position nest h = tt
   reading-in (accepted b) n position nest h = h
 
   bitset-in : (m : List ℕ) (bitset : Slot) (names : List ℕ) (position : ℕ) → position < portCount roll → PortIn roll (ofBitset m bitset names position .plan)
@@ -39,7 +38,7 @@ module _ (roll : List ℕ) where
   on-aim-in : (a : Aim) (change : Bool) (set : ℕ → Decision) → AimIn roll a → ((position : ℕ) → position < portCount roll → PortIn roll (set position .plan))
       → PortIn roll (onAim a change set .plan)
   unfolding PortIn
-  on-aim-in (A.Refused why) change set h f = omega arith
+  on-aim-in (A.Refused why) change set h f = tt
   on-aim-in (A.Port position index name end flags) true set h f = f position (h .counted)
   on-aim-in (A.Port position index name end flags) false set h f = h .counted
 
@@ -49,7 +48,7 @@ module _ (roll : List ℕ) where
 
   on-top-in : (t : Top) (rest : Slot → Slot → Decision) → ((header bitset : Slot) → PortIn roll (rest header bitset .plan)) → PortIn roll (onTop t rest .plan)
   unfolding PortIn
-  on-top-in (T.Refused why) rest f = omega arith
+  on-top-in (T.Refused why) rest f = tt
   on-top-in (T.Nests header bitset) rest f = f header bitset
 
   -- whatever is decided

@@ -1,5 +1,5 @@
 -- Document 01, "What a call says back", the levels below the table: what an admitted request asks for.
-use Prim.Native.Nat.{ℕ, _-_, _≤_, _<_}
+use Prim.Native.Nat.{ℕ, _-_, _<_}
 use mathlib.Core.List.{List}
 use mathlib.Core.Bool.{Bool, cond}
 use lib.ListN.{replicate}
@@ -58,6 +58,6 @@ decided m command roll debug flags =
 
 -- the port that a plan names is one of the roll's
 unfoldable pub PortIn : List ℕ → Plan → Type 0
-PortIn roll (P.Refused why) = 0 ≤ portCount roll
+PortIn roll (P.Refused why) = Unit {0}
 PortIn roll (P.Get port) = port .position < portCount roll
 PortIn roll (P.Set position nest) = position < portCount roll

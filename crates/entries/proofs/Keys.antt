@@ -12,9 +12,6 @@ use Rattle.basics.proofs.Order.{lt-or-ge}
 use Rattle.entries.specs.Entry.{same, Spelt}
 use Rattle.entries.proofs.Entries.{same-of}
 
-pub spelt-none : (name key : List ℕ) → length key ≡ 32 → Spelt name key 0
-spelt-none name key l = record { long = l; each = λ j u. absurd (omega arith) }
-
 -- one byte more
 spelt-more : (name key : List ℕ) (n m v : ℕ) → n < 32 → m ≡ n + 1 → Spelt name key n → v ≡ getD name n 0 → Spelt name (set key n v) m
 spelt-more name key n m v l em s e = record {
