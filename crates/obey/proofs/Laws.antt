@@ -1,6 +1,6 @@
 -- Laws of carrying a decision out: one for each return.
 use Prim.Native.Nat.{ℕ, _+_, _*_, _-_, _%_, _≤_, _<_}
-use mathlib.Core.Path.{_≡_, refl, sym, ap, _∙_}
+use mathlib.Core.Path.{_≡_, refl, sym, ap, ap₂, _∙_}
 use mathlib.Core.List.{List, []}
 use mathlib.Core.Bool.{Bool, true, false, _&&_, cond}
 use lib.ListN.{length, take, drop, length-take}
@@ -79,16 +79,14 @@ module _ (roll debug flags ws : List ℕ) (fit : Fit roll debug flags ws) (posit
   unfolding setOf widthIn
   held-length = set-length (portCount roll) (wordsFor (count debug)) (wordsFor (count flags)) position set here ws (fit .exact)
 
-  module _ (ns : List ℕ) (n : ℕ) (ens : ns ≡ ofSet set debug flags) (en : n ≡ count ns) where
-    bits-told : n ≡ ofSet set (count debug) (count flags)
-    bits-told = en ∙ ap count ens ∙ of-map count set debug flags
+  pub show-words : (held : List ℕ) (nd nf n : ℕ) → held ≡ setOf roll debug flags ws position set → nd ≡ count debug → nf ≡ count flags → n ≡ ofSet set nd nf
+      → length held ≡ wordsFor n
+  unfolding widthIn
+  show-words held nd nf n eh end enf en =
+      ap length eh ∙ held-length ∙ sym (of-map wordsFor set (count debug) (count flags)) ∙ ap wordsFor (sym (en ∙ ap₂ (ofSet set) end enf))
 
-    pub show-words : (held : List ℕ) → held ≡ setOf roll debug flags ws position set → length held ≡ wordsFor n
-    unfolding widthIn
-    show-words held eh = ap length eh ∙ held-length ∙ sym (of-map wordsFor set (count debug) (count flags)) ∙ ap wordsFor (sym bits-told)
-
-    pub show-few : n ≤ 512
-    show-few = rw bits-told (of-few set (count debug) (count flags) 512 (fit .debug-few) (fit .flags-few))
+pub show-few : (roll debug flags ws : List ℕ) (set : Set) (nd nf n : ℕ) → Fit roll debug flags ws → nd ≡ count debug → nf ≡ count flags → n ≡ ofSet set nd nf → n ≤ 512
+show-few roll debug flags ws set nd nf n fit end enf en = rw (en, end, enf) (of-few set (count debug) (count flags) 512 (fit .debug-few) (fit .flags-few))
 
 pub show-name : (roll nm : List ℕ) (at : ℕ) → nm ≡ nameAt roll at → length nm ≤ 16
 unfolding nameAt partOf
@@ -99,14 +97,14 @@ show-name roll nm at e = rw e (go (leb at (at + 16) && leb (at + 16) (length rol
     go false = omega arith
 
 pub get-said : (roll debug flags ws m : List ℕ) (h : MessageHeader) (next : ℕ) (command : Command) (position index name asked : ℕ) (hd : Heading) (x : ℕ)
-    (nm ns held : List ℕ) (n : ℕ) (P Q : List ℕ) (r : Answer) → hd ≡ headingOf h (command .reply)
-    → x ≡ u32At roll index → nm ≡ nameAt roll name → ns ≡ ofSet (command .set) debug flags → n ≡ count ns
-    → held ≡ setOf roll debug flags ws position (command .set)
+    (nm ns held : List ℕ) (nd nf n : ℕ) (P Q : List ℕ) (r : Answer) → hd ≡ headingOf h (command .reply)
+    → x ≡ u32At roll index → nm ≡ nameAt roll name → ns ≡ ofSet (command .set) debug flags → nd ≡ count debug → nf ≡ count flags
+    → held ≡ setOf roll debug flags ws position (command .set) → n ≡ ofSet (command .set) nd nf
     → Said (speech done next (shown m h hd x nm (eqb (asked % 2) 1) ns held n)) P Q r
     → Said (speech done next (gotten roll debug flags ws m h command position index name asked)) P Q r
 unfolding gotten
-get-said roll debug flags ws m h next command position index name asked hd x nm ns held n P Q r ehd ex enm ens en eh s =
-    let bits : n ≡ ofSet (command .set) (count debug) (count flags) = en ∙ ap count ens ∙ of-map count (command .set) debug flags in
+get-said roll debug flags ws m h next command position index name asked hd x nm ns held nd nf n P Q r ehd ex enm ens end enf eh en s =
+    let bits : n ≡ ofSet (command .set) (count debug) (count flags) = en ∙ ap₂ (ofSet (command .set)) end enf in
     rw (← ehd, ← ex, ← enm, ← ens, ← eh, ← bits) s
 
 -- what `apply` asks

@@ -95,6 +95,7 @@ fn get<'a>(
     let command = asked.command;
     let set = command.set;
     let words = held(settings, roll, debug, flags, port.position, set);
+    let n = number_of(set, entries::count(debug), entries::count(flags));
     let names = names_of(set, debug, flags);
     show(
         page,
@@ -107,7 +108,7 @@ fn get<'a>(
         port.flags % 2 == 1,
         names,
         words,
-        entries::count(names),
+        n,
     )
 }
 
