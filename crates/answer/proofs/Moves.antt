@@ -8,13 +8,14 @@ use native.Mathlib.Omega.{arith}
 use borrow.Author.Tests.{ltb-true, le-ltb}
 use Rattle.basics.proofs.Truth.{clash}
 use Rattle.refusal.specs.Refusal.{numberOf}
+use Rattle.boxes.specs.Box.{State}
 use Rattle.response.specs.Answer.{Outcome}
 use Rattle.response.specs.declared.Kind.{Kind}
 use Rattle.response.specs.declared.Kind.the-variants.{End, Skipped, Done, Refused}
 use Rattle.handler.specs.Call.{isOver}
 use Rattle.handler.proofs.call.Moves.{moves}
-use Rattle.answer.specs.Box.{portRoll, debugNames, flagNames}
-use Rattle.answer.specs.Run.{call, goesOn}
+use Rattle.answer.specs.Box.{programBox}
+use Rattle.answer.specs.Run.{callAt, call, goesOn}
 
 goes-not-over : (kind : Kind) → goesOn kind ≡ true → isOver kind ≡ false
 goes-not-over End e = absurd (clash e refl)
@@ -22,11 +23,11 @@ goes-not-over Skipped e = refl
 goes-not-over Done e = refl
 goes-not-over (Refused why) e = le-ltb (numberOf why) 5 (let l = ltb-true 4 (numberOf why) e in omega arith)
 
-abbrev pub Moves : List ℕ → ℕ → Outcome → Type 0
+abbrev pub Moves : List ℕ → ℕ → Outcome State → Type 0
 Moves d at o = goesOn (o .said .kind) ≡ true → (at < o .said .next) × (o .said .next ≤ length d)
 
-pub call-moves : (d ws : List ℕ) (at : ℕ) → Moves d at (call d ws at)
+pub call-moves : (d : List ℕ) (state : State) (at : ℕ) → Moves d at (call d state at)
 unfolding call
-call-moves d ws at e =
-    let on = moves 25 1 portRoll debugNames flagNames ws d at 32768 (goes-not-over (call d ws at .said .kind) e) in
+call-moves d state at e =
+    let on = moves programBox state (callAt at) d 32768 (goes-not-over (call d state at .said .kind) e) in
     (let a = on .0 in omega arith, on .1)

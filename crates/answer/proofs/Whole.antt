@@ -19,6 +19,8 @@ use Rattle.roll.specs.Record as P
 use Rattle.roll.specs.Name as M
 use Rattle.roll.specs.Find as F
 use Rattle.layout.specs.Layout as L
+use Rattle.boxes.specs.Box as X
+use Rattle.boxes.specs.Box.{State}
 use Rattle.admission.specs.Admission as Q
 use Rattle.admission.specs.Commands as C
 use Rattle.request.specs.Policies.{topPolicy}
@@ -32,8 +34,8 @@ use Rattle.reply.specs.Message as RM
 use Rattle.response.specs.Answer as A
 use Rattle.obey.specs.Obey as OB
 use Rattle.handler.specs.Call as K
-use Rattle.answer.specs.Box.{portRoll, debugNames, flagNames, firstWords}
-use Rattle.answer.specs.Run.{call, onCall, answersFrom, answers}
+use Rattle.answer.specs.Box.{portRoll, debugNames, flagNames, firstWords, programBox, firstState}
+use Rattle.answer.specs.Run.{callAt, call, onCall, answersFrom, answers}
 use Rattle.response.specs.declared.Kind.the-variants.{Done, End}
 use Rattle.answer.proofs.Laws.{answers-step}
 use Rattle.answer.proofs.Right.{box-right}
@@ -45,27 +47,27 @@ request =
     ∷ 0x0D ∷ 0x01 ∷ 0x00 ∷ 0x00 ∷ 0x14 ∷ 0x00 ∷ 0x01 ∷ 0x80 ∷ 0x08 ∷ 0x00 ∷ 0x01 ∷ 0x00 ∷ 0x03 ∷ 0x00 ∷ 0x00 ∷ 0x00
     ∷ 0x08 ∷ 0x00 ∷ 0x03 ∷ 0x00 ∷ 0x01 ∷ 0x00 ∷ 0x00 ∷ 0x00 ∷ []
 
-first-call : call request firstWords 0 ≡ A.leaves (A.speech Done 40 wholeReply) firstWords
-unfolding call K.outcome K.positionOutcome K.messageOutcome OB.obeyed OB.aimed OB.deed OB.gotten OB.setOf OB.shown A.ackBytes portRoll debugNames flagNames firstWords messageAt H.messageHeaderAt H.genericHeaderAt H.attributeHeaderAt T.attributeAt T.partOf T.attributesUpTo T.attributes Y.ruleOf Y.nulAt Y.isName Y.plain Y.nested Y.judged W.firstFault W.lastOf W.walked W.slotNumber Q.barred Q.permitted Q.admitted C.rowOf C.commandOf topPolicy O.nestsOf O.topOf HR.flagsJudged HR.partsOf HR.headerOf G.otherName G.portByIndex G.portByName G.targetOf I.withFlags I.aimOf F.find F.isIndex F.byIndex P.portCount P.portsIn P.records P.recordsUpTo P.recordAt M.nameAt L.ofSet L.words L.place L.setAt byteAt u16At u32At all first RM.replyBytes RM.headersBytes RM.attributesBytes RS.setBytes RS.contentsBytes RS.compactBytes RS.openingBytes TW.numbered TW.identity TW.named TW.nameBytes TW.nest TW.attr TW.padding HW.messageHeaderBytes HW.genericHeaderBytes HW.attributeHeaderBytes bytesOf
-first-call = rw box-right refl
+first-call : call request firstState 0 ≡ A.leaves (A.speech Done 40 wholeReply) firstState
+unfolding call K.outcome K.positionOutcome K.messageOutcome OB.obeyed OB.aimed OB.deed OB.gotten X.setOf OB.shown A.ackBytes portRoll debugNames flagNames firstWords programBox firstState messageAt H.messageHeaderAt H.genericHeaderAt H.attributeHeaderAt T.attributeAt T.partOf T.attributesUpTo T.attributes Y.ruleOf Y.nulAt Y.isName Y.plain Y.nested Y.judged W.firstFault W.lastOf W.walked W.slotNumber Q.barred Q.permitted Q.admitted C.rowOf C.commandOf topPolicy O.nestsOf O.topOf HR.flagsJudged HR.partsOf HR.headerOf G.otherName G.portByIndex G.portByName G.targetOf I.withFlags I.aimOf F.find F.isIndex F.byIndex P.portCount P.portsOf P.portsIn P.portAt P.indexOf P.nameOf P.records P.recordsUpTo P.recordAt P.recordSize M.nameAt L.listOf L.sizeOf L.portWords L.firstOf L.words L.place L.setAt byteAt u16At u32At all first RM.replyBytes RM.headersBytes RM.attributesBytes RS.setBytes RS.contentsBytes RS.compactBytes RS.openingBytes TW.numbered TW.identity TW.named TW.nameBytes TW.nest TW.attr TW.padding HW.messageHeaderBytes HW.genericHeaderBytes HW.attributeHeaderBytes bytesOf
+first-call = rw (box-right 0) refl
 
-last-call : call request firstWords 40 ≡ A.leaves (A.quiet End 40) firstWords
+last-call : call request firstState 40 ≡ A.leaves (A.quiet End 40) firstState
 unfolding call K.outcome K.positionOutcome messageAt
-last-call = rw box-right refl
+last-call = rw (box-right 40) refl
 
 -- the whole reply, and nothing else
 pub whole-run : answers request ≡ wholeReply ∷ []
 unfolding answers
 whole-run =
-    answers-step request firstWords 0 ∙ ap (λ (o : A.Outcome). onCall o (answersFrom request)) first-call
+    answers-step request firstState 0 ∙ ap (λ (o : A.Outcome State). onCall o (answersFrom request)) first-call
     ∙ ap (λ (l : List (List ℕ)). wholeReply ∷ l)
-    (answers-step request firstWords 40 ∙ ap (λ (o : A.Outcome). onCall o (answersFrom request)) last-call)
+    (answers-step request firstState 40 ∙ ap (λ (o : A.Outcome State). onCall o (answersFrom request)) last-call)
 
-long-stops : (d : List ℕ) → 32768 < length d → call d firstWords 0 ≡ K.stays Datagram 0 firstWords
+long-stops : (d : List ℕ) → 32768 < length d → call d firstState 0 ≡ K.stays Datagram (callAt 0) firstState
 unfolding call K.outcome
-long-stops d h = rw (box-right, lt-ltb _ _ h) refl
+long-stops d h = rw (box-right 0, lt-ltb _ _ h) refl
 
 -- more than 32,768 bytes: nothing is written
 pub too-long : (d : List ℕ) → 32768 < length d → answers d ≡ []
 unfolding answers
-too-long d h = answers-step d firstWords 0 ∙ ap (λ (o : A.Outcome). onCall o (answersFrom d)) (long-stops d h)
+too-long d h = answers-step d firstState 0 ∙ ap (λ (o : A.Outcome State). onCall o (answersFrom d)) (long-stops d h)

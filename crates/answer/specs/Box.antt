@@ -1,8 +1,8 @@
 -- Document 01, "What the box reads and writes" and "Replies": the box of the whole reply, which is the program's.
 use Prim.Native.Nat.{ℕ}
-use mathlib.Core.Path.{_≡_}
 use mathlib.Core.List.{List, [], _∷_, _++_}
 use lib.ListN.{replicate}
+use Rattle.boxes.specs.Box.{Box, State, boxOf, stateOf}
 
 -- "port 3 "sw0"": kind 1, the index, the name in 16 bytes
 unfoldable pub portRoll : List ℕ
@@ -20,8 +20,9 @@ flagNames = replicate 96 0 ++ (108 ∷ 108 ∷ 100 ∷ 112 ∷ replicate 1180 0)
 unfoldable pub firstWords : List ℕ
 firstWords = 0 ∷ 0 ∷ 1 ∷ 2 ∷ []
 
--- the three lists of the box are these
-pub record IsBox (roll debug flags : List ℕ) : Type 0 where
-  pub roll-is : roll ≡ portRoll
-  pub debug-is : debug ≡ debugNames
-  pub flags-is : flags ≡ flagNames
+-- the program's box, and the state that it starts with
+unfoldable pub programBox : Box
+programBox = boxOf portRoll debugNames flagNames
+
+unfoldable pub firstState : State
+firstState = stateOf firstWords

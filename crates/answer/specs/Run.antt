@@ -7,14 +7,20 @@ use lib.ListN.{length, getD}
 use lib.Dec.{ltb}
 use Rattle.refusal.specs.Refusal.{numberOf}
 use Rattle.response.specs.Answer.{Outcome}
+use Rattle.boxes.specs.Box.{State}
+use Rattle.boxes.specs.declared.Call.{Call}
 use Rattle.handler.specs.Call.{outcome}
 use Rattle.response.specs.declared.Kind.{Kind}
 use Rattle.response.specs.declared.Kind.the-variants.{End, Skipped, Done, Refused}
-use Rattle.answer.specs.Box.{portRoll, debugNames, flagNames, firstWords}
+use Rattle.answer.specs.Box.{programBox, firstState}
 
--- one call for the program's box, as admin, with these settings, at this position of the datagram
-unfoldable pub call : List ℕ → List ℕ → ℕ → Outcome
-call datagram words at = outcome 25 1 portRoll debugNames flagNames words datagram at 32768
+-- the numbers of the program's calls: family 25, as admin
+abbrev pub callAt : ℕ → Call
+callAt at = record { family = 25; admin = 1; position = at }
+
+-- one call for the program's box, in this state, at this position of the datagram
+unfoldable pub call : List ℕ → State → ℕ → Outcome State
+call datagram state at = outcome programBox state (callAt at) datagram 32768
 
 -- "up to the end or a refusal 1 to 4"
 abbrev pub goesOn : Kind → Bool
@@ -23,28 +29,28 @@ goesOn Skipped = true
 goesOn Done = true
 goesOn (Refused r) = ltb 4 (numberOf r)
 
--- the answer's bytes, then the answers with the settings and from the position that it leaves; none where the program stops
-abbrev pub onward : Bool → Outcome → (List ℕ → ℕ → List (List ℕ)) → List (List ℕ)
-onward true o rest = o .said .bytes ∷ rest (o .words) (o .said .next)
+-- the answer's bytes, then the answers with the state and from the position that it leaves; none where the program stops
+abbrev pub onward : Bool → Outcome State → (State → ℕ → List (List ℕ)) → List (List ℕ)
+onward true o rest = o .said .bytes ∷ rest (o .state) (o .said .next)
 onward false o rest = []
 
 -- what a call adds to the answers that follow it
-abbrev pub onCall : Outcome → (List ℕ → ℕ → List (List ℕ)) → List (List ℕ)
+abbrev pub onCall : Outcome State → (State → ℕ → List (List ℕ)) → List (List ℕ)
 onCall o rest = onward (goesOn (o .said .kind)) o rest
 
 -- the answers to at most so many messages
-unfoldable pub answersUpTo : ℕ → List ℕ → List ℕ → ℕ → List (List ℕ)
-answersUpTo zero datagram words at = []
-answersUpTo (suc n) datagram words at = onCall (call datagram words at) (answersUpTo n datagram)
+unfoldable pub answersUpTo : ℕ → List ℕ → State → ℕ → List (List ℕ)
+answersUpTo zero datagram state at = []
+answersUpTo (suc n) datagram state at = onCall (call datagram state at) (answersUpTo n datagram)
 
 -- the answers from a position on; no datagram has more messages than bytes (law `answers-step`)
-unfoldable pub answersFrom : List ℕ → List ℕ → ℕ → List (List ℕ)
+unfoldable pub answersFrom : List ℕ → State → ℕ → List (List ℕ)
 unfolding answersUpTo
-answersFrom datagram words at = answersUpTo (suc (length datagram)) datagram words at
+answersFrom datagram state at = answersUpTo (suc (length datagram)) datagram state at
 
 -- "writes the answers in order": what the program writes for a datagram, answer by answer
 unfoldable pub answers : List ℕ → List (List ℕ)
-answers datagram = answersFrom datagram firstWords 0
+answers datagram = answersFrom datagram firstState 0
 
 -- the bytes are the answer after the first k
 pub record IsNext (datagram : List ℕ) (k : ℕ) (bytes : List ℕ) : Type 0 where

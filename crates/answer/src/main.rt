@@ -2,12 +2,14 @@
 ghost use mathlib.Core.Path.{_≡_};
 ghost use lib.ListN.{length};
 ghost use Rattle.response.specs.Answer.{Did};
-ghost use Rattle.answer.specs.Box.{IsBox, firstWords};
+ghost use Rattle.boxes.specs.Box.{boxOf, stateOf};
+ghost use Rattle.answer.specs.Box.{programBox, firstState};
 ghost use Rattle.answer.specs.Run.{call, goesOn, answers};
 
 mod output;
 
 use crate::output::Written;
+use boxes::Call;
 use handler::call::handle;
 use response::Answer;
 use response::Kind;
@@ -39,10 +41,15 @@ fn answer_one<'a>(
     at: usize,
     page: &mut [u8],
 ) -> Answer
-    requires { ⌜ IsBox (now roll) (now debug) (now flags) × (length (now page) ≡ 32768) ⌝ }
-    ensures { λ r. ⌜ Did (call (now (datagram .entry)) (now (settings .entry)) at) (now (page .entry)) (now (page .exit)) (now (settings .exit)) r ⌝ }
+    requires { ⌜ (boxOf (now roll) (now debug) (now flags) ≡ programBox) × (length (now page) ≡ 32768) ⌝ }
+    ensures { λ r. ⌜ Did (call (now (datagram .entry)) (stateOf (now (settings .entry))) at) (now (page .entry)) (now (page .exit)) (stateOf (now (settings .exit))) r ⌝ }
 {
-    handle(25, 1, roll, debug, flags, settings, datagram, at, page)
+    let call = Call {
+        family: 25,
+        admin: 1,
+        position: at,
+    };
+    handle(call, roll, debug, flags, settings, datagram, page)
 }
 
 // Writes the answers to a datagram in order.
@@ -54,7 +61,7 @@ fn answer_all<'a>(
     datagram: &[u8],
     page: &mut [u8],
 ) -> Written
-    requires { ⌜ IsBox (now roll) (now debug) (now flags) × (now settings ≡ firstWords) × (length (now page) ≡ 32768) ⌝ }
+    requires { ⌜ (boxOf (now roll) (now debug) (now flags) ≡ programBox) × (stateOf (now settings) ≡ firstState) × (length (now page) ≡ 32768) ⌝ }
     ensures { λ r. ⌜ r .count ≡ length (answers (now (datagram .entry))) ⌝ }
 {
     let mut at: usize = 0;

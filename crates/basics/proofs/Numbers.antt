@@ -1,11 +1,12 @@
 -- A number of 16 or 32 bits and its bytes say the same.
-use Prim.Native.Nat.{ℕ, _+_, _*_, _/_, _%_, _<_}
+use Prim.Native.Nat.{ℕ, _+_, _*_, _/_, _%_, _<_, _≤_}
 use mathlib.Core.Path.{_≡_, refl, sym, ap, _∙_}
-use mathlib.Core.List.{List, _++_}
+use mathlib.Core.List.{List, [], _∷_, _++_}
 use native.Mathlib.Nat.{div-div-eq-div-mul}
+use native.Mathlib.Numerals.{add-one}
 use native.Mathlib.Omega.{arith}
-use lib.ListN.{length, getD}
-use lib.Seq.{getD-append-add}
+use lib.ListN.{length, getD, take, drop}
+use lib.Seq.{getD-append-add, drop-cons}
 use Rattle.basics.specs.Numbers.{byteAt, u16At, u32At, le16, le32}
 
 -- a number by its digits to the base 256
@@ -66,6 +67,33 @@ module _ (pre post : List ℕ) (x : ℕ) where
 
   pub u32-back : x < 4294967296 → u32At (pre ++ (le32 x ++ post)) (length pre) ≡ x
   u32-back h = u32-past pre (le32 x ++ post) (length pre) 0 zeroth ∙ u32-le32 x post h
+
+-- four bytes of a list, one by one
+pub drop-four : (s : List ℕ) (p : ℕ) → p + 4 ≤ length s
+    → drop p s ≡ getD s p 0 ∷ getD s (p + 1) 0 ∷ getD s (p + 2) 0 ∷ getD s (p + 3) 0 ∷ drop (p + 4) s
+drop-four s p h =
+    next p (p + 1) refl (omega arith) (next (p + 1) (p + 2) (omega arith) (omega arith) (next (p + 2) (p + 3) (omega arith) (omega arith) (next (p + 3) (p + 4) (omega arith) (omega arith) refl)))
+  where
+    next : (q r : ℕ) {l : List ℕ} → r ≡ q + 1 → q < length s → drop r s ≡ l → drop q s ≡ getD s q 0 ∷ l
+    next q r {l} e u k = drop-cons s q 0 u ∙ ap (λ (x : List ℕ). getD s q 0 ∷ x) (ap (λ (m : ℕ). drop m s) (sym (add-one q) ∙ sym e) ∙ k)
+
+-- they are those of the number that they make
+pub four-bytes : (s : List ℕ) → ((i : ℕ) → getD s i 0 < 256) → (p : ℕ) → p + 4 ≤ length s → take 4 (drop p s) ≡ le32 (u32At s p)
+unfolding u32At
+four-bytes s small p h =
+    ap (take 4) (drop-four s p h)
+    ∙ digits (getD s p 0) (getD s (p + 1) 0) (getD s (p + 2) 0) (getD s (p + 3) 0) (small p) (small (p + 1)) (small (p + 2)) (small (p + 3))
+  where
+    digits : (a b c d : ℕ) → a < 256 → b < 256 → c < 256 → d < 256 → a ∷ b ∷ c ∷ d ∷ [] ≡ le32 (a + b * 256 + c * 65536 + d * 16777216)
+    digits a b c d ha hb hc hd =
+        let x0 : (a + b * 256 + c * 65536 + d * 16777216) % 256 ≡ a = omega arith in
+        let y1 : (a + b * 256 + c * 65536 + d * 16777216) / 256 ≡ b + c * 256 + d * 65536 = omega arith in
+        let y2 : (a + b * 256 + c * 65536 + d * 16777216) / 65536 ≡ c + d * 256 = omega arith in
+        let y3 : (a + b * 256 + c * 65536 + d * 16777216) / 16777216 ≡ d = omega arith in
+        let x1 : (b + c * 256 + d * 65536) % 256 ≡ b = omega arith in
+        let x2 : (c + d * 256) % 256 ≡ c = omega arith in
+        let x3 : d % 256 ≡ d = omega arith in
+        sym (rw (x0, y1, y2, y3, x1, x2, x3))
 
 -- equal numbers are of equal bytes
 pub same-four : (a b c d a′ b′ c′ d′ : ℕ) → a < 256 → b < 256 → c < 256 → a′ < 256 → b′ < 256 → c′ < 256

@@ -1,26 +1,42 @@
--- The rules of the box (document 01, "The box a call is given"; refusal 1: "box breaks a rule above").
+-- What a call is lent (document 01, "The box a call is given"): the box, which no call changes, and the state, which a call may change.
 use Prim.Native.Nat.{ℕ}
 use mathlib.Core.List.{List}
-use mathlib.Core.Bool.{Bool, _&&_}
-use lib.Dec.{leb}
 use Rattle.entries.specs.Entry.{count}
-use Rattle.names.specs.Rule.{namesRight}
 use Rattle.roll.specs.Record.{portCount}
-use Rattle.roll_rule.specs.Rule.{rollRight}
-use Rattle.boxes.specs.Settings.{settingsRight}
+use Rattle.layout.specs.declared.Set.{Set}
+use Rattle.layout.specs.declared.Sizes.{Sizes}
+use Rattle.layout.specs.Layout.{Names, namesOf, ofLists, widths, sizeOf, place, setAt}
 
--- "Family number, 16 to 65,535"
-unfoldable pub familyRight : ℕ → Bool
-familyRight family = leb 16 family && leb family 65535
+pub record Box : Type 0 where
+  pub roll : List ℕ
+  pub names : Names
 
--- "Whether the sender is admin, yes or no": 1 or 0
-unfoldable pub adminRight : ℕ → Bool
-adminRight admin = leb admin 1
+pub record State : Type 0 where
+  pub words : List ℕ
 
--- the box breaks no rule: family, admin, roll, both name lists, settings
-unfoldable pub boxRight : ℕ → ℕ → List ℕ → List ℕ → List ℕ → List ℕ → Bool
-boxRight family admin roll debug flags settings =
-    familyRight family
-    && (adminRight admin
-    && (rollRight roll
-    && (namesRight debug && (namesRight flags && settingsRight settings (portCount roll) (count debug) (count flags)))))
+-- as they are lent
+abbrev pub boxOf : List ℕ → List ℕ → List ℕ → Box
+boxOf roll debug flags = record { roll = roll; names = namesOf debug flags }
+
+abbrev pub stateOf : List ℕ → State
+stateOf words = record { words = words }
+
+-- how many ports there are, how many bits each set has, and how many words it takes
+abbrev pub portsIn : Box → ℕ
+portsIn box = portCount (box .roll)
+
+abbrev pub sizesIn : Box → Sizes
+sizesIn box = ofLists count (box .names)
+
+abbrev pub widthsIn : Box → Sizes
+widthsIn box = widths (sizesIn box)
+
+-- where a set of the port at a position begins, how many words it has, and its words
+unfoldable pub placeIn : Box → ℕ → Set → ℕ
+placeIn box position set = place (portsIn box) (widthsIn box) position set
+
+unfoldable pub widthIn : Box → Set → ℕ
+widthIn box set = sizeOf (widthsIn box) set
+
+unfoldable pub setOf : Box → State → ℕ → Set → List ℕ
+setOf box state position set = setAt (state .words) (portsIn box) (widthsIn box) position set

@@ -1,2 +1,3 @@
-pub mod Settings
 pub mod Box
+pub mod Settings
+pub mod Rule

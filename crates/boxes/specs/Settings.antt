@@ -6,19 +6,19 @@ use mathlib.Core.Bool.{Bool, _&&_}
 use lib.ListN.{length}
 use lib.Dec.{eqb}
 use Rattle.basics.specs.Scan.{all}
-use Rattle.bits.specs.Set.{wordsFor, noneFrom}
+use Rattle.bits.specs.Set.{noneFrom}
 use Rattle.layout.specs.declared.Set.{Set}
-use Rattle.layout.specs.declared.Set.the-variants.{Debug, Flags}
-use Rattle.layout.specs.Layout.{ofSet, words, setAt}
+use Rattle.layout.specs.declared.Sizes.{Sizes}
+use Rattle.layout.specs.Layout.{sizeOf, everySet, widths, words, setAt}
 
 -- "bits from N on are 0" in a set of the port at a position
-unfoldable pub setClear : List ℕ → ℕ → ℕ → ℕ → ℕ → Set → Bool
-setClear settings ports nd nf position set = noneFrom (setAt settings ports (wordsFor nd) (wordsFor nf) position set) (ofSet set nd nf)
+unfoldable pub setClear : List ℕ → ℕ → Sizes → ℕ → Set → Bool
+setClear settings ports sizes position set = noneFrom (setAt settings ports (widths sizes) position set) (sizeOf sizes set)
 
--- so in both sets of a port
-unfoldable pub portClear : List ℕ → ℕ → ℕ → ℕ → ℕ → Bool
-portClear settings ports nd nf position = setClear settings ports nd nf position Debug && setClear settings ports nd nf position Flags
+-- so in every set of a port
+unfoldable pub portClear : List ℕ → ℕ → Sizes → ℕ → Bool
+portClear settings ports sizes position = everySet (setClear settings ports sizes position)
 
 -- "exactly these words", and so in every port
-unfoldable pub settingsRight : List ℕ → ℕ → ℕ → ℕ → Bool
-settingsRight settings ports nd nf = eqb (length settings) (words ports (wordsFor nd) (wordsFor nf)) && all ports (portClear settings ports nd nf)
+unfoldable pub settingsRight : List ℕ → ℕ → Sizes → Bool
+settingsRight settings ports sizes = eqb (length settings) (words ports (widths sizes)) && all ports (portClear settings ports sizes)

@@ -1,7 +1,15 @@
 // The box that a call is given: the rules that it must keep.
+pub mod lists;
 pub mod rule;
 pub mod settings;
 
 pub use rule::box_right;
 pub use settings::set_at;
 pub use settings::settings_right;
+
+// The numbers that a call is given.
+pub struct Call {
+    pub family: u32,
+    pub admin: u32,
+    pub position: usize,
+}

@@ -1,37 +1,39 @@
 // The rules of the box, which every call checks.
 ghost use mathlib.Core.Path.{_≡_};
-ghost use Rattle.boxes.specs.Box.{boxRight};
+ghost use Rattle.roll.specs.Table.{Read};
+ghost use Rattle.boxes.specs.Box.{boxOf, stateOf};
+ghost use Rattle.boxes.specs.Rule.{boxRight};
+use crate::Call;
+use crate::lists::lists_right;
+use crate::lists::sizes;
 use crate::settings::settings_right;
 
-// Whether a box breaks no rule.
+// Whether a box breaks no rule. The table is that of its roll.
 pub fn box_right(
-    family: u32,
-    admin: u32,
+    call: Call,
     roll: &[u8],
+    ports: &[u64],
     debug: &[u8],
     flags: &[u8],
     settings: &[u32],
 ) -> bool
-    ensures { λ r. ⌜ r ≡ boxRight family admin (now (roll .entry)) (now (debug .entry)) (now (flags .entry)) (now (settings .entry)) ⌝ }
+    requires { ⌜ Read (now roll) (now ports) ⌝ }
+    ensures { λ r. ⌜ r ≡ boxRight (boxOf (now (roll .entry)) (now (debug .entry)) (now (flags .entry))) (stateOf (now (settings .entry))) call ⌝ }
 {
-    if family < 16 {
+    if call.family < 16 {
         return false;
     }
-    if 65535 < family {
+    if 65535 < call.family {
         return false;
     }
-    if 1 < admin {
+    if 1 < call.admin {
         return false;
     }
-    let ports = roll::ports(roll);
-    if !roll_rule::roll_right_of(roll, ports) {
+    if !roll_rule::roll_right(roll, ports) {
         return false;
     }
-    if !names::names_right(debug) {
+    if !lists_right(debug, flags) {
         return false;
     }
-    if !names::names_right(flags) {
-        return false;
-    }
-    settings_right(settings, ports, names::count(debug), names::count(flags))
+    settings_right(settings, ports.len(), sizes(debug, flags))
 }

@@ -9,7 +9,7 @@ use Rattle.netlink.specs.declared.walk.Slot.{Slot}
 use Rattle.bitset_form.specs.Bitset.{Reading}
 use Rattle.bitset_form.specs.Bitset.Reading.{refused, accepted}
 use Rattle.bitset.specs.Judge.{bitsetReading}
-use Rattle.layout.specs.Layout.{ofSet}
+use Rattle.layout.specs.Layout.{Names, listOf}
 use Rattle.roll.specs.Record.{portCount}
 use Rattle.admission.specs.declared.commands.Command.{Command}
 use Rattle.request.specs.Top.{topOf}
@@ -39,8 +39,8 @@ module _ (roll : List ℕ) where
       → PortIn roll (onAim a change set .plan)
   unfolding PortIn
   on-aim-in (A.Refused why) change set h f = tt
-  on-aim-in (A.Port position index name end flags) true set h f = f position (h .counted)
-  on-aim-in (A.Port position index name end flags) false set h f = h .counted
+  on-aim-in (A.Port position flags) true set h f = f position h
+  on-aim-in (A.Port position flags) false set h f = h
 
   header-in : (m : List ℕ) (change : Bool) (names : List ℕ) (header bitset : Slot) → PortIn roll (ofHeader m change roll names header bitset .plan)
   unfolding ofHeader
@@ -52,12 +52,12 @@ module _ (roll : List ℕ) where
   on-top-in (T.Nests header bitset) rest f = f header bitset
 
   -- whatever is decided
-  pub decided-in : (m : List ℕ) (command : Command) (debug flags : List ℕ) (d : Decision) → d ≡ decided m command roll debug flags → PortIn roll (d .plan)
+  pub decided-in : (m : List ℕ) (command : Command) (names : Names) (d : Decision) → d ≡ decided m command roll names → PortIn roll (d .plan)
   unfolding decided
-  decided-in m command debug flags d e =
+  decided-in m command names d e =
       rw e
-      (on-top-in (topOf m (command .change)) (ofHeader m (command .change) roll (ofSet (command .set) debug flags))
-      (header-in m (command .change) (ofSet (command .set) debug flags)))
+      (on-top-in (topOf m (command .change)) (ofHeader m (command .change) roll (listOf names (command .set)))
+      (header-in m (command .change) (listOf names (command .set))))
 
   -- the port of a GET, the port of a SET
   pub get-in : (p : Plan) (port : Port) → PortIn roll p → p ≡ P.Get port → port .position < portCount roll

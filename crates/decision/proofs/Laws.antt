@@ -13,7 +13,7 @@ use Rattle.bitset_form.specs.Bitset.Reading.{refused, accepted}
 use Rattle.bitset_form.specs.declared.Judgement.the-variants as J
 use Rattle.bitset_form.specs.declared.Judged.{Judged}
 use Rattle.bitset.specs.Judge.{bitsetReading}
-use Rattle.layout.specs.Layout.{ofSet}
+use Rattle.layout.specs.Layout.{Names, listOf}
 use Rattle.admission.specs.declared.commands.Command.{Command}
 use Rattle.request.specs.Top.{topOf}
 use Rattle.request.specs.Aim.{aimOf}
@@ -64,12 +64,12 @@ module _ (m : List ℕ) (change : Bool) (roll names : List ℕ) (header bitset :
   unfolding ofHeader
   header-refused why q e = e ∙ sym (rw (← ea, q))
 
-  module _ (position index name end flags : ℕ) (q : a ≡ A.Port position index name end flags) where
+  module _ (position flags : ℕ) (q : a ≡ A.Port position flags) where
     pub header-set : change ≡ true → d ≡ ofBitset m bitset names position → d ≡ ofHeader m change roll names header bitset
     unfolding ofHeader
     header-set c e = e ∙ sym (rw (← ea, q, c))
 
-    pub header-get : change ≡ false → d ≡ formless (P.Get (record { position = position; index = index; name = name; flags = flags }))
+    pub header-get : change ≡ false → d ≡ formless (P.Get (record { position = position; flags = flags }))
         → d ≡ ofHeader m change roll names header bitset
     unfolding ofHeader
     header-get c e = e ∙ sym (rw (← ea, q, c))
@@ -77,14 +77,14 @@ module _ (m : List ℕ) (change : Bool) (roll names : List ℕ) (header bitset :
 pub ruleset header-laws = (header-refused, header-set, header-get)
 
 -- the top level
-module _ (m : List ℕ) (command : Command) (roll debug flags : List ℕ) (t : Top) (et : t ≡ topOf m (command .change)) (d : Decision) where
-  pub decide-refused : (why : Refusal) → t ≡ T.Refused why → d ≡ formless (P.Refused why) → d ≡ decided m command roll debug flags
+module _ (m : List ℕ) (command : Command) (roll : List ℕ) (names : Names) (t : Top) (et : t ≡ topOf m (command .change)) (d : Decision) where
+  pub decide-refused : (why : Refusal) → t ≡ T.Refused why → d ≡ formless (P.Refused why) → d ≡ decided m command roll names
   unfolding decided
   decide-refused why q e = e ∙ sym (rw (← et, q))
 
-  pub decide-nests : (header bitset : Slot) (names : List ℕ) → t ≡ T.Nests header bitset → names ≡ ofSet (command .set) debug flags
-      → d ≡ ofHeader m (command .change) roll names header bitset → d ≡ decided m command roll debug flags
+  pub decide-nests : (header bitset : Slot) (list : List ℕ) → t ≡ T.Nests header bitset → list ≡ listOf names (command .set)
+      → d ≡ ofHeader m (command .change) roll list header bitset → d ≡ decided m command roll names
   unfolding decided
-  decide-nests header bitset names q en e = e ∙ sym (rw (← et, q, ← en))
+  decide-nests header bitset list q en e = e ∙ sym (rw (← et, q, ← en))
 
 pub ruleset decide-laws = (decide-refused, decide-nests)

@@ -9,7 +9,7 @@ use Rattle.netlink.specs.declared.walk.Slot.{Slot}
 use Rattle.bitset_form.specs.Bitset.{Reading, formOf}
 use Rattle.bitset_form.specs.Bitset.Reading.{refused, accepted}
 use Rattle.bitset.specs.Judge.{bitsetReading}
-use Rattle.layout.specs.Layout.{ofSet}
+use Rattle.layout.specs.Layout.{Names, listOf}
 use Rattle.roll.specs.Record.{portCount}
 use Rattle.admission.specs.declared.commands.Command.{Command}
 use Rattle.request.specs.Top.{topOf}
@@ -39,8 +39,7 @@ ofBitset m bitset names position =
 -- the port that is named: a SET goes on to the bitset, a GET is decided
 abbrev pub onAim : Aim → Bool → (ℕ → Decision) → Decision
 onAim (A.Refused why) change set = formless (P.Refused why)
-onAim (A.Port position index name end flags) change set =
-    cond change (set position) (formless (P.Get (record { position = position; index = index; name = name; flags = flags })))
+onAim (A.Port position flags) change set = cond change (set position) (formless (P.Get (record { position = position; flags = flags })))
 
 -- "Then the header is walked whole, then 14 to 17"
 unfoldable pub ofHeader : List ℕ → Bool → List ℕ → List ℕ → Slot → Slot → Decision
@@ -52,9 +51,8 @@ onTop (T.Refused why) rest = formless (P.Refused why)
 onTop (T.Nests header bitset) rest = rest header bitset
 
 -- "top level is walked whole (10, 11, 12 for each attribute in turn), then header missing (13), then bitset missing in a SET (13)"
-unfoldable pub decided : List ℕ → Command → List ℕ → List ℕ → List ℕ → Decision
-decided m command roll debug flags =
-    onTop (topOf m (command .change)) (ofHeader m (command .change) roll (ofSet (command .set) debug flags))
+unfoldable pub decided : List ℕ → Command → List ℕ → Names → Decision
+decided m command roll names = onTop (topOf m (command .change)) (ofHeader m (command .change) roll (listOf names (command .set)))
 
 -- the port that a plan names is one of the roll's
 unfoldable pub PortIn : List ℕ → Plan → Type 0

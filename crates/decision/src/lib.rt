@@ -1,5 +1,7 @@
 // What an admitted request asks for: judged level by level, by value. No stage here sees the page or the settings.
 ghost use mathlib.Core.Path.{_≡_};
+ghost use Rattle.layout.specs.Layout.{namesOf};
+ghost use Rattle.roll.specs.Table.{Tabled};
 ghost use Rattle.decision.specs.Decision.{formless, ofBitset, ofHeader, decided};
 use admission::commands::Command;
 use bitset::judge::judge;
@@ -15,11 +17,9 @@ use request::aim::read_aim;
 use request::top::Top;
 use request::top::read_top;
 
-// The port that a request names: which it is, where its index and its name stand in the roll, and the flags of the request's header.
+// The port that a request names: which it is, and the flags of the request's header.
 pub struct Port {
     pub position: usize,
-    pub index: usize,
-    pub name: usize,
     pub flags: u32,
 }
 
@@ -77,30 +77,21 @@ fn decide_header(
     header: Slot,
     bitset: Slot,
     roll: &[u8],
+    ports: &[u64],
     names: &[u8],
 ) -> Decision
+    requires { ⌜ Tabled (now roll) (now ports) ⌝ }
     ensures { λ r. ⌜ r ≡ ofHeader (now (m .entry)) change (now (roll .entry)) (now (names .entry)) header bitset ⌝ }
 {
-    match read_aim(m, header, roll) {
+    match read_aim(m, header, roll, ports) {
         Aim::Refused(why) => {
             return formless(Plan::Refused(why));
         }
-        Aim::Port {
-            position,
-            index,
-            name,
-            end: _,
-            flags,
-        } => {
+        Aim::Port { position, flags } => {
             if change {
                 return decide_bitset(m, bitset, names, position);
             }
-            return formless(Plan::Get(Port {
-                position,
-                index,
-                name,
-                flags,
-            }));
+            return formless(Plan::Get(Port { position, flags }));
         }
     }
 }
@@ -110,10 +101,12 @@ pub fn decide<'a>(
     m: &[u8],
     command: Command,
     roll: &[u8],
+    ports: &[u64],
     debug: &'a [u8],
     flags: &'a [u8],
 ) -> Decision
-    ensures { λ r. ⌜ r ≡ decided (now (m .entry)) command (now (roll .entry)) (now (debug .entry)) (now (flags .entry)) ⌝ }
+    requires { ⌜ Tabled (now roll) (now ports) ⌝ }
+    ensures { λ r. ⌜ r ≡ decided (now (m .entry)) command (now (roll .entry)) (namesOf (now (debug .entry)) (now (flags .entry))) ⌝ }
 {
     let set = command.set;
     match read_top(m, command.change) {
@@ -122,7 +115,7 @@ pub fn decide<'a>(
         }
         Top::Nests { header, bitset } => {
             let names = names_of(set, debug, flags);
-            return decide_header(m, command.change, header, bitset, roll, names);
+            return decide_header(m, command.change, header, bitset, roll, ports, names);
         }
     }
 }

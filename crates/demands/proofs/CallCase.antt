@@ -16,7 +16,9 @@ use Rattle.netlink_headers.specs.Messages.{messageAt}
 use Rattle.netlink_headers.specs.declared.messages.MessageRead.the-variants.{Message, Misstated, Cut, AtEnd, Outside}
 use Rattle.netlink_attributes.proofs.Laws.{part-in}
 use Rattle.refusal.specs.declared.Refusal.the-variants as R
-use Rattle.boxes.specs.Box.{boxRight}
+use Rattle.boxes.specs.Box.{Box, State}
+use Rattle.boxes.specs.declared.Call.{Call}
+use Rattle.boxes.specs.Rule.{boxRight}
 use Rattle.handler.specs.Call.{stays, onMessage, messageOutcome, positionOutcome, outcome}
 use Rattle.demands.specs.Call.{messageOf}
 use Rattle.demands.specs.CallCase.{CallCase}
@@ -24,7 +26,10 @@ use Rattle.demands.specs.CallCase.CallCase.{over, stayed, answered}
 use Rattle.demands.proofs.Request.{message-first}
 use Rattle.demands.proofs.Message.{message-case}
 
-module _ (family admin : ℕ) (roll debug flags ws datagram : List ℕ) (position : ℕ) where
+module _ (box : Box) (state : State) (call : Call) (datagram : List ℕ) where
+  abbrev position : ℕ
+  position = call .position
+
   abbrev stated : ℕ
   stated = u32At datagram position
 
@@ -40,34 +45,34 @@ module _ (family admin : ℕ) (roll debug flags ws datagram : List ℕ) (positio
       ∙ (let e : position + stated - position ≡ stated = omega arith in e) in
       omega arith
 
-  message : boxRight family admin roll debug flags ws ≡ true → 16 ≤ stated → position + stated ≤ length datagram
-      → CallCase family admin roll debug flags ws datagram position
-      (messageOutcome family admin roll debug flags ws (messageOf datagram position) (messageHeader datagram position) next)
+  message : boxRight box state call ≡ true → 16 ≤ stated → position + stated ≤ length datagram
+      → CallCase box state call datagram
+      (messageOutcome box state call (messageOf datagram position) (messageHeader datagram position) next)
   message right lo hi =
       let m = messageOf datagram position in
       let h = messageHeader datagram position in
       answered next right (omega arith) (omega arith) (long lo hi)
-      (message-first roll debug flags ws m h next family admin) (message-case roll debug flags ws m h next family admin)
+      (message-first box state m h next call) (message-case box state m h next call)
 
-  pub call-case : (room : ℕ) → CallCase family admin roll debug flags ws datagram position (outcome family admin roll debug flags ws datagram position room)
+  pub call-case : (room : ℕ) → CallCase box state call datagram (outcome box state call datagram room)
   unfolding outcome positionOutcome messageAt messageOf
   call-case room =
-      go (boxRight family admin roll debug flags ws) (ltb room 32768) (ltb 32768 (length datagram)) (ltb (length datagram) position)
+      go (boxRight box state call) (ltb room 32768) (ltb 32768 (length datagram)) (ltb (length datagram) position)
       (eqb position (length datagram)) (ltb (length datagram) (position + 16)) (ltb stated 16) (ltb (length datagram) (position + stated)) refl refl refl
     where
-      go : (right page long past end cut low high : Bool) → boxRight family admin roll debug flags ws ≡ right → ltb stated 16 ≡ low
+      go : (right page long past end cut low high : Bool) → boxRight box state call ≡ right → ltb stated 16 ≡ low
           → ltb (length datagram) (position + stated) ≡ high
-          → CallCase family admin roll debug flags ws datagram position
-          (cond (not right) (stays R.Box position ws)
-          (cond page (stays R.Page position ws)
-          (cond long (stays R.Datagram position ws)
+          → CallCase box state call datagram
+          (cond (not right) (stays R.Box call state)
+          (cond page (stays R.Page call state)
+          (cond long (stays R.Datagram call state)
           (onMessage
           (cond past Outside
           (cond end AtEnd
           (cond cut Cut
           (cond (low || high) Misstated (Message (messageHeader datagram position) (position + stated) next)))))
-          position ws
-          (λ h end next. messageOutcome family admin roll debug flags ws (partOf datagram position end) h next)))))
+          call state
+          (λ h end next. messageOutcome box state call (partOf datagram position end) h next)))))
       go false page long past end cut low high er el eh = stayed R.Box (omega arith) refl
       go true true long past end cut low high er el eh = stayed R.Page (omega arith) refl
       go true false true past end cut low high er el eh = stayed R.Datagram (omega arith) refl

@@ -18,6 +18,8 @@ use Rattle.netlink_headers.specs.Headers.{messageHeader}
 use Rattle.netlink_error.specs.Error.{errorMessage}
 use Rattle.refusal.specs.Refusal.{numberOf, errnoOf, detailOf}
 use Rattle.refusal.specs.declared.Refusal.{Refusal}
+use Rattle.boxes.specs.Box.{Box, State}
+use Rattle.boxes.specs.declared.Call.{Call}
 use Rattle.response.specs.Answer.{Outcome}
 use Rattle.handler.specs.Call.{outcome, isOver}
 use Rattle.handler.proofs.call.Moves as M
@@ -27,7 +29,7 @@ use Rattle.demands.specs.Call.{messageOf}
 use Rattle.demands.specs.Message.MessageCase.{skipped, refused, got, set}
 use Rattle.demands.specs.CallCase.{CallCase}
 use Rattle.demands.specs.CallCase.CallCase.{over, stayed, answered}
-use Rattle.demands.specs.Run.{endsWithin}
+use Rattle.demands.specs.Run.{from, endsWithin}
 use Rattle.demands.proofs.First.{first-refused}
 use Rattle.demands.proofs.Late.{message-number}
 use Rattle.demands.proofs.CallCase.{call-case}
@@ -54,46 +56,49 @@ done-not why e = let z : _≡_ {A = ℕ} 0 1 = cc in omega arith
 same-why : (w why : Refusal) → Refused w ≡ Refused why → w ≡ why
 same-why w why e = cc
 
-module _ (family admin : ℕ) (roll debug flags ws datagram : List ℕ) (position room : ℕ) where
-  abbrev o : Outcome
-  o = outcome family admin roll debug flags ws datagram position room
+module _ (box : Box) (state : State) (call : Call) (datagram : List ℕ) (room : ℕ) where
+  abbrev position : ℕ
+  position = call .position
+
+  abbrev o : Outcome State
+  o = outcome box state call datagram room
 
   abbrev m : List ℕ
   m = messageOf datagram position
 
-  said : {p : Outcome} → o ≡ p → p .said .kind ≡ o .said .kind
-  said e = sym (ap (λ (x : Outcome). x .said .kind) e)
+  said : {p : Outcome State} → o ≡ p → p .said .kind ≡ o .said .kind
+  said e = sym (ap (λ (x : Outcome State). x .said .kind) e)
 
-  words : {p : Outcome} → o ≡ p → o .words ≡ p .words
-  words e = ap (λ (x : Outcome). x .words) e
+  kept : {p : Outcome State} → o ≡ p → o .state ≡ p .state
+  kept e = ap (λ (x : Outcome State). x .state) e
 
-  bytes : {p : Outcome} → o ≡ p → o .said .bytes ≡ p .said .bytes
-  bytes e = ap (λ (x : Outcome). x .said .bytes) e
+  bytes : {p : Outcome State} → o ≡ p → o .said .bytes ≡ p .said .bytes
+  bytes e = ap (λ (x : Outcome State). x .said .bytes) e
 
-  next : {p : Outcome} → o ≡ p → o .said .next ≡ p .said .next
-  next e = ap (λ (x : Outcome). x .said .next) e
+  next : {p : Outcome State} → o ≡ p → o .said .next ≡ p .said .next
+  next e = ap (λ (x : Outcome State). x .said .next) e
 
   -- a refusal
   module _ (why : Refusal) (told : o .said .kind ≡ Refused why) where
-    pub refused-keeps : (o .words ≡ ws) × (o .said .bytes ≡ refusalBytes m why)
-    refused-keeps = by (call-case family admin roll debug flags ws datagram position room)
+    pub refused-keeps : (o .state ≡ state) × (o .said .bytes ≡ refusalBytes m why)
+    refused-keeps = by (call-case box state call datagram room)
       where
-        by : CallCase family admin roll debug flags ws datagram position o → (o .words ≡ ws) × (o .said .bytes ≡ refusalBytes m why)
+        by : CallCase box state call datagram o → (o .state ≡ state) × (o .said .bytes ≡ refusalBytes m why)
         by (over e) = absurd (end-not why (said e ∙ told))
         by (stayed w l e) =
             let same = same-why w why (said e ∙ told) in
-            (words e, bytes e ∙ quiet-bytes m why (rw (← same) l))
+            (kept e, bytes e ∙ quiet-bytes m why (rw (← same) l))
         by (answered n right lo hi long first (skipped e)) = absurd (skipped-not why (said e ∙ told))
         by (answered n right lo hi long first (got d g e)) = absurd (done-not why (said e ∙ told))
         by (answered n right lo hi long first (set d g b c e)) = absurd (done-not why (said e ∙ told))
         by (answered n right lo hi long first (refused w e)) =
             let same = same-why w why (said e ∙ told) in
-            let late = message-number family admin roll debug flags m (messageHeader datagram position) why (first-refused why _ (sym first ∙ told)) in
-            (words e, bytes e ∙ rw same (error-bytes m why late))
+            let late = message-number box call m (messageHeader datagram position) why (first-refused why _ (sym first ∙ told)) in
+            (kept e, bytes e ∙ rw same (error-bytes m why late))
 
   -- the end, and a skipped message
-  pub idle-keeps : (o .said .kind ≡ End) ⊎ (o .said .kind ≡ Skipped) → (o .words ≡ ws) × (o .said .bytes ≡ [])
-  idle-keeps told = by (call-case family admin roll debug flags ws datagram position room) told
+  pub idle-keeps : (o .said .kind ≡ End) ⊎ (o .said .kind ≡ Skipped) → (o .state ≡ state) × (o .said .bytes ≡ [])
+  idle-keeps told = by (call-case box state call datagram room) told
     where
       not-done : (o .said .kind ≡ End) ⊎ (o .said .kind ≡ Skipped) → Done ≡ o .said .kind → ⊥
       not-done (inl t) e = let q = e ∙ t in let z : _≡_ {A = ℕ} 0 1 = cc in omega arith
@@ -103,58 +108,58 @@ module _ (family admin : ℕ) (roll debug flags ws datagram : List ℕ) (positio
       not-refused w (inl t) e = end-not w (sym (e ∙ t))
       not-refused w (inr t) e = skipped-not w (sym (e ∙ t))
 
-      by : CallCase family admin roll debug flags ws datagram position o → (o .said .kind ≡ End) ⊎ (o .said .kind ≡ Skipped)
-          → (o .words ≡ ws) × (o .said .bytes ≡ [])
-      by (over e) t = (words e, bytes e)
+      by : CallCase box state call datagram o → (o .said .kind ≡ End) ⊎ (o .said .kind ≡ Skipped)
+          → (o .state ≡ state) × (o .said .bytes ≡ [])
+      by (over e) t = (kept e, bytes e)
       by (stayed w l e) t = absurd (not-refused w t (said e))
-      by (answered n right lo hi long first (skipped e)) t = (words e, bytes e)
+      by (answered n right lo hi long first (skipped e)) t = (kept e, bytes e)
       by (answered n right lo hi long first (got d g e)) t = absurd (not-done t (said e))
       by (answered n right lo hi long first (set d g b c e)) t = absurd (not-done t (said e))
       by (answered n right lo hi long first (refused w e)) t = absurd (not-refused w t (said e))
 
   -- the position
-  over-clash : {p : Outcome} → o ≡ p → isOver (p .said .kind) ≡ false → isOver (o .said .kind) ≡ true → ⊥
+  over-clash : {p : Outcome State} → o ≡ p → isOver (p .said .kind) ≡ false → isOver (o .said .kind) ≡ true → ⊥
   over-clash e f t = clash (ap isOver (said e) ∙ t) f
 
   pub over-stays : isOver (o .said .kind) ≡ true → o .said .next ≡ position
-  over-stays is = by (call-case family admin roll debug flags ws datagram position room)
+  over-stays is = by (call-case box state call datagram room)
     where
-      by : CallCase family admin roll debug flags ws datagram position o → o .said .next ≡ position
+      by : CallCase box state call datagram o → o .said .next ≡ position
       by (over e) = next e
       by (stayed w l e) = next e
       by (answered n right lo hi long first (skipped e)) = absurd (over-clash e refl is)
       by (answered n right lo hi long first (got d g e)) = absurd (over-clash e refl is)
       by (answered n right lo hi long first (set d g b c e)) = absurd (over-clash e refl is)
       by (answered n right lo hi long first (refused w e)) =
-          let late = message-number family admin roll debug flags m (messageHeader datagram position) w (first-refused w _ (sym first ∙ sym (said e))) in
+          let late = message-number box call m (messageHeader datagram position) w (first-refused w _ (sym first ∙ sym (said e))) in
           absurd (over-clash e (le-ltb (numberOf w) 5 late) is)
 
   pub moves : isOver (o .said .kind) ≡ false → (position + 16 ≤ o .said .next) × (o .said .next ≤ length datagram)
-  moves = M.moves family admin roll debug flags ws datagram position room
+  moves = M.moves box state call datagram room
 
 -- calls one after the other
-module _ (family admin : ℕ) (roll debug flags datagram : List ℕ) (room : ℕ) where
-  abbrev call : List ℕ → ℕ → Outcome
-  call ws position = outcome family admin roll debug flags ws datagram position room
+module _ (box : Box) (datagram : List ℕ) (room : ℕ) where
+  abbrev made : State → Call → Outcome State
+  made state call = outcome box state call datagram room
 
-  abbrev run : ℕ → List ℕ → ℕ → Bool
-  run calls ws position = endsWithin calls family admin roll debug flags ws datagram position room
+  abbrev run : ℕ → State → Call → Bool
+  run calls state call = endsWithin calls box state call datagram room
 
   -- the first call, then the others where it moved on
-  first-call : (calls : ℕ) (ws : List ℕ) (position : ℕ)
-      → (position + 16 ≤ call ws position .said .next → call ws position .said .next ≤ length datagram
-      → run calls (call ws position .words) (call ws position .said .next) ≡ true)
-      → run (suc calls) ws position ≡ true
+  first-call : (calls : ℕ) (state : State) (call : Call)
+      → (call .position + 16 ≤ made state call .said .next → made state call .said .next ≤ length datagram
+      → run calls (made state call .state) (from call (made state call .said .next)) ≡ true)
+      → run (suc calls) state call ≡ true
   unfolding endsWithin
-  first-call calls ws position others = go (isOver (call ws position .said .kind)) refl
+  first-call calls state call others = go (isOver (made state call .said .kind)) refl
     where
-      go : (t : Bool) → isOver (call ws position .said .kind) ≡ t → t || run calls (call ws position .words) (call ws position .said .next) ≡ true
+      go : (t : Bool) → isOver (made state call .said .kind) ≡ t → t || run calls (made state call .state) (from call (made state call .said .next)) ≡ true
       go true e = refl
-      go false e = let on = moves family admin roll debug flags ws datagram position room e in others (on .0) (on .1)
+      go false e = let on = moves box state call datagram room e in others (on .0) (on .1)
 
-  ends-by : (calls : ℕ) (ws : List ℕ) (position : ℕ) → position ≤ length datagram → length datagram < position + calls * 16 → run calls ws position ≡ true
-  ends-by zero ws position p l = absurd (omega arith)
-  ends-by (suc calls) ws position p l = first-call calls ws position (λ lo hi. ends-by calls _ _ hi (omega arith))
+  ends-by : (calls : ℕ) (state : State) (call : Call) → call .position ≤ length datagram → length datagram < call .position + calls * 16 → run calls state call ≡ true
+  ends-by zero state call p l = absurd (omega arith)
+  ends-by (suc calls) state call p l = first-call calls state call (λ lo hi. ends-by calls _ (from call _) hi (omega arith))
 
-  pub run-ends : (ws : List ℕ) (position : ℕ) → endsWithin (suc (length datagram)) family admin roll debug flags ws datagram position room ≡ true
-  run-ends ws position = first-call (length datagram) ws position (λ lo hi. ends-by (length datagram) _ _ hi (omega arith))
+  pub run-ends : (state : State) (call : Call) → endsWithin (suc (length datagram)) box state call datagram room ≡ true
+  run-ends state call = first-call (length datagram) state call (λ lo hi. ends-by (length datagram) _ (from call _) hi (omega arith))

@@ -11,7 +11,7 @@ use lib.ListN.{length, drop, getD}
 use lib.Dec.{eqb}
 use lib.Seq.{getD-take, getD-drop}
 use native.Mathlib.Omega.{arith}
-use Rattle.basics.specs.Numbers.{byteAt, u32At}
+use Rattle.basics.specs.Numbers.{byteAt}
 use Rattle.basics.proofs.Truth.{clash}
 use Rattle.bits.specs.Set.{has, wordsFor}
 use Rattle.bits.specs.Change.{Below}
@@ -27,15 +27,14 @@ use Rattle.refusal.specs.Refusal.{errnoOf, detailOf}
 use Rattle.bitset_form.specs.Bitset.{Bitset}
 use Rattle.normal.specs.Claims.{Fits}
 use Rattle.normal.proofs.Fits.{accepted-fits}
-use Rattle.roll.specs.Name.{nameAt}
-use Rattle.roll.specs.Record.{portCount}
-use Rattle.boxes.specs.Box.{boxRight}
-use Rattle.layout.specs.Layout.{ofSet, place, setAt}
+use Rattle.roll.specs.Record.{portCount, indexOf, nameOf}
+use Rattle.boxes.specs.Box.{Box, State, portsIn, sizesIn, widthsIn, setOf}
+use Rattle.boxes.specs.declared.Call.{Call}
+use Rattle.boxes.specs.Rule.{boxRight}
+use Rattle.layout.specs.Layout.{listOf, sizeOf, place, setAt}
 use Rattle.layout.specs.declared.Set.{Set}
-use Rattle.layout.specs.declared.Set.the-variants.{Debug, Flags}
-use Rattle.layout.proofs.Laws.{of-map, place-inside, set-length}
+use Rattle.layout.proofs.Laws.{lists-of, sizes-of, place-inside, set-length}
 use Rattle.boxes.proofs.rule.Meaning.{Right, box-means}
-use Rattle.boxes.proofs.settings.Laws as S
 use Rattle.read_back.proofs.Reply.{reply-attributes, reply-back}
 use Rattle.admission.specs.Commands.{commandOf}
 use Rattle.request.proofs.aim.Place.{aimed-in}
@@ -43,13 +42,13 @@ use Rattle.response.specs.Answer.{Outcome, ackBytes}
 use Rattle.obey.specs.Obey.{shown}
 use Rattle.handler.specs.Call.{outcome}
 use Rattle.reply.specs.Message.{headingOf}
-use Rattle.obey.specs.Obey.{setOf, gotten}
+use Rattle.obey.specs.Obey.{gotten}
 use Rattle.response.specs.declared.Kind.the-variants.{Done}
 use Rattle.demands.specs.Answer.{Counted}
 use Rattle.demands.specs.Call.{messageOf}
 use Rattle.demands.specs.CallCase.{CallCase}
 use Rattle.demands.specs.CallCase.CallCase.{over, stayed, answered}
-use Rattle.demands.specs.Message.{Named, Carries}
+use Rattle.demands.specs.Message.{Named, askedOf, Carries}
 use Rattle.demands.specs.Message.MessageCase.{skipped, refused, got, set}
 use Rattle.demands.specs.Done.{DoneSet, DoneGet, replyTo}
 use Rattle.demands.specs.Request.{isSet}
@@ -60,56 +59,54 @@ use Rattle.demands.proofs.Port.{port-short}
 
 -- what is named is a port of the roll
 module _ (roll m : List ℕ) (n : Named roll m) where
-  here : n .position < portCount roll
-  here = aimed-in roll m (n .header) _ (n .position) (n .index) (n .name) (n .end) (n .asked) refl (n .port) .counted
+  here : n .port .position < portCount roll
+  here = aimed-in roll m (n .header) _ (n .port .position) (n .port .flags) refl (n .found)
 
   named-set : isSet (commandOf (byteAt m 16)) ≡ n .command .change
   unfolding isSet
   named-set = ap isSet (n .listed)
 
 -- the stored set of a right box: its names, its words, its bits
-module _ (family admin : ℕ) (roll debug flags ws : List ℕ) (box : boxRight family admin roll debug flags ws ≡ true) (position : ℕ) (inside : position < portCount roll)
+module _ (box : Box) (state : State) (call : Call) (right : boxRight box state call ≡ true) (position : ℕ) (inside : position < portsIn box)
     (set : Set) where
   abbrev stored : List ℕ
-  stored = setOf roll debug flags ws position set
+  stored = setOf box state position set
 
-  rules : Right family admin roll debug flags ws
-  rules = box-means family admin roll debug flags ws box
+  rules : Right box state call
+  rules = box-means box state call right
 
-  names-right : namesRight (ofSet set debug flags) ≡ true
-  unfolding ofSet
-  names-right = go set
-    where
-      go : (s : Set) → namesRight (ofSet s debug flags) ≡ true
-      go Debug = rules .debug-right
-      go Flags = rules .flags-right
+  names-right : namesRight (listOf (box .names) set) ≡ true
+  names-right = rules .names-right set
 
-  stored-long : length stored ≡ wordsFor (ofSet set (count debug) (count flags))
+  stored-long : length stored ≡ wordsFor (sizeOf (sizesIn box) set)
   unfolding setOf
   stored-long =
-      set-length (portCount roll) (wordsFor (count debug)) (wordsFor (count flags)) position set inside ws (rules .exact)
-      ∙ sym (of-map wordsFor set (count debug) (count flags))
+      set-length (portsIn box) (widthsIn box) position set inside (state .words) (rules .settings .exact)
+      ∙ sizes-of wordsFor (sizesIn box) set
 
-  stored-below : Below (ofSet set (count debug) (count flags)) (has stored)
+  stored-below : Below (sizeOf (sizesIn box) set) (has stored)
   unfolding setOf
   stored-below =
-      none-below stored (ofSet set (count debug) (count flags))
-      (S.right-means ws (portCount roll) (count debug) (count flags) (rules .settings-right) .clear position inside set)
+      none-below stored (sizeOf (sizesIn box) set)
+      (rules .settings .clear position inside set)
 
-  stored-small : Small ws → Small stored
+  stored-small : Small (state .words) → Small stored
   unfolding setOf setAt
   stored-small small j l =
-      let at = place (portCount roll) (wordsFor (count debug)) (wordsFor (count flags)) position set in
-      let w = ofSet set (wordsFor (count debug)) (wordsFor (count flags)) in
-      let long : length stored ≡ w = set-length (portCount roll) (wordsFor (count debug)) (wordsFor (count flags)) position set inside ws (rules .exact) in
-      let room = place-inside (portCount roll) (wordsFor (count debug)) (wordsFor (count flags)) position set inside in
-      let all = rules .exact in
-      let e : getD stored j 0 ≡ getD ws (at + j) 0 = getD-take w (drop at ws) j 0 (omega arith) ∙ getD-drop at ws j 0 in
+      let at = place (portsIn box) (widthsIn box) position set in
+      let w = sizeOf (widthsIn box) set in
+      let long : length stored ≡ w = set-length (portsIn box) (widthsIn box) position set inside (state .words) (rules .settings .exact) in
+      let room = place-inside (portsIn box) (widthsIn box) position set inside in
+      let all = rules .settings .exact in
+      let e : getD stored j 0 ≡ getD (state .words) (at + j) 0 = getD-take w (drop at (state .words)) j 0 (omega arith) ∙ getD-drop at (state .words) j 0 in
       rw e (small (at + j) (omega arith))
 
-module _ (family admin : ℕ) (roll debug flags ws datagram : List ℕ) (position room : ℕ) where
-  abbrev o : Outcome
-  o = outcome family admin roll debug flags ws datagram position room
+module _ (box : Box) (state : State) (call : Call) (datagram : List ℕ) (room : ℕ) where
+  abbrev position : ℕ
+  position = call .position
+
+  abbrev o : Outcome State
+  o = outcome box state call datagram room
 
   abbrev m : List ℕ
   m = messageOf datagram position
@@ -117,134 +114,134 @@ module _ (family admin : ℕ) (roll debug flags ws datagram : List ℕ) (positio
   abbrev h : MessageHeader
   h = messageHeader datagram position
 
-  kind-is : {p : Outcome} → o ≡ p → p .said .kind ≡ o .said .kind
-  kind-is e = sym (ap (λ (x : Outcome). x .said .kind) e)
+  kind-is : {p : Outcome State} → o ≡ p → p .said .kind ≡ o .said .kind
+  kind-is e = sym (ap (λ (x : Outcome State). x .said .kind) e)
 
-  bytes-are : {p : Outcome} → o ≡ p → o .said .bytes ≡ p .said .bytes
-  bytes-are e = ap (λ (x : Outcome). x .said .bytes) e
+  bytes-are : {p : Outcome State} → o ≡ p → o .said .bytes ≡ p .said .bytes
+  bytes-are e = ap (λ (x : Outcome State). x .said .bytes) e
 
   -- a SET
-  module _ (box : boxRight family admin roll debug flags ws ≡ true) (n : Named roll m) (change : n .command .change ≡ true) (b : Bitset)
-      (carried : Carries roll debug flags m n b) where
-    fits : Fits (ofSet (n .command .set) (count debug) (count flags)) b
-    fits = rw (of-map count (n .command .set) debug flags) at (accepted-fits _ _ (ofSet (n .command .set) debug flags) b carried)
+  module _ (right : boxRight box state call ≡ true) (n : Named (box .roll) m) (change : n .command .change ≡ true) (b : Bitset)
+      (carried : Carries box m n b) where
+    fits : Fits (sizeOf (sizesIn box) (n .command .set)) b
+    fits = rw (← lists-of count (box .names) (n .command .set)) at (accepted-fits _ _ (listOf (box .names) (n .command .set)) b carried)
 
-    did-set : {p : Outcome} → p .words ≡ after family admin roll debug flags ws box (n .position) (here roll m n) (n .command .set) b fits
-        → p .said .bytes ≡ ackBytes m h → DoneSet family admin roll debug flags ws m h p
+    did-set : {p : Outcome State} → p .state ≡ after box state call right (n .port .position) (here (box .roll) m n) (n .command .set) b fits
+        → p .said .bytes ≡ ackBytes m h → DoneSet box state call m h p
     did-set ew eb =
         record {
           named = n;
           is-set = change;
           bits = b;
           carries = carried;
-          own = rw ew (set-own family admin roll debug flags ws box (n .position) (here roll m n) (n .command .set) b fits);
-          others = rw ew (set-others family admin roll debug flags ws box (n .position) (here roll m n) (n .command .set) b fits);
-          elsewhere = rw ew (set-elsewhere family admin roll debug flags ws box (n .position) (here roll m n) (n .command .set) b fits);
-          right = rw ew (set-right family admin roll debug flags ws box (n .position) (here roll m n) (n .command .set) b fits);
+          own = rw ew (set-own box state call right (n .port .position) (here (box .roll) m n) (n .command .set) b fits);
+          others = rw ew (set-others box state call right (n .port .position) (here (box .roll) m n) (n .command .set) b fits);
+          elsewhere = rw ew (set-elsewhere box state call right (n .port .position) (here (box .roll) m n) (n .command .set) b fits);
+          right = rw ew (set-right box state call right (n .port .position) (here (box .roll) m n) (n .command .set) b fits);
           bytes = eb;
         }
 
   -- a GET
-  module _ (box : boxRight family admin roll debug flags ws ≡ true) (n : Named roll m) where
+  module _ (right : boxRight box state call ≡ true) (n : Named (box .roll) m) where
     abbrev words-of : List ℕ
-    words-of = setOf roll debug flags ws (n .position) (n .command .set)
+    words-of = setOf box state (n .port .position) (n .command .set)
 
     abbrev name-of : List ℕ
-    name-of = nameAt roll (n .name)
+    name-of = nameOf (box .roll) (n .port .position)
 
     abbrev bits-of : ℕ
-    bits-of = ofSet (n .command .set) (count debug) (count flags)
+    bits-of = sizeOf (sizesIn box) (n .command .set)
 
     short : nulAt name-of < 16
-    short = port-short roll m (n .header) (n .position) (n .index) (n .name) (n .end) (n .asked) (rules family admin roll debug flags ws box (n .position) (here roll m n) (n .command .set) .roll-right) (n .port)
+    short = port-short (box .roll) (n .port .position) (rules box state call right (n .port .position) (here (box .roll) m n) (n .command .set) .roll-right) (here (box .roll) m n)
 
-    got-bytes : gotten roll debug flags ws m h (n .command) (n .position) (n .index) (n .name) (n .asked) ≡ replyTo roll debug flags ws m h n ++ ackBytes m h
+    got-bytes : (next : ℕ) → gotten box state m (askedOf h next (n .command)) (n .port) ≡ replyTo box state m h n ++ ackBytes m h
     unfolding gotten shown
-    got-bytes = refl
+    got-bytes next = refl
 
-    did-get : {p : Outcome} → Small ws → n .command .change ≡ false → p .words ≡ ws
-        → p .said .bytes ≡ gotten roll debug flags ws m h (n .command) (n .position) (n .index) (n .name) (n .asked) → DoneGet roll debug flags ws m h p
-    did-get small change ew eb =
+    did-get : (next : ℕ) {p : Outcome State} → Small (state .words) → n .command .change ≡ false → p .state ≡ state
+        → p .said .bytes ≡ gotten box state m (askedOf h next (n .command)) (n .port) → DoneGet box state m h p
+    did-get next small change ew eb =
         let set = n .command .set in
-        let x = u32At roll (n .index) in
-        let compact = eqb (n .asked % 2) 1 in
-        let names = ofSet set debug flags in
-        let inside = here roll m n in
-        let right = names-right family admin roll debug flags ws box (n .position) inside set in
-        let long = stored-long family admin roll debug flags ws box (n .position) inside set in
-        let parts = reply-attributes (headingOf h (n .command .reply)) x name-of compact names words-of bits-of right (of-map count set debug flags) long short in
+        let x = indexOf (box .roll) (n .port .position) in
+        let compact = eqb (n .port .flags % 2) 1 in
+        let names = listOf (box .names) set in
+        let inside = here (box .roll) m n in
+        let named = names-right box state call right (n .port .position) inside set in
+        let long = stored-long box state call right (n .port .position) inside set in
+        let parts = reply-attributes (headingOf h (n .command .reply)) x name-of compact names words-of bits-of named (sym (lists-of count (box .names) set)) long short in
         let at : 24 + length (numbered 1 x name-of) - 4 ≡ 20 + length (numbered 1 x name-of) = omega arith in
         record {
           named = n;
           is-get = change;
           keeps = ew;
-          bytes = eb ∙ got-bytes;
+          bytes = eb ∙ got-bytes next;
           contents = 24 + length (numbered 1 x name-of);
           parts = rw at parts;
           reads-back =
-              reply-back (headingOf h (n .command .reply)) x name-of compact names words-of bits-of right (of-map count set debug flags) long
-              (stored-small family admin roll debug flags ws box (n .position) inside set small)
-              (stored-below family admin roll debug flags ws box (n .position) inside set);
+              reply-back (headingOf h (n .command .reply)) x name-of compact names words-of bits-of named (sym (lists-of count (box .names) set)) long
+              (stored-small box state call right (n .port .position) inside set small)
+              (stored-below box state call right (n .port .position) inside set);
         }
 
-    get-counted : 16 ≤ length m → Counted (gotten roll debug flags ws m h (n .command) (n .position) (n .index) (n .name) (n .asked))
-    get-counted long =
+    get-counted : (next : ℕ) → 16 ≤ length m → Counted (gotten box state m (askedOf h next (n .command)) (n .port))
+    get-counted next long =
         let set = n .command .set in
-        let inside = here roll m n in
+        let inside = here (box .roll) m n in
         let ack = ack-counted m h long in
-        rw got-bytes
-        (reply-counted (headingOf h (n .command .reply)) (u32At roll (n .index)) name-of (eqb (n .asked % 2) 1) (ofSet set debug flags) words-of bits-of short
-        (names-right family admin roll debug flags ws box (n .position) inside set) (of-map count set debug flags)
-        (stored-long family admin roll debug flags ws box (n .position) inside set) (ackBytes m h) (ack .0) (ack .1))
+        rw (got-bytes next)
+        (reply-counted (headingOf h (n .command .reply)) (indexOf (box .roll) (n .port .position)) name-of (eqb (n .port .flags % 2) 1) (listOf (box .names) set) words-of bits-of short
+        (names-right box state call right (n .port .position) inside set) (sym (lists-of count (box .names) set))
+        (stored-long box state call right (n .port .position) inside set) (ackBytes m h) (ack .0) (ack .1))
 
   -- the theorems
   abbrev is-set : Bool
   is-set = isSet (commandOf (byteAt m 16))
 
-  pub effect : o .said .kind ≡ Done → is-set ≡ true → DoneSet family admin roll debug flags ws m h o
-  effect told asked = by (call-case family admin roll debug flags ws datagram position room)
+  pub effect : o .said .kind ≡ Done → is-set ≡ true → DoneSet box state call m h o
+  effect told asked = by (call-case box state call datagram room)
     where
-      by : CallCase family admin roll debug flags ws datagram position o → DoneSet family admin roll debug flags ws m h o
+      by : CallCase box state call datagram o → DoneSet box state call m h o
       by (over e) = absurd (let q = kind-is e ∙ told in let z : _≡_ {A = ℕ} 0 1 = cc in omega arith)
       by (stayed w l e) = absurd (let q = kind-is e ∙ told in let z : _≡_ {A = ℕ} 0 1 = cc in omega arith)
-      by (answered next box lo hi long first (skipped e)) = absurd (let q = kind-is e ∙ told in let z : _≡_ {A = ℕ} 0 1 = cc in omega arith)
-      by (answered next box lo hi long first (refused w e)) = absurd (let q = kind-is e ∙ told in let z : _≡_ {A = ℕ} 0 1 = cc in omega arith)
-      by (answered next box lo hi long first (got n g e)) = absurd (clash asked (named-set roll m n ∙ g))
-      by (answered next box lo hi long first (set n g b c e)) = rw e (did-set box n g b c refl refl)
+      by (answered next right lo hi long first (skipped e)) = absurd (let q = kind-is e ∙ told in let z : _≡_ {A = ℕ} 0 1 = cc in omega arith)
+      by (answered next right lo hi long first (refused w e)) = absurd (let q = kind-is e ∙ told in let z : _≡_ {A = ℕ} 0 1 = cc in omega arith)
+      by (answered next right lo hi long first (got n g e)) = absurd (clash asked (named-set (box .roll) m n ∙ g))
+      by (answered next right lo hi long first (set n g b c e)) = rw e (did-set right n g b c refl refl)
 
-  pub read-back : Small ws → o .said .kind ≡ Done → is-set ≡ false → DoneGet roll debug flags ws m h o
-  read-back small told asked = by (call-case family admin roll debug flags ws datagram position room)
+  pub read-back : Small (state .words) → o .said .kind ≡ Done → is-set ≡ false → DoneGet box state m h o
+  read-back small told asked = by (call-case box state call datagram room)
     where
-      by : CallCase family admin roll debug flags ws datagram position o → DoneGet roll debug flags ws m h o
+      by : CallCase box state call datagram o → DoneGet box state m h o
       by (over e) = absurd (let q = kind-is e ∙ told in let z : _≡_ {A = ℕ} 0 1 = cc in omega arith)
       by (stayed w l e) = absurd (let q = kind-is e ∙ told in let z : _≡_ {A = ℕ} 0 1 = cc in omega arith)
-      by (answered next box lo hi long first (skipped e)) = absurd (let q = kind-is e ∙ told in let z : _≡_ {A = ℕ} 0 1 = cc in omega arith)
-      by (answered next box lo hi long first (refused w e)) = absurd (let q = kind-is e ∙ told in let z : _≡_ {A = ℕ} 0 1 = cc in omega arith)
-      by (answered next box lo hi long first (got n g e)) = rw e (did-get box n small g refl refl)
-      by (answered next box lo hi long first (set n g b c e)) = absurd (clash (named-set roll m n ∙ g) asked)
+      by (answered next right lo hi long first (skipped e)) = absurd (let q = kind-is e ∙ told in let z : _≡_ {A = ℕ} 0 1 = cc in omega arith)
+      by (answered next right lo hi long first (refused w e)) = absurd (let q = kind-is e ∙ told in let z : _≡_ {A = ℕ} 0 1 = cc in omega arith)
+      by (answered next right lo hi long first (got n g e)) = rw e (did-get right n next small g refl refl)
+      by (answered next right lo hi long first (set n g b c e)) = absurd (clash (named-set (box .roll) m n ∙ g) asked)
 
-  pub box-kept : boxRight family admin roll debug flags ws ≡ true → boxRight family admin roll debug flags (o .words) ≡ true
-  box-kept right = by (call-case family admin roll debug flags ws datagram position room)
+  pub box-kept : boxRight box state call ≡ true → boxRight box (o .state) call ≡ true
+  box-kept kept = by (call-case box state call datagram room)
     where
-      same : {p : Outcome} → o ≡ p → p .words ≡ ws → boxRight family admin roll debug flags (o .words) ≡ true
-      same e q = rw (ap (λ (x : Outcome). x .words) e ∙ q) right
+      same : {p : Outcome State} → o ≡ p → p .state ≡ state → boxRight box (o .state) call ≡ true
+      same e q = rw (ap (λ (x : Outcome State). x .state) e ∙ q) kept
 
-      by : CallCase family admin roll debug flags ws datagram position o → boxRight family admin roll debug flags (o .words) ≡ true
+      by : CallCase box state call datagram o → boxRight box (o .state) call ≡ true
       by (over e) = same e refl
       by (stayed w l e) = same e refl
-      by (answered next box lo hi long first (skipped e)) = same e refl
-      by (answered next box lo hi long first (refused w e)) = same e refl
-      by (answered next box lo hi long first (got n g e)) = same e refl
-      by (answered next box lo hi long first (set n g b c e)) =
-          rw e (set-right family admin roll debug flags ws box (n .position) (here roll m n) (n .command .set) b (fits box n g b c))
+      by (answered next right lo hi long first (skipped e)) = same e refl
+      by (answered next right lo hi long first (refused w e)) = same e refl
+      by (answered next right lo hi long first (got n g e)) = same e refl
+      by (answered next right lo hi long first (set n g b c e)) =
+          rw e (set-right box state call right (n .port .position) (here (box .roll) m n) (n .command .set) b (fits right n g b c))
 
   pub count-told : Counted (o .said .bytes)
-  count-told = by (call-case family admin roll debug flags ws datagram position room)
+  count-told = by (call-case box state call datagram room)
     where
-      by : CallCase family admin roll debug flags ws datagram position o → Counted (o .said .bytes)
+      by : CallCase box state call datagram o → Counted (o .said .bytes)
       by (over e) = rw (bytes-are e) none-counted
       by (stayed w l e) = rw (bytes-are e) none-counted
-      by (answered next box lo hi long first (skipped e)) = rw (bytes-are e) none-counted
-      by (answered next box lo hi long first (refused w e)) = rw (bytes-are e) (error-counted m long (errnoOf w) (detailOf w))
-      by (answered next box lo hi long first (got n g e)) = rw (bytes-are e) (get-counted box n long)
-      by (answered next box lo hi long first (set n g b c e)) = rw (bytes-are e) (ack-counted m h long .0)
+      by (answered next right lo hi long first (skipped e)) = rw (bytes-are e) none-counted
+      by (answered next right lo hi long first (refused w e)) = rw (bytes-are e) (error-counted m long (errnoOf w) (detailOf w))
+      by (answered next right lo hi long first (got n g e)) = rw (bytes-are e) (get-counted right n next long)
+      by (answered next right lo hi long first (set n g b c e)) = rw (bytes-are e) (ack-counted m h long .0)

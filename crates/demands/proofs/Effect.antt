@@ -6,25 +6,24 @@ use mathlib.Core.Bool.{Bool, true, cond}
 use mathlib.Core.Logic.{_⊎_, ⊎-elim}
 use lib.ListN.{length, getD}
 use native.Mathlib.Omega.{arith}
-use Rattle.basics.specs.Put.{splice}
 use Rattle.bits.specs.Set.{has, wordsOf, wordsFor, noneFrom}
 use Rattle.bits.specs.Change.{Same, Below}
 use Rattle.bits.proofs.Words.{length-wordsOf, has-all}
 use Rattle.bits.proofs.Cut.{none-below, below-none}
-use Rattle.entries.specs.Entry.{count}
 use Rattle.bitset_form.specs.Bitset.{Bitset, effect, valueOf}
 use Rattle.normal.specs.Claims.{Fits}
 use Rattle.normal.proofs.Effect.{form-keeps-effect, mask-below}
-use Rattle.roll.specs.Record.{portCount}
-use Rattle.boxes.specs.Box.{boxRight}
-use Rattle.layout.specs.Layout.{ofSet}
+use Rattle.boxes.specs.Box.{Box, State, portsIn, sizesIn, widthsIn, placeIn, widthIn, setOf}
+use Rattle.boxes.specs.declared.Call.{Call}
+use Rattle.boxes.specs.Rule.{boxRight}
+use Rattle.layout.specs.Layout.{sizeOf}
 use Rattle.layout.specs.declared.Set.{Set}
-use Rattle.layout.proofs.Laws.{of-map, place-inside}
+use Rattle.layout.proofs.Laws.{sizes-of, place-inside}
 use Rattle.layout.proofs.Kept.{splice-below, splice-above, change-own, change-other}
 use Rattle.boxes.proofs.rule.Meaning.{Right, box-means, box-keeps}
 use Rattle.boxes.proofs.settings.Laws as S
 use Rattle.boxes.proofs.settings.Change.{change-right}
-use Rattle.obey.specs.Obey.{placeIn, widthIn, setOf}
+use Rattle.obey.specs.Obey.{withSet}
 
 -- an accepted bitset makes a set below N of a set below N
 effect-below : (n : ℕ) (b : Bitset) → Fits n b → (s : ℕ → Bool) → Below n s → Below n (effect b s)
@@ -33,68 +32,68 @@ effect-below n b fits s below i l =
     ∙ ap (λ (t : Bool). cond t (valueOf b i) (s i)) (mask-below n b fits i l)
     ∙ below i l
 
-module _ (family admin : ℕ) (roll debug flags ws : List ℕ) (box : boxRight family admin roll debug flags ws ≡ true)
-    (position : ℕ) (here : position < portCount roll) (set : Set) (b : Bitset)
-    (fits : Fits (ofSet set (count debug) (count flags)) b) where
+module _ (box : Box) (state : State) (call : Call) (right : boxRight box state call ≡ true)
+    (position : ℕ) (here : position < portsIn box) (set : Set) (b : Bitset)
+    (fits : Fits (sizeOf (sizesIn box) set) b) where
   abbrev n : ℕ
-  n = ofSet set (count debug) (count flags)
+  n = sizeOf (sizesIn box) set
 
   abbrev pub held : List ℕ
-  held = setOf roll debug flags ws position set
+  held = setOf box state position set
 
   abbrev pub new : List ℕ
-  new = wordsOf (widthIn debug flags set) (effect b (has held))
+  new = wordsOf (widthIn box set) (effect b (has held))
 
-  abbrev pub after : List ℕ
-  after = splice (placeIn roll debug flags position set) ws new
+  abbrev pub after : State
+  after = withSet box state position set new
 
-  rules : Right family admin roll debug flags ws
-  rules = box-means family admin roll debug flags ws box
+  rules : Right box state call
+  rules = box-means box state call right
 
-  settings : S.Right ws (portCount roll) (count debug) (count flags)
-  settings = S.right-means ws (portCount roll) (count debug) (count flags) (rules .settings-right)
+  settings : S.Right (state .words) (portsIn box) (sizesIn box)
+  settings = rules .settings
 
   held-below : Below n (has held)
   unfolding setOf
   held-below = none-below held n (settings .clear position here set)
 
-  width : widthIn debug flags set ≡ wordsFor n
+  width : widthIn box set ≡ wordsFor n
   unfolding widthIn
-  width = sym (of-map wordsFor set (count debug) (count flags))
+  width = sizes-of wordsFor (sizesIn box) set
 
-  effect-fits : Below (widthIn debug flags set * 32) (effect b (has held))
+  effect-fits : Below (widthIn box set * 32) (effect b (has held))
   effect-fits i l = effect-below n b fits (has held) held-below i (let w = width in omega arith)
 
-  new-long : length new ≡ ofSet set (wordsFor (count debug)) (wordsFor (count flags))
+  new-long : length new ≡ sizeOf (widthsIn box) set
   unfolding widthIn
-  new-long = length-wordsOf (widthIn debug flags set) (effect b (has held))
+  new-long = length-wordsOf (widthIn box set) (effect b (has held))
 
   new-clear : noneFrom new n ≡ true
-  new-clear = below-none new n (λ i l. has-all (widthIn debug flags set) (effect b (has held)) effect-fits i ∙ effect-below n b fits (has held) held-below i l)
+  new-clear = below-none new n (λ i l. has-all (widthIn box set) (effect b (has held)) effect-fits i ∙ effect-below n b fits (has held) held-below i l)
 
-  pub set-own : Same (has (setOf roll debug flags after position set)) (effect b (has held))
-  unfolding setOf placeIn
+  pub set-own : Same (has (setOf box after position set)) (effect b (has held))
+  unfolding setOf placeIn withSet
   set-own i =
       ap (λ (l : List ℕ). has l i)
-      (change-own ws (portCount roll) (wordsFor (count debug)) (wordsFor (count flags)) (settings .exact) position here set new new-long)
-      ∙ has-all (widthIn debug flags set) (effect b (has held)) effect-fits i
+      (change-own (state .words) (portsIn box) (widthsIn box) (settings .exact) position here set new new-long)
+      ∙ has-all (widthIn box set) (effect b (has held)) effect-fits i
 
-  pub set-others : (p : ℕ) (s : Set) → p < portCount roll → (position ≡ p → set ≡ s → ⊥) → setOf roll debug flags after p s ≡ setOf roll debug flags ws p s
-  unfolding setOf placeIn
+  pub set-others : (p : ℕ) (s : Set) → p < portsIn box → (position ≡ p → set ≡ s → ⊥) → setOf box after p s ≡ setOf box state p s
+  unfolding setOf placeIn withSet
   set-others p s l apart =
-      change-other ws (portCount roll) (wordsFor (count debug)) (wordsFor (count flags)) (settings .exact) position here set new new-long p s l apart
+      change-other (state .words) (portsIn box) (widthsIn box) (settings .exact) position here set new new-long p s l apart
 
-  pub set-elsewhere : (k : ℕ) → (k < placeIn roll debug flags position set) ⊎ (placeIn roll debug flags position set + widthIn debug flags set ≤ k)
-      → getD after k 0 ≡ getD ws k 0
-  unfolding placeIn widthIn
+  pub set-elsewhere : (k : ℕ) → (k < placeIn box position set) ⊎ (placeIn box position set + widthIn box set ≤ k)
+      → getD (after .words) k 0 ≡ getD (state .words) k 0
+  unfolding placeIn widthIn withSet
   set-elsewhere k =
-      let inside = place-inside (portCount roll) (wordsFor (count debug)) (wordsFor (count flags)) position set here in
-      let room : placeIn roll debug flags position set + length new ≤ length ws = let e = settings .exact in let l = new-long in omega arith in
-      ⊎-elim (λ l. splice-below ws new (placeIn roll debug flags position set) room k l)
-      (λ l. splice-above ws new (placeIn roll debug flags position set) room k (let e = new-long in omega arith))
+      let inside = place-inside (portsIn box) (widthsIn box) position set here in
+      let room : placeIn box position set + length new ≤ length (state .words) = let e = settings .exact in let l = new-long in omega arith in
+      ⊎-elim (λ l. splice-below (state .words) new (placeIn box position set) room k l)
+      (λ l. splice-above (state .words) new (placeIn box position set) room k (let e = new-long in omega arith))
 
-  pub set-right : boxRight family admin roll debug flags after ≡ true
-  unfolding placeIn
+  pub set-right : boxRight box after call ≡ true
+  unfolding placeIn withSet
   set-right =
-      box-keeps family admin roll debug flags ws after box
-      (change-right ws (portCount roll) (count debug) (count flags) (rules .settings-right) position here set new new-long new-clear)
+      box-keeps box state after call right
+      (change-right (state .words) (portsIn box) (sizesIn box) (rules .settings-right) position here set new new-long new-clear)

@@ -17,7 +17,9 @@ use Rattle.netlink_headers.specs.declared.messages.MessageRead.{MessageRead}
 use Rattle.netlink_headers.specs.declared.messages.MessageRead.the-variants.{Message, Misstated, Cut, AtEnd, Outside}
 use Rattle.refusal.specs.declared.Refusal.{Refusal}
 use Rattle.refusal.specs.declared.Refusal.the-variants as R
-use Rattle.boxes.specs.Box.{boxRight}
+use Rattle.boxes.specs.Box.{Box, State}
+use Rattle.boxes.specs.declared.Call.{Call}
+use Rattle.boxes.specs.Rule.{boxRight}
 use Rattle.response.specs.Answer.{Outcome}
 use Rattle.handler.specs.Call.{stays, onMessage, messageOutcome, positionOutcome, outcome}
 use Rattle.response.specs.declared.Kind.{Kind}
@@ -29,16 +31,19 @@ use Rattle.demands.specs.Call.{messageOf, endIf, callChecks}
 use Rattle.demands.proofs.First.{step, stop-step, end, first-done, done-first, first-refused, refused-first}
 use Rattle.demands.proofs.Request.{kind, message-first}
 
-module _ (family admin : ℕ) (roll debug flags ws datagram : List ℕ) (position room : ℕ) where
-  abbrev answered : Outcome
-  answered = outcome family admin roll debug flags ws datagram position room
+module _ (box : Box) (state : State) (call : Call) (datagram : List ℕ) (room : ℕ) where
+  abbrev position : ℕ
+  position = call .position
+
+  abbrev answered : Outcome State
+  answered = outcome box state call datagram room
 
   abbrev checks : List Check
-  checks = callChecks family admin roll debug flags ws datagram position room
+  checks = callChecks box state call datagram room
 
-  abbrev called : MessageRead → Outcome
+  abbrev called : MessageRead → Outcome State
   called read =
-      onMessage read position ws (λ h end next. messageOutcome family admin roll debug flags ws (partOf datagram position end) h next)
+      onMessage read call state (λ h end next. messageOutcome box state call (partOf datagram position end) h next)
 
   abbrev read-kind : MessageRead → Kind
   read-kind read = kind (called read)
@@ -52,7 +57,7 @@ module _ (family admin : ℕ) (roll debug flags ws datagram : List ℕ) (positio
       ∷ endIf datagram position
       ∷ refuseIf (ltb (length datagram) (position + 16)) R.Datagram
       ∷ refuseIf (ltb (u32At datagram position) 16 || ltb (length datagram) (position + u32At datagram position)) R.Length
-      ∷ messageChecks family admin roll debug flags (messageOf datagram position) (messageHeader datagram position))
+      ∷ messageChecks box call (messageOf datagram position) (messageHeader datagram position))
   unfolding messageAt endIf messageOf message
   read-first =
       let wrong = ltb (u32At datagram position) 16 || ltb (length datagram) (position + u32At datagram position) in
@@ -62,16 +67,16 @@ module _ (family admin : ℕ) (roll debug flags ws datagram : List ℕ) (positio
       (stop-step read-kind Done over ends AtEnd (cond cut Cut (cond wrong Misstated message)) _ (end Done _)
       (step read-kind Done cut R.Datagram Cut (cond wrong Misstated message) _ refl
       (step read-kind Done wrong R.Length Misstated message _ refl
-      (message-first roll debug flags ws (partOf datagram position (position + u32At datagram position)) (messageHeader datagram position) _ family admin))))
+      (message-first box state (partOf datagram position (position + u32At datagram position)) (messageHeader datagram position) _ call))))
 
   pub exact : answered .said .kind ≡ first Done checks
   unfolding outcome positionOutcome callChecks
   exact =
       let rest = called (messageAt datagram position) in
       let long = ltb 32768 (length datagram) in
-      step kind Done (not (boxRight family admin roll debug flags ws)) R.Box (stays R.Box position ws) _ _ refl
-      (step kind Done (ltb room 32768) R.Page (stays R.Page position ws) (cond long (stays R.Datagram position ws) rest) _ refl
-      (step kind Done long R.Datagram (stays R.Datagram position ws) rest _ refl read-first))
+      step kind Done (not (boxRight box state call)) R.Box (stays R.Box call state) _ _ refl
+      (step kind Done (ltb room 32768) R.Page (stays R.Page call state) (cond long (stays R.Datagram call state) rest) _ refl
+      (step kind Done long R.Datagram (stays R.Datagram call state) rest _ refl read-first))
 
   pub done-exactly : (answered .said .kind ≡ Done → AllPass checks) × (AllPass checks → answered .said .kind ≡ Done)
   done-exactly = (λ e. first-done checks (sym exact ∙ e), λ a. exact ∙ done-first a)

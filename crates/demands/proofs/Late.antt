@@ -14,6 +14,8 @@ use Rattle.netlink.specs.declared.walk.Stop.the-variants.{Whole, At}
 use Rattle.refusal.specs.Refusal.{numberOf, ofFault}
 use Rattle.refusal.specs.declared.Refusal.{Refusal}
 use Rattle.layout.specs.declared.Set.{Set}
+use Rattle.boxes.specs.Box.{Box}
+use Rattle.boxes.specs.declared.Call.{Call}
 use Rattle.demands.specs.Check.{Check, refuseIf, walks, FirstIs}
 use Rattle.demands.specs.Check.Check.{passes, refuses, ends, skips}
 use Rattle.demands.specs.Check.FirstIs.{here, later}
@@ -84,9 +86,9 @@ bitset-late : (s : List ℕ) (from : ℕ) (names : List ℕ) → Late (bitsetChe
 unfolding bitsetChecks
 bitset-late s from names = walk _ (form-late s (from - 4) names _ _ _ _ _)
 
-level-late : (m roll debug flags : List ℕ) (change : Bool) (set : Set) (header bitset : Slot) → Late (levelChecks m roll debug flags change set header bitset)
+level-late : (box : Box) (m : List ℕ) (change : Bool) (set : Set) (header bitset : Slot) → Late (levelChecks box m change set header bitset)
 unfolding levelChecks topChecks headerChecks portChecks
-level-late m roll debug flags change set header bitset =
+level-late box m change set header bitset =
     walk _
     (row _ _ (omega arith)
     (row _ _ (omega arith)
@@ -103,14 +105,14 @@ skip-late h {checks} rest = go (ltb (h .kind) 16 || eqb (h .flags % 2) 0)
     go true = skip rest
     go false = pass rest
 
-message-late : (family admin : ℕ) (roll debug flags m : List ℕ) (h : MessageHeader) → Late (messageChecks family admin roll debug flags m h)
+message-late : (box : Box) (call : Call) (m : List ℕ) (h : MessageHeader) → Late (messageChecks box call m h)
 unfolding messageChecks commandChecks admissionChecks
-message-late family admin roll debug flags m h =
+message-late box call m h =
     skip-late h
     (row _ _ (omega arith)
     (row _ _ (omega arith)
-    (row _ _ (omega arith) (row _ _ (omega arith) (row _ _ (omega arith) (level-late m roll debug flags _ _ _ _))))))
+    (row _ _ (omega arith) (row _ _ (omega arith) (row _ _ (omega arith) (level-late box m _ _ _ _))))))
 
-pub message-number : (family admin : ℕ) (roll debug flags m : List ℕ) (h : MessageHeader) (why : Refusal)
-    → FirstIs why (messageChecks family admin roll debug flags m h) → 5 ≤ numberOf why
-message-number family admin roll debug flags m h why f = first-late why f (message-late family admin roll debug flags m h)
+pub message-number : (box : Box) (call : Call) (m : List ℕ) (h : MessageHeader) (why : Refusal)
+    → FirstIs why (messageChecks box call m h) → 5 ≤ numberOf why
+message-number box call m h why f = first-late why f (message-late box call m h)

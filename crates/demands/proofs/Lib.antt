@@ -10,3 +10,4 @@ pub mod Effect
 pub mod Port
 pub mod Count
 pub mod Demand2
+pub mod Normaliser

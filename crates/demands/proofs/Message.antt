@@ -14,7 +14,9 @@ use Rattle.refusal.specs.declared.Refusal.the-variants as R
 use Rattle.bitset_form.specs.Bitset.{Reading}
 use Rattle.bitset_form.specs.Bitset.Reading.{refused as turned-down, accepted}
 use Rattle.bitset.specs.Judge.{bitsetReading}
-use Rattle.layout.specs.Layout.{ofSet}
+use Rattle.layout.specs.Layout.{listOf}
+use Rattle.boxes.specs.Box.{Box, State}
+use Rattle.boxes.specs.declared.Call.{Call}
 use Rattle.admission.specs.Admission.{barred, permitted, onCommand, admitted}
 use Rattle.request.specs.Aim.{aimOf}
 use Rattle.admission.specs.Commands.{commandOf}
@@ -31,7 +33,7 @@ use Rattle.request.specs.declared.top.Top.the-variants as T
 use Rattle.response.specs.Answer.{Outcome, speech, done, leaves}
 use Rattle.obey.specs.Obey.{gotten, onReading, setOutcome, deed, onAim, aimed, onTop, obeyed}
 use Rattle.handler.specs.Call.{onAdmission, messageOutcome}
-use Rattle.demands.specs.Message.{Named, MessageCase}
+use Rattle.demands.specs.Message.{Named, askedOf, MessageCase}
 use Rattle.demands.specs.Message.MessageCase.{skipped, refused, got, set}
 
 -- a command that is admitted is listed
@@ -54,38 +56,38 @@ go-listed m h family admin command e =
     by false false false Unlisted e = absurd (let z : _≡_ {A = ℕ} 0 1 = cc in omega arith)
     by false false false (Listed c) e = ap Listed (admits (eqb (h .flags / 256 % 4) 3) (barred c admin) c e)
 
-module _ (roll debug flags ws m : List ℕ) (h : MessageHeader) (next : ℕ) where
-  module _ (n : Named roll m) where
-    set-case : n .command .change ≡ true → MessageCase roll debug flags ws m h next (setOutcome roll debug flags ws m h next (n .position) (n .command .set) (n .bitset))
+module _ (box : Box) (state : State) (m : List ℕ) (h : MessageHeader) (next : ℕ) where
+  module _ (n : Named (box .roll) m) where
+    set-case : n .command .change ≡ true → MessageCase box state m h next (setOutcome box state m (askedOf h next (n .command)) (n .bitset) (n .port .position))
     unfolding setOutcome
-    set-case change = go (bitsetReading (partOf m 0 (n .bitset .end)) (n .bitset .start) (ofSet (n .command .set) debug flags)) refl
+    set-case change = go (bitsetReading (partOf m 0 (n .bitset .end)) (n .bitset .start) (listOf (box .names) (n .command .set))) refl
       where
-        go : (x : Reading) → bitsetReading (partOf m 0 (n .bitset .end)) (n .bitset .start) (ofSet (n .command .set) debug flags) ≡ x
-            → MessageCase roll debug flags ws m h next (onReading x roll debug flags ws m h next (n .position) (n .command .set))
+        go : (x : Reading) → bitsetReading (partOf m 0 (n .bitset .end)) (n .bitset .start) (listOf (box .names) (n .command .set)) ≡ x
+            → MessageCase box state m h next (onReading x box state m (askedOf h next (n .command)) (n .port .position))
         go (turned-down why) e = refused why refl
         go (accepted b) e = set n change b e refl
 
-    deed-case : MessageCase roll debug flags ws m h next (deed roll debug flags ws m h next (n .command) (n .bitset) (n .position) (n .index) (n .name) (n .asked))
+    deed-case : MessageCase box state m h next (deed box state m (askedOf h next (n .command)) (n .bitset) (n .port))
     unfolding deed
     deed-case = go (n .command .change) refl
       where
-        shown : Outcome
-        shown = leaves (speech done next (gotten roll debug flags ws m h (n .command) (n .position) (n .index) (n .name) (n .asked))) ws
+        shown : Outcome State
+        shown = leaves (speech done next (gotten box state m (askedOf h next (n .command)) (n .port))) state
 
         go : (t : Bool) → n .command .change ≡ t
-            → MessageCase roll debug flags ws m h next (cond t (setOutcome roll debug flags ws m h next (n .position) (n .command .set) (n .bitset)) shown)
+            → MessageCase box state m h next (cond t (setOutcome box state m (askedOf h next (n .command)) (n .bitset) (n .port .position)) shown)
         go true e = set-case e
         go false e = got n e refl
 
   module _ (command : Command) (listed : commandOf (byteAt m 16) ≡ Listed command) where
     aimed-case : (header bitset : Slot) → topOf m (command .change) ≡ T.Nests header bitset
-        → MessageCase roll debug flags ws m h next (aimed roll debug flags ws m h next command header bitset)
+        → MessageCase box state m h next (aimed box state m (askedOf h next command) header bitset)
     unfolding aimed
-    aimed-case header bitset nests = go (aimOf m header roll) refl
+    aimed-case header bitset nests = go (aimOf m header (box .roll)) refl
       where
-        go : (a : Aim) → aimOf m header roll ≡ a → MessageCase roll debug flags ws m h next (onAim a m next ws (deed roll debug flags ws m h next command bitset))
+        go : (a : Aim) → aimOf m header (box .roll) ≡ a → MessageCase box state m h next (onAim a state m (askedOf h next command) (deed box state m (askedOf h next command) bitset))
         go (P.Refused why) e = refused why refl
-        go (P.Port position index name end asked) e =
+        go (P.Port position asked) e =
             deed-case
             (record {
               command = command;
@@ -93,28 +95,24 @@ module _ (roll debug flags ws m : List ℕ) (h : MessageHeader) (next : ℕ) whe
               header = header;
               bitset = bitset;
               nests = nests;
-              position = position;
-              index = index;
-              name = name;
-              end = end;
-              asked = asked;
-              port = e;
+              port = record { position = position; flags = asked };
+              found = e;
             })
 
-    obeyed-case : MessageCase roll debug flags ws m h next (obeyed roll debug flags ws m h next command)
+    obeyed-case : MessageCase box state m h next (obeyed box state m (askedOf h next command))
     unfolding obeyed
     obeyed-case = go (topOf m (command .change)) refl
       where
-        go : (t : Top) → topOf m (command .change) ≡ t → MessageCase roll debug flags ws m h next (onTop t m next ws (aimed roll debug flags ws m h next command))
+        go : (t : Top) → topOf m (command .change) ≡ t → MessageCase box state m h next (onTop t state m (askedOf h next command) (aimed box state m (askedOf h next command)))
         go (T.Refused why) e = refused why refl
         go (T.Nests header bitset) e = aimed-case header bitset e
 
-  pub message-case : (family admin : ℕ) → MessageCase roll debug flags ws m h next (messageOutcome family admin roll debug flags ws m h next)
+  pub message-case : (call : Call) → MessageCase box state m h next (messageOutcome box state call m h next)
   unfolding messageOutcome
-  message-case family admin = go (admitted m h family (eqb admin 1)) refl
+  message-case call = go (admitted m h (call .family) (eqb (call .admin) 1)) refl
     where
-      go : (a : Admission) → admitted m h family (eqb admin 1) ≡ a
-          → MessageCase roll debug flags ws m h next (onAdmission a m next ws (obeyed roll debug flags ws m h next))
+      go : (a : Admission) → admitted m h (call .family) (eqb (call .admin) 1) ≡ a
+          → MessageCase box state m h next (onAdmission a box state m h next)
       go A.Skipped e = skipped refl
       go (A.Refused why) e = refused why refl
-      go (A.Go command) e = obeyed-case command (go-listed m h family (eqb admin 1) command e)
+      go (A.Go command) e = obeyed-case command (go-listed m h (call .family) (eqb (call .admin) 1) command e)

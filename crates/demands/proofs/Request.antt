@@ -18,7 +18,9 @@ use Rattle.bitset.specs.Judge.{bitsetReading}
 use Rattle.roll.specs.Find.{byIndex, byName}
 use Rattle.roll.specs.declared.find.Found.{Found}
 use Rattle.roll.specs.declared.find.Found.the-variants as F
-use Rattle.layout.specs.Layout.{ofSet}
+use Rattle.layout.specs.Layout.{listOf}
+use Rattle.boxes.specs.Box.{Box, State}
+use Rattle.boxes.specs.declared.Call.{Call}
 use Rattle.layout.specs.declared.Set.{Set}
 use Rattle.admission.specs.Admission.{barred, permitted, onCommand, admitted}
 use Rattle.request.specs.Aim.{withFlags, onHeader, aimOf}
@@ -40,6 +42,9 @@ use Rattle.request.specs.declared.target.Target.the-variants as P
 use Rattle.request.specs.declared.top.Top.{Top}
 use Rattle.request.specs.declared.top.Top.the-variants as T
 use Rattle.response.specs.Answer.{Outcome, speech, done, leaves}
+use Rattle.decision.specs.declared.Port.{Port}
+use Rattle.obey.specs.declared.Asked.{Asked}
+use Rattle.demands.specs.Message.{askedOf}
 use Rattle.obey.specs.Obey.{gotten, onReading, setOutcome, deed, onAim, aimed, onTop, obeyed}
 use Rattle.handler.specs.Call.{onAdmission, messageOutcome}
 use Rattle.response.specs.declared.Kind.{Kind}
@@ -51,37 +56,38 @@ use Rattle.demands.specs.Request.{unlisted, isSet, setIn, noPort, namedO
 use Rattle.demands.proofs.First.{step, stop-step, walk-step, pass, fault, skip, no-more}
 use Rattle.demands.proofs.Bitset.{kindOf, bitset-first}
 
-abbrev pub kind : Outcome → Kind
+abbrev pub kind : Outcome State → Kind
 kind o = o .said .kind
 
-module _ (roll debug flags ws m : List ℕ) (h : MessageHeader) (next : ℕ) where
-  reading-kind : (r : Reading) (position : ℕ) (set : Set) → kind (onReading r roll debug flags ws m h next position set) ≡ kindOf r
-  reading-kind (refused why) position set = refl
-  reading-kind (accepted b) position set = refl
+module _ (box : Box) (state : State) (m : List ℕ) (h : MessageHeader) (next : ℕ) where
+  reading-kind : (r : Reading) (asked : Asked) (position : ℕ) → kind (onReading r box state m asked position) ≡ kindOf r
+  reading-kind (refused why) asked position = refl
+  reading-kind (accepted b) asked position = refl
 
   -- the checks after the header level: in a SET those of the bitset
   abbrev after : Bool → Set → Slot → List Check
-  after change set bitset = cond change (bitsetChecks (partOf m 0 (bitset .end)) (bitset .start) (ofSet set debug flags)) []
+  after change set bitset = cond change (bitsetChecks (partOf m 0 (bitset .end)) (bitset .start) (listOf (box .names) set)) []
 
   module _ (command : Command) (bitset : Slot) where
-    set-first : (position : ℕ) (set : Set)
-        → kind (setOutcome roll debug flags ws m h next position set bitset)
-        ≡ first Done (bitsetChecks (partOf m 0 (bitset .end)) (bitset .start) (ofSet set debug flags))
-    unfolding setOutcome
-    set-first position set =
-        let s = partOf m 0 (bitset .end) in
-        let names = ofSet set debug flags in
-        reading-kind (bitsetReading s (bitset .start) names) position set ∙ bitset-first s (bitset .start) names
+    abbrev request : Asked
+    request = askedOf h next command
 
-    deed-first : (position index name asked : ℕ)
-        → kind (deed roll debug flags ws m h next command bitset position index name asked) ≡ first Done (after (command .change) (command .set) bitset)
+    set-first : (position : ℕ)
+        → kind (setOutcome box state m request bitset position)
+        ≡ first Done (bitsetChecks (partOf m 0 (bitset .end)) (bitset .start) (listOf (box .names) (command .set)))
+    unfolding setOutcome
+    set-first position =
+        let s = partOf m 0 (bitset .end) in
+        let names = listOf (box .names) (command .set) in
+        reading-kind (bitsetReading s (bitset .start) names) request position ∙ bitset-first s (bitset .start) names
+
+    deed-first : (port : Port) → kind (deed box state m request bitset port) ≡ first Done (after (command .change) (command .set) bitset)
     unfolding deed
-    deed-first position index name asked =
-        go (command .change) (leaves (speech done next (gotten roll debug flags ws m h command position index name asked)) ws) refl
+    deed-first port = go (command .change) (leaves (speech done next (gotten box state m request port)) state) refl
       where
-        go : (t : Bool) (got : Outcome) → kind got ≡ Done
-            → kind (cond t (setOutcome roll debug flags ws m h next position (command .set) bitset) got) ≡ first Done (after t (command .set) bitset)
-        go true got e = set-first position (command .set)
+        go : (t : Bool) (got : Outcome State) → kind got ≡ Done
+            → kind (cond t (setOutcome box state m request bitset (port .position)) got) ≡ first Done (after t (command .set) bitset)
+        go true got e = set-first (port .position)
         go false got e = e ∙ no-more Done
 
     abbrev rest : List Check
@@ -90,11 +96,11 @@ module _ (roll debug flags ws m : List ℕ) (h : MessageHeader) (next : ℕ) whe
     -- 16 and 17
     module _ (header index name : Slot) (asked : ℕ) where
       abbrev targeted : Target → Kind
-      targeted target = kind (onAim (withFlags target asked) m next ws (deed roll debug flags ws m h next command bitset))
+      targeted target = kind (onAim (withFlags target asked) state m request (deed box state m request bitset))
 
-      port-first : (p i n e : ℕ) → targeted (P.Port p i n e) ≡ first Done rest
+      port-first : (p : ℕ) → targeted (P.Port p) ≡ first Done rest
       unfolding withFlags
-      port-first p i n e = deed-first p i n asked
+      port-first p = deed-first (record { position = p; flags = asked })
 
       refused-by : (why : Refusal) → targeted (P.Refused why) ≡ Refused why
       unfolding withFlags
@@ -103,37 +109,37 @@ module _ (roll debug flags ws m : List ℕ) (h : MessageHeader) (next : ℕ) whe
       index-first : (found : Found)
           → targeted
           (onFound found (P.Refused (R.UnknownPort (index .start - 4)))
-          (λ k i n e. cond (otherName m name roll n) (P.Refused (R.OtherName (header .start - 4))) (P.Port k i n e)))
+          (λ k. cond (otherName m name (box .roll) k) (P.Refused (R.OtherName (header .start - 4))) (P.Port k)))
           ≡ first Done
           (refuseIf (noPort found) (R.UnknownPort (index .start - 4))
           ∷ refuseIf false (R.UnknownPort (name .start - 4))
-          ∷ refuseIf (namedOtherwise m name roll found) (R.OtherName (header .start - 4))
+          ∷ refuseIf (namedOtherwise m name (box .roll) found) (R.OtherName (header .start - 4))
           ∷ rest)
       unfolding noPort namedOtherwise
       index-first F.Nothing = refused-by _ ∙ fault Done _ _
-      index-first (F.Port k i n e) =
-          pass Done _ _ _ (pass Done _ _ _ (step targeted Done (otherName m name roll n) _ _ _ _ (refused-by _) (port-first k i n e)))
+      index-first (F.At k) =
+          pass Done _ _ _ (pass Done _ _ _ (step targeted Done (otherName m name (box .roll) k) _ _ _ _ (refused-by _) (port-first k)))
 
       name-first : (found : Found)
           → targeted (onFound found (P.Refused (R.UnknownPort (name .start - 4))) P.Port)
           ≡ first Done (refuseIf (noPort found) (R.UnknownPort (name .start - 4)) ∷ refuseIf false (R.OtherName (header .start - 4)) ∷ rest)
       unfolding noPort
       name-first F.Nothing = refused-by _ ∙ fault Done _ _
-      name-first (F.Port k i n e) = pass Done _ _ _ (pass Done _ _ _ (port-first k i n e))
+      name-first (F.At k) = pass Done _ _ _ (pass Done _ _ _ (port-first k))
 
       target-first : (t : Bool)
-          → targeted (cond t (portByIndex m header index name roll) (portByName m name roll))
+          → targeted (cond t (portByIndex m header index name (box .roll)) (portByName m name (box .roll)))
           ≡ first Done
-          (refuseIf (t && noPort (byIndex roll (slotNumber m index))) (R.UnknownPort (index .start - 4))
-          ∷ refuseIf (not t && noPort (byName roll (partOf m (name .start) (name .end)))) (R.UnknownPort (name .start - 4))
-          ∷ refuseIf (t && namedOtherwise m name roll (byIndex roll (slotNumber m index))) (R.OtherName (header .start - 4))
+          (refuseIf (t && noPort (byIndex (box .roll) (slotNumber m index))) (R.UnknownPort (index .start - 4))
+          ∷ refuseIf (not t && noPort (byName (box .roll) (partOf m (name .start) (name .end)))) (R.UnknownPort (name .start - 4))
+          ∷ refuseIf (t && namedOtherwise m name (box .roll) (byIndex (box .roll) (slotNumber m index))) (R.OtherName (header .start - 4))
           ∷ rest)
       unfolding portByIndex portByName
-      target-first true = index-first (byIndex roll (slotNumber m index))
-      target-first false = pass Done _ _ _ (name-first (byName roll (partOf m (name .start) (name .end))))
+      target-first true = index-first (byIndex (box .roll) (slotNumber m index))
+      target-first false = pass Done _ _ _ (name-first (byName (box .roll) (partOf m (name .start) (name .end))))
 
     -- the header level
-    aimed-first : (header : Slot) → kind (aimed roll debug flags ws m h next command header bitset) ≡ first Done (headerChecks m roll header ++ rest)
+    aimed-first : (header : Slot) → kind (aimed box state m request header bitset) ≡ first Done (headerChecks m (box .roll) header ++ rest)
     unfolding aimed aimOf headerOf partsOf flagsJudged targetOf headerChecks portChecks
     aimed-first header =
         let p = partOf m 0 (header .end) in
@@ -150,14 +156,14 @@ module _ (roll debug flags ws m : List ℕ) (h : MessageHeader) (next : ℕ) whe
         headed : Header → Kind
         headed hd =
             kind
-            (onAim (onHeader hd (λ index name asked. withFlags (targetOf m header index name roll) asked)) m next ws
-            (deed roll debug flags ws m h next command bitset))
+            (onAim (onHeader hd (λ index name asked. withFlags (targetOf m header index name (box .roll)) asked)) state m request
+            (deed box state m request bitset))
 
   -- the top level
   level-first : (command : Command)
-      → kind (obeyed roll debug flags ws m h next command)
+      → kind (obeyed box state m (askedOf h next command))
       ≡ first Done
-      (levelChecks m roll debug flags (command .change) (command .set)
+      (levelChecks box m (command .change) (command .set)
       (getD (walked (topPolicy (command .change)) m 20 .slots) 1 absent)
       (getD (walked (topPolicy (command .change)) m 20 .slots) 2 absent))
   unfolding obeyed topOf nestsOf levelChecks topChecks
@@ -170,48 +176,48 @@ module _ (roll debug flags ws m : List ℕ) (h : MessageHeader) (next : ℕ) whe
       (step topped Done _ _ _ _ _ refl (step topped Done _ _ _ _ _ refl (aimed-first command bitset header)))
     where
       topped : Top → Kind
-      topped top = kind (onTop top m next ws (aimed roll debug flags ws m h next command))
+      topped top = kind (onTop top state m (askedOf h next command) (aimed box state m (askedOf h next command)))
 
   -- skipped, and 5 to 9
-  module _ (family admin : ℕ) where
+  module _ (call : Call) where
     abbrev admission : Admission → Kind
-    admission a = kind (onAdmission a m next ws (obeyed roll debug flags ws m h next))
+    admission a = kind (onAdmission a box state m h next)
 
     permitted-first : (command : Command)
-        → admission (permitted h (eqb admin 1) command)
+        → admission (permitted h (eqb (call .admin) 1) command)
         ≡ first Done
         (refuseIf (eqb (h .flags / 256 % 4) 3) R.Dump
-        ∷ refuseIf (command .change && not (eqb admin 1)) R.Permission
-        ∷ levelChecks m roll debug flags (command .change) (command .set)
+        ∷ refuseIf (command .change && not (eqb (call .admin) 1)) R.Permission
+        ∷ levelChecks box m (command .change) (command .set)
         (getD (walked (topPolicy (command .change)) m 20 .slots) 1 absent)
         (getD (walked (topPolicy (command .change)) m 20 .slots) 2 absent))
     unfolding permitted barred
     permitted-first command = step admission Done _ _ _ _ _ refl (step admission Done _ _ _ _ _ refl (level-first command))
 
     command-first : (c : CommandRead)
-        → admission (onCommand c (permitted h (eqb admin 1)))
+        → admission (onCommand c (permitted h (eqb (call .admin) 1)))
         ≡ first Done
         (refuseIf (unlisted c) R.Command
         ∷ refuseIf (eqb (h .flags / 256 % 4) 3) R.Dump
-        ∷ refuseIf (isSet c && not (eqb admin 1)) R.Permission
-        ∷ levelChecks m roll debug flags (isSet c) (setIn c)
+        ∷ refuseIf (isSet c && not (eqb (call .admin) 1)) R.Permission
+        ∷ levelChecks box m (isSet c) (setIn c)
         (getD (walked (topPolicy (isSet c)) m 20 .slots) 1 absent)
         (getD (walked (topPolicy (isSet c)) m 20 .slots) 2 absent))
     unfolding unlisted isSet setIn
     command-first Unlisted = fault Done _ _
     command-first (Listed command) = pass Done _ _ _ (permitted-first command)
 
-    admitted-first : admission (admitted m h family (eqb admin 1)) ≡ first Done (commandChecks family admin roll debug flags m h (commandOf (byteAt m 16)))
+    admitted-first : admission (admitted m h (call .family) (eqb (call .admin) 1)) ≡ first Done (commandChecks box call m h (commandOf (byteAt m 16)))
     unfolding admitted commandChecks admissionChecks skipIf
     admitted-first =
         let skipped = ltb (h .kind) 16 || eqb (h .flags % 2) 0 in
-        let other = not (eqb (h .kind) family) in
+        let other = not (eqb (h .kind) (call .family)) in
         let short = ltb (length m) 20 in
-        let rest = onCommand (commandOf (byteAt m 16)) (permitted h (eqb admin 1)) in
+        let rest = onCommand (commandOf (byteAt m 16)) (permitted h (eqb (call .admin) 1)) in
         stop-step admission Done skipped skips A.Skipped (cond other (A.Refused R.Family) (cond short (A.Refused R.Short) rest)) _ (skip Done _)
         (step admission Done other R.Family (A.Refused R.Family) (cond short (A.Refused R.Short) rest) _ refl
         (step admission Done short R.Short (A.Refused R.Short) rest _ refl (command-first (commandOf (byteAt m 16)))))
 
-    pub message-first : kind (messageOutcome family admin roll debug flags ws m h next) ≡ first Done (messageChecks family admin roll debug flags m h)
+    pub message-first : kind (messageOutcome box state call m h next) ≡ first Done (messageChecks box call m h)
     unfolding messageOutcome messageChecks
     message-first = admitted-first

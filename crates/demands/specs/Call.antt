@@ -8,7 +8,9 @@ use Rattle.basics.specs.Numbers.{u32At}
 use Rattle.netlink_attributes.specs.Attributes.{partOf}
 use Rattle.netlink_headers.specs.Headers.{messageHeader}
 use Rattle.refusal.specs.declared.Refusal.the-variants as R
-use Rattle.boxes.specs.Box.{boxRight}
+use Rattle.boxes.specs.Box.{Box, State}
+use Rattle.boxes.specs.declared.Call.{Call}
+use Rattle.boxes.specs.Rule.{boxRight}
 use Rattle.demands.specs.Check.{Check, refuseIf}
 use Rattle.demands.specs.Check.Check.{ends, passes}
 use Rattle.demands.specs.Request.{messageChecks}
@@ -22,13 +24,13 @@ unfoldable pub endIf : List ℕ → ℕ → Check
 endIf datagram position = cond (eqb position (length datagram)) ends passes
 
 -- "End is decided after 1, 2 and the first two causes of 3; skipping after 4"
-unfoldable pub callChecks : ℕ → ℕ → List ℕ → List ℕ → List ℕ → List ℕ → List ℕ → ℕ → ℕ → List Check
-callChecks family admin roll debug flags ws datagram position room =
-    refuseIf (not (boxRight family admin roll debug flags ws)) R.Box
+unfoldable pub callChecks : Box → State → Call → List ℕ → ℕ → List Check
+callChecks box state call datagram room =
+    refuseIf (not (boxRight box state call)) R.Box
     ∷ refuseIf (ltb room 32768) R.Page
     ∷ refuseIf (ltb 32768 (length datagram)) R.Datagram
-    ∷ refuseIf (ltb (length datagram) position) R.Datagram
-    ∷ endIf datagram position
-    ∷ refuseIf (ltb (length datagram) (position + 16)) R.Datagram
-    ∷ refuseIf (ltb (u32At datagram position) 16 || ltb (length datagram) (position + u32At datagram position)) R.Length
-    ∷ messageChecks family admin roll debug flags (messageOf datagram position) (messageHeader datagram position)
+    ∷ refuseIf (ltb (length datagram) (call .position)) R.Datagram
+    ∷ endIf datagram (call .position)
+    ∷ refuseIf (ltb (length datagram) (call .position + 16)) R.Datagram
+    ∷ refuseIf (ltb (u32At datagram (call .position)) 16 || ltb (length datagram) (call .position + u32At datagram (call .position))) R.Length
+    ∷ messageChecks box call (messageOf datagram (call .position)) (messageHeader datagram (call .position))

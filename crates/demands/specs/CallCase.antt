@@ -8,7 +8,9 @@ use lib.ListN.{length}
 use Rattle.netlink_headers.specs.Headers.{messageHeader}
 use Rattle.refusal.specs.Refusal.{numberOf}
 use Rattle.refusal.specs.declared.Refusal.{Refusal}
-use Rattle.boxes.specs.Box.{boxRight}
+use Rattle.boxes.specs.Box.{Box, State}
+use Rattle.boxes.specs.declared.Call.{Call}
+use Rattle.boxes.specs.Rule.{boxRight}
 use Rattle.response.specs.Answer.{Outcome, quiet, leaves}
 use Rattle.response.specs.declared.Kind.the-variants.{End, Done, Refused}
 use Rattle.demands.specs.Check.{first}
@@ -17,11 +19,11 @@ use Rattle.demands.specs.Call.{messageOf}
 use Rattle.demands.specs.Message.{MessageCase}
 
 -- the end or a refusal by 1 to 4, which change nothing, say nothing and give the position back; or a message of a right box, which moves on
-pub data CallCase (family admin : ℕ) (roll debug flags ws datagram : List ℕ) (position : ℕ) (o : Outcome) : Type 0 where
-  over : o ≡ leaves (quiet End position) ws → CallCase family admin roll debug flags ws datagram position o
-  stayed : (why : Refusal) → numberOf why ≤ 4 → o ≡ leaves (quiet (Refused why) position) ws → CallCase family admin roll debug flags ws datagram position o
-  answered : (next : ℕ) → boxRight family admin roll debug flags ws ≡ true → position + 16 ≤ next → next ≤ length datagram
-      → 16 ≤ length (messageOf datagram position)
-      → o .said .kind ≡ first Done (messageChecks family admin roll debug flags (messageOf datagram position) (messageHeader datagram position))
-      → MessageCase roll debug flags ws (messageOf datagram position) (messageHeader datagram position) next o
-      → CallCase family admin roll debug flags ws datagram position o
+pub data CallCase (box : Box) (state : State) (call : Call) (datagram : List ℕ) (o : Outcome State) : Type 0 where
+  over : o ≡ leaves (quiet End (call .position)) state → CallCase box state call datagram o
+  stayed : (why : Refusal) → numberOf why ≤ 4 → o ≡ leaves (quiet (Refused why) (call .position)) state → CallCase box state call datagram o
+  answered : (next : ℕ) → boxRight box state call ≡ true → call .position + 16 ≤ next → next ≤ length datagram
+      → 16 ≤ length (messageOf datagram (call .position))
+      → o .said .kind ≡ first Done (messageChecks box call (messageOf datagram (call .position)) (messageHeader datagram (call .position)))
+      → MessageCase box state (messageOf datagram (call .position)) (messageHeader datagram (call .position)) next o
+      → CallCase box state call datagram o

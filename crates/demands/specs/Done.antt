@@ -7,59 +7,57 @@ use mathlib.Core.Bool.{true, false}
 use mathlib.Core.Logic.{_⊎_}
 use lib.ListN.{length, getD}
 use lib.Dec.{eqb}
-use Rattle.basics.specs.Numbers.{u32At}
 use Rattle.bits.specs.Set.{has}
 use Rattle.bits.specs.Change.{Same}
-use Rattle.entries.specs.Entry.{count}
 use Rattle.netlink_attributes.specs.Attributes.{attributes}
 use Rattle.netlink_attributes.specs.Attributes.Attributes.{done, attribute}
 use Rattle.netlink_headers.specs.declared.headers.MessageHeader.{MessageHeader}
 use Rattle.bitset_form.specs.Bitset.{Bitset, effect}
-use Rattle.roll.specs.Name.{nameAt}
-use Rattle.roll.specs.Record.{portCount}
-use Rattle.boxes.specs.Box.{boxRight}
-use Rattle.layout.specs.Layout.{ofSet}
+use Rattle.roll.specs.Record.{indexOf, nameOf}
+use Rattle.boxes.specs.Box.{Box, State, portsIn, sizesIn, placeIn, widthIn, setOf}
+use Rattle.boxes.specs.declared.Call.{Call}
+use Rattle.boxes.specs.Rule.{boxRight}
+use Rattle.layout.specs.Layout.{listOf, sizeOf}
 use Rattle.layout.specs.declared.Set.{Set}
 use Rattle.read_back.specs.Claims.{ReadsBack}
 use Rattle.reply.specs.Message.{replyBytes}
 use Rattle.response.specs.Answer.{Outcome, ackBytes}
 use Rattle.reply.specs.Message.{headingOf}
-use Rattle.obey.specs.Obey.{placeIn, widthIn, setOf}
 use Rattle.demands.specs.Message.{Named, Carries}
 
 -- a done SET: the named set of the named port is what the bitset makes of it, every other set and every other word is as before, and the box
 -- stays right; an ACK is written if asked
-pub record DoneSet (family admin : ℕ) (roll debug flags ws m : List ℕ) (h : MessageHeader) (o : Outcome) : Type 0 where
-  pub named : Named roll m
+pub record DoneSet (box : Box) (state : State) (call : Call) (m : List ℕ) (h : MessageHeader) (o : Outcome State) : Type 0 where
+  pub named : Named (box .roll) m
   pub is-set : named .command .change ≡ true
   pub bits : Bitset
-  pub carries : Carries roll debug flags m named bits
-  pub own : Same (has (setOf roll debug flags (o .words) (named .position) (named .command .set)))
-      (effect bits (has (setOf roll debug flags ws (named .position) (named .command .set))))
-  pub others : (position : ℕ) (set : Set) → position < portCount roll → (named .position ≡ position → named .command .set ≡ set → ⊥)
-      → setOf roll debug flags (o .words) position set ≡ setOf roll debug flags ws position set
+  pub carries : Carries box m named bits
+  pub own : Same (has (setOf box (o .state) (named .port .position) (named .command .set)))
+      (effect bits (has (setOf box state (named .port .position) (named .command .set))))
+  pub others : (position : ℕ) (set : Set) → position < portsIn box → (named .port .position ≡ position → named .command .set ≡ set → ⊥)
+      → setOf box (o .state) position set ≡ setOf box state position set
   pub elsewhere : (k : ℕ)
-      → (k < placeIn roll debug flags (named .position) (named .command .set))
-      ⊎ (placeIn roll debug flags (named .position) (named .command .set) + widthIn debug flags (named .command .set) ≤ k)
-      → getD (o .words) k 0 ≡ getD ws k 0
-  pub right : boxRight family admin roll debug flags (o .words) ≡ true
+      → (k < placeIn box (named .port .position) (named .command .set))
+      ⊎ (placeIn box (named .port .position) (named .command .set) + widthIn box (named .command .set) ≤ k)
+      → getD (o .state .words) k 0 ≡ getD (state .words) k 0
+  pub right : boxRight box (o .state) call ≡ true
   pub bytes : o .said .bytes ≡ ackBytes m h
 
 -- the reply to a GET: the named set of the named port, compact with header flag 1
-abbrev pub replyTo : (roll debug flags ws m : List ℕ) → MessageHeader → Named roll m → List ℕ
-replyTo roll debug flags ws m h n =
-    replyBytes (headingOf h (n .command .reply)) (u32At roll (n .index)) (nameAt roll (n .name)) (eqb (n .asked % 2) 1) (ofSet (n .command .set) debug flags)
-    (setOf roll debug flags ws (n .position) (n .command .set)) (ofSet (n .command .set) (count debug) (count flags))
+abbrev pub replyTo : (box : Box) → State → (m : List ℕ) → MessageHeader → Named (box .roll) m → List ℕ
+replyTo box state m h n =
+    replyBytes (headingOf h (n .command .reply)) (indexOf (box .roll) (n .port .position)) (nameOf (box .roll) (n .port .position)) (eqb (n .port .flags % 2) 1) (listOf (box .names) (n .command .set))
+    (setOf box state (n .port .position) (n .command .set)) (sizeOf (sizesIn box) (n .command .set))
 
 -- a done GET: the settings stay; the reply is written, then the ACK if asked; the reply's two attributes are the port's nest and the set's,
 -- and the set's contents, which our own reader accepts, make the stored set of every starting set
-pub record DoneGet (roll debug flags ws m : List ℕ) (h : MessageHeader) (o : Outcome) : Type 0 where
-  pub named : Named roll m
+pub record DoneGet (box : Box) (state : State) (m : List ℕ) (h : MessageHeader) (o : Outcome State) : Type 0 where
+  pub named : Named (box .roll) m
   pub is-get : named .command .change ≡ false
-  pub keeps : o .words ≡ ws
-  pub bytes : o .said .bytes ≡ replyTo roll debug flags ws m h named ++ ackBytes m h
+  pub keeps : o .state ≡ state
+  pub bytes : o .said .bytes ≡ replyTo box state m h named ++ ackBytes m h
   pub contents : ℕ
-  pub parts : attributes (replyTo roll debug flags ws m h named) 20
-      ≡ attribute 1 2 24 (contents - 4) (attribute 2 2 contents (length (replyTo roll debug flags ws m h named)) done)
-  pub reads-back : ReadsBack (replyTo roll debug flags ws m h named) contents (ofSet (named .command .set) debug flags)
-      (has (setOf roll debug flags ws (named .position) (named .command .set)))
+  pub parts : attributes (replyTo box state m h named) 20
+      ≡ attribute 1 2 24 (contents - 4) (attribute 2 2 contents (length (replyTo box state m h named)) done)
+  pub reads-back : ReadsBack (replyTo box state m h named) contents (listOf (box .names) (named .command .set))
+      (has (setOf box state (named .port .position) (named .command .set)))

@@ -7,3 +7,4 @@ pub mod Message
 pub mod CallCase
 pub mod Run
 pub mod Done
+pub mod Normaliser

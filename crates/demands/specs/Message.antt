@@ -4,7 +4,6 @@ use mathlib.Core.Path.{_≡_}
 use mathlib.Core.List.{List}
 use mathlib.Core.Bool.{true, false}
 use Rattle.basics.specs.Numbers.{byteAt}
-use Rattle.basics.specs.Put.{splice}
 use Rattle.bits.specs.Set.{has, wordsOf}
 use Rattle.netlink_attributes.specs.Attributes.{partOf}
 use Rattle.netlink_headers.specs.declared.headers.MessageHeader.{MessageHeader}
@@ -13,16 +12,19 @@ use Rattle.refusal.specs.declared.Refusal.{Refusal}
 use Rattle.bitset_form.specs.Bitset.{Bitset, effect}
 use Rattle.bitset_form.specs.Bitset.Reading.{accepted}
 use Rattle.bitset.specs.Judge.{bitsetReading}
-use Rattle.layout.specs.Layout.{ofSet}
+use Rattle.layout.specs.Layout.{listOf}
+use Rattle.boxes.specs.Box.{Box, State, widthIn, setOf}
 use Rattle.request.specs.Aim.{aimOf}
 use Rattle.admission.specs.Commands.{commandOf}
 use Rattle.request.specs.Top.{topOf}
-use Rattle.request.specs.declared.aim.Aim.the-variants.{Port}
+use Rattle.request.specs.declared.aim.Aim.the-variants as A
+use Rattle.decision.specs.declared.Port.{Port}
 use Rattle.admission.specs.declared.commands.Command.{Command}
 use Rattle.admission.specs.declared.commands.CommandRead.the-variants.{Listed}
 use Rattle.request.specs.declared.top.Top.the-variants.{Nests}
 use Rattle.response.specs.Answer.{Outcome, speech, done, quiet, refusal, ackBytes, leaves}
-use Rattle.obey.specs.Obey.{placeIn, widthIn, setOf, gotten}
+use Rattle.obey.specs.declared.Asked.{Asked}
+use Rattle.obey.specs.Obey.{withSet, gotten}
 use Rattle.response.specs.declared.Kind.the-variants.{Skipped}
 
 -- what the request m names: a listed command, its header and bitset, and the port of the roll that its header gives
@@ -32,31 +34,31 @@ pub record Named (roll m : List ℕ) : Type 0 where
   pub header : Slot
   pub bitset : Slot
   pub nests : topOf m (command .change) ≡ Nests header bitset
-  pub position : ℕ
-  pub index : ℕ
-  pub name : ℕ
-  pub end : ℕ
-  pub asked : ℕ
-  pub port : aimOf m header roll ≡ Port position index name end asked
+  pub port : Port
+  pub found : aimOf m header roll ≡ A.Port (port .position) (port .flags)
+
+-- the request as it is admitted
+abbrev pub askedOf : MessageHeader → ℕ → Command → Asked
+askedOf h next command = record { header = h; next = next; command = command }
 
 -- the bitset that a SET carries, as document 01 reads it over the names of the set
-abbrev pub Carries : (roll debug flags m : List ℕ) → Named roll m → Bitset → Type 0
-Carries roll debug flags m n b =
-    bitsetReading (partOf m 0 (n .bitset .end)) (n .bitset .start) (ofSet (n .command .set) debug flags) ≡ accepted b
+abbrev pub Carries : (box : Box) (m : List ℕ) → Named (box .roll) m → Bitset → Type 0
+Carries box m n b =
+    bitsetReading (partOf m 0 (n .bitset .end)) (n .bitset .start) (listOf (box .names) (n .command .set)) ≡ accepted b
 
 -- what is said and done of a message: nothing for a skipped one, an error message, a reply, or a change of one set of one port
-pub data MessageCase (roll debug flags ws m : List ℕ) (h : MessageHeader) (next : ℕ) (o : Outcome) : Type 0 where
-  skipped : o ≡ leaves (quiet Skipped next) ws → MessageCase roll debug flags ws m h next o
-  refused : (why : Refusal) → o ≡ leaves (refusal m next why) ws → MessageCase roll debug flags ws m h next o
-  got : (n : Named roll m) → n .command .change ≡ false
-      → o ≡ leaves (speech done next (gotten roll debug flags ws m h (n .command) (n .position) (n .index) (n .name) (n .asked))) ws
-      → MessageCase roll debug flags ws m h next o
-  set : (n : Named roll m) → n .command .change ≡ true → (b : Bitset) → Carries roll debug flags m n b
+pub data MessageCase (box : Box) (state : State) (m : List ℕ) (h : MessageHeader) (next : ℕ) (o : Outcome State) : Type 0 where
+  skipped : o ≡ leaves (quiet Skipped next) state → MessageCase box state m h next o
+  refused : (why : Refusal) → o ≡ leaves (refusal m next why) state → MessageCase box state m h next o
+  got : (n : Named (box .roll) m) → n .command .change ≡ false
+      → o ≡ leaves (speech done next (gotten box state m (askedOf h next (n .command)) (n .port))) state
+      → MessageCase box state m h next o
+  set : (n : Named (box .roll) m) → n .command .change ≡ true → (b : Bitset) → Carries box m n b
       → o
       ≡ record {
         said = speech done next (ackBytes m h);
-        words =
-            splice (placeIn roll debug flags (n .position) (n .command .set)) ws
-            (wordsOf (widthIn debug flags (n .command .set)) (effect b (has (setOf roll debug flags ws (n .position) (n .command .set)))));
+        state =
+            withSet box state (n .port .position) (n .command .set)
+            (wordsOf (widthIn box (n .command .set)) (effect b (has (setOf box state (n .port .position) (n .command .set)))));
       }
-      → MessageCase roll debug flags ws m h next o
+      → MessageCase box state m h next o

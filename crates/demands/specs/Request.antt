@@ -14,7 +14,9 @@ use Rattle.refusal.specs.declared.Refusal.the-variants as R
 use Rattle.roll.specs.Find.{byIndex, byName}
 use Rattle.roll.specs.declared.find.Found.{Found}
 use Rattle.roll.specs.declared.find.Found.the-variants as F
-use Rattle.layout.specs.Layout.{ofSet}
+use Rattle.layout.specs.Layout.{listOf}
+use Rattle.boxes.specs.Box.{Box}
+use Rattle.boxes.specs.declared.Call.{Call}
 use Rattle.layout.specs.declared.Set.{Set}
 use Rattle.layout.specs.declared.Set.the-variants.{Debug}
 use Rattle.admission.specs.Commands.{commandOf}
@@ -45,12 +47,12 @@ setIn (Listed command) = command .set
 -- no port is found
 unfoldable pub noPort : Found → Bool
 noPort F.Nothing = true
-noPort (F.Port position index name end) = false
+noPort (F.At position) = false
 
 -- a port is found, and the name that is given is not its name
 unfoldable pub namedOtherwise : List ℕ → Slot → List ℕ → Found → Bool
 namedOtherwise m name roll F.Nothing = false
-namedOtherwise m name roll (F.Port position index at end) = otherName m name roll at
+namedOtherwise m name roll (F.At position) = otherName m name roll position
 
 -- "Type below 16 or REQUEST absent: skipped"
 unfoldable pub skipIf : MessageHeader → Check
@@ -95,20 +97,20 @@ headerChecks m roll header =
     (getD (walked headerPolicy (partOf m 0 (header .end)) (header .start) .slots) 3 absent)
 
 -- the levels of a listed command: top level, header, and in a SET the bitset
-unfoldable pub levelChecks : List ℕ → List ℕ → List ℕ → List ℕ → Bool → Set → Slot → Slot → List Check
-levelChecks m roll debug flags change set header bitset =
+unfoldable pub levelChecks : Box → List ℕ → Bool → Set → Slot → Slot → List Check
+levelChecks box m change set header bitset =
     topChecks m change header bitset
-    ++ (headerChecks m roll header
-    ++ cond change (bitsetChecks (partOf m 0 (bitset .end)) (bitset .start) (ofSet set debug flags)) [])
+    ++ (headerChecks m (box .roll) header
+    ++ cond change (bitsetChecks (partOf m 0 (bitset .end)) (bitset .start) (listOf (box .names) set)) [])
 
 -- the message m with its header h, whose command is read
-unfoldable pub commandChecks : ℕ → ℕ → List ℕ → List ℕ → List ℕ → List ℕ → MessageHeader → CommandRead → List Check
-commandChecks family admin roll debug flags m h command =
-    admissionChecks m h family admin command
-    ++ levelChecks m roll debug flags (isSet command) (setIn command)
+unfoldable pub commandChecks : Box → Call → List ℕ → MessageHeader → CommandRead → List Check
+commandChecks box call m h command =
+    admissionChecks m h (call .family) (call .admin) command
+    ++ levelChecks box m (isSet command) (setIn command)
     (getD (walked (topPolicy (isSet command)) m 20 .slots) 1 absent)
     (getD (walked (topPolicy (isSet command)) m 20 .slots) 2 absent)
 
 -- the message m with its header h
-unfoldable pub messageChecks : ℕ → ℕ → List ℕ → List ℕ → List ℕ → List ℕ → MessageHeader → List Check
-messageChecks family admin roll debug flags m h = commandChecks family admin roll debug flags m h (commandOf (byteAt m 16))
+unfoldable pub messageChecks : Box → Call → List ℕ → MessageHeader → List Check
+messageChecks box call m h = commandChecks box call m h (commandOf (byteAt m 16))

@@ -1,14 +1,19 @@
--- A run over a datagram: calls one after the other, each from the next position and with the settings of the one before. Document 01, "What the box
+-- A run over a datagram: calls one after the other, each from the next position and with the state of the one before. Document 01, "What the box
 -- reads and writes": "in order, up to the end or a refusal 1 to 4".
 use Prim.Native.Nat.{ℕ, zero, suc}
 use mathlib.Core.List.{List}
 use mathlib.Core.Bool.{Bool, false, _||_}
+use Rattle.boxes.specs.Box.{Box, State}
+use Rattle.boxes.specs.declared.Call.{Call}
 use Rattle.handler.specs.Call.{outcome, isOver}
 
+-- the same call at another position
+abbrev pub from : Call → ℕ → Call
+from call position = record { family = call .family; admin = call .admin; position = position }
+
 -- a run of at most so many calls comes to the end or to a refusal by 1 to 4
-unfoldable pub endsWithin : ℕ → ℕ → ℕ → List ℕ → List ℕ → List ℕ → List ℕ → List ℕ → ℕ → ℕ → Bool
-endsWithin zero family admin roll debug flags ws datagram position room = false
-endsWithin (suc calls) family admin roll debug flags ws datagram position room =
-    isOver (outcome family admin roll debug flags ws datagram position room .said .kind)
-    || endsWithin calls family admin roll debug flags (outcome family admin roll debug flags ws datagram position room .words) datagram
-    (outcome family admin roll debug flags ws datagram position room .said .next) room
+unfoldable pub endsWithin : ℕ → Box → State → Call → List ℕ → ℕ → Bool
+endsWithin zero box state call datagram room = false
+endsWithin (suc calls) box state call datagram room =
+    isOver (outcome box state call datagram room .said .kind)
+    || endsWithin calls box (outcome box state call datagram room .state) (from call (outcome box state call datagram room .said .next)) datagram room

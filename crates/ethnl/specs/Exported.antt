@@ -5,8 +5,8 @@ use mathlib.Core.List.{List}
 use lib.ListN.{length}
 use Rattle.basics.specs.Put.{put}
 use Rattle.normal.specs.Normal as N
-use Rattle.response.specs.Answer.{kindNumber, refusalNumber}
-use Rattle.handler.specs.Bytes.{ByteOutcome}
+use Rattle.response.specs.Answer.{Outcome, kindNumber, refusalNumber}
+use Rattle.handler.specs.Bytes.{Stored}
 
 -- ethnl_normalise: the number, the count of bytes written, and those bytes at the front of the page
 pub record Normalise (o : N.Outcome) (before after : List ℕ) (written r : ℕ) : Type 0 where
@@ -15,10 +15,10 @@ pub record Normalise (o : N.Outcome) (before after : List ℕ) (written r : ℕ)
   pub page : after ≡ put before (o .bytes)
 
 -- ethnl_handle: kind, refusal number, next position and count behind their pointers
-pub record Handle (o : ByteOutcome) (before after bytes : List ℕ) (k f n w : ℕ) : Type 0 where
+pub record Handle (o : Outcome Stored) (before after : List ℕ) (stored : Stored) (k f n w : ℕ) : Type 0 where
   pub kind : k ≡ kindNumber (o .said .kind)
   pub refusal : f ≡ refusalNumber (o .said .kind)
   pub next : n ≡ o .said .next
   pub count : w ≡ length (o .said .bytes)
   pub page : after ≡ put before (o .said .bytes)
-  pub settings : bytes ≡ o .settings
+  pub state : stored ≡ o .state

@@ -2,9 +2,10 @@
 ghost use mathlib.Core.Path.{_≡_};
 ghost use lib.ListN.{length};
 ghost use Rattle.normal.specs.Normal.{normalised};
-ghost use Rattle.handler.specs.Bytes.{bytesOutcome};
+ghost use Rattle.boxes.specs.Box.{boxOf};
+ghost use Rattle.handler.specs.Bytes.{storedOf, bytesOutcome};
 ghost use Rattle.ethnl.specs.Exported.{Normalise, Handle};
-use handler::bytes::Call;
+use boxes::Call;
 use handler::bytes::handle_bytes;
 
 // Writes the normal form of a bitset's contents to the page. Returns document 01's number, 0 if accepted.
@@ -40,7 +41,7 @@ pub extern "C" fn ethnl_handle<'a>(
     next: &mut u64,
     written: &mut u64,
 )
-    ensures { λ _. ⌜ Handle (bytesOutcome family admin (now (roll .entry)) (now (debug .entry)) (now (flags .entry)) (now (settings .entry)) (now (datagram .entry)) position (length (now (page .entry)))) (now (page .entry)) (now (page .exit)) (now (settings .exit)) (now (kind .exit)) (now (refusal .exit)) (now (next .exit)) (now (written .exit)) ⌝ }
+    ensures { λ _. ⌜ Handle (bytesOutcome (boxOf (now (roll .entry)) (now (debug .entry)) (now (flags .entry))) (storedOf (now (settings .entry))) (record { family = family; admin = admin; position = position }) (now (datagram .entry)) (length (now (page .entry)))) (now (page .entry)) (now (page .exit)) (storedOf (now (settings .exit))) (now (kind .exit)) (now (refusal .exit)) (now (next .exit)) (now (written .exit)) ⌝ }
 {
     let call = Call {
         family,

@@ -12,9 +12,10 @@ use Rattle.netlink_headers.specs.declared.messages.MessageRead.the-variants.{Me
 use Rattle.refusal.specs.Refusal.{numberOf}
 use Rattle.refusal.specs.declared.Refusal.{Refusal}
 use Rattle.refusal.specs.declared.Refusal.the-variants as R
-use Rattle.boxes.specs.Box.{boxRight}
+use Rattle.boxes.specs.Box.{Box, State}
+use Rattle.boxes.specs.Rule.{boxRight}
+use Rattle.boxes.specs.declared.Call.{Call}
 use Rattle.admission.specs.Admission.{admitted}
-use Rattle.admission.specs.declared.commands.Command.{Command}
 use Rattle.admission.specs.declared.Admission.{Admission}
 use Rattle.admission.specs.declared.Admission.the-variants as A
 use Rattle.response.specs.Answer.{Outcome, quiet, refusal, leaves}
@@ -23,41 +24,40 @@ use Rattle.response.specs.declared.Kind.{Kind}
 use Rattle.response.specs.declared.Kind.the-variants.{End, Skipped, Done, Refused}
 
 -- skipped, 5 to 9, or the command obeyed
-abbrev pub onAdmission : Admission → List ℕ → ℕ → List ℕ → (Command → Outcome) → Outcome
-onAdmission A.Skipped m next ws f = leaves (quiet Skipped next) ws
-onAdmission (A.Refused r) m next ws f = leaves (refusal m next r) ws
-onAdmission (A.Go command) m next ws f = f command
+abbrev pub onAdmission : Admission → Box → State → List ℕ → MessageHeader → ℕ → Outcome State
+onAdmission A.Skipped box state m h next = leaves (quiet Skipped next) state
+onAdmission (A.Refused r) box state m h next = leaves (refusal m next r) state
+onAdmission (A.Go command) box state m h next = obeyed box state m (record { header = h; next = next; command = command })
 
 -- the message m with its header h
-unfoldable pub messageOutcome : ℕ → ℕ → List ℕ → List ℕ → List ℕ → List ℕ → List ℕ → MessageHeader → ℕ → Outcome
-messageOutcome family admin roll debug flags ws m h next =
-    onAdmission (admitted m h family (eqb admin 1)) m next ws (obeyed roll debug flags ws m h next)
+unfoldable pub messageOutcome : Box → State → Call → List ℕ → MessageHeader → ℕ → Outcome State
+messageOutcome box state call m h next = onAdmission (admitted m h (call .family) (eqb (call .admin) 1)) box state m h next
 
 -- "1 to 4 write nothing", and they and the end give the position back
-abbrev pub stays : Refusal → ℕ → List ℕ → Outcome
-stays r position ws = leaves (quiet (Refused r) position) ws
+abbrev pub stays : Refusal → Call → State → Outcome State
+stays r call state = leaves (quiet (Refused r) (call .position)) state
 
 -- "End is decided after 1, 2 and the first two causes of 3; skipping after 4"
-abbrev pub onMessage : MessageRead → ℕ → List ℕ → (MessageHeader → ℕ → ℕ → Outcome) → Outcome
-onMessage Outside position ws f = stays R.Datagram position ws
-onMessage AtEnd position ws f = leaves (quiet End position) ws
-onMessage Cut position ws f = stays R.Datagram position ws
-onMessage Misstated position ws f = stays R.Length position ws
-onMessage (Message h end next) position ws f = f h end next
+abbrev pub onMessage : MessageRead → Call → State → (MessageHeader → ℕ → ℕ → Outcome State) → Outcome State
+onMessage Outside call state f = stays R.Datagram call state
+onMessage AtEnd call state f = leaves (quiet End (call .position)) state
+onMessage Cut call state f = stays R.Datagram call state
+onMessage Misstated call state f = stays R.Length call state
+onMessage (Message h end next) call state f = f h end next
 
 -- the message that stands at the position of the datagram
-unfoldable pub positionOutcome : ℕ → ℕ → List ℕ → List ℕ → List ℕ → List ℕ → List ℕ → ℕ → Outcome
-positionOutcome family admin roll debug flags ws datagram position =
-    onMessage (messageAt datagram position) position ws
-    (λ h end next. messageOutcome family admin roll debug flags ws (partOf datagram position end) h next)
+unfoldable pub positionOutcome : Box → State → Call → List ℕ → Outcome State
+positionOutcome box state call datagram =
+    onMessage (messageAt datagram (call .position)) call state
+    (λ h end next. messageOutcome box state call (partOf datagram (call .position) end) h next)
 
 -- what one call does: box (1), page (2), datagram (3), then the message at the position
-unfoldable pub outcome : ℕ → ℕ → List ℕ → List ℕ → List ℕ → List ℕ → List ℕ → ℕ → ℕ → Outcome
-outcome family admin roll debug flags ws datagram position room =
-    cond (not (boxRight family admin roll debug flags ws)) (stays R.Box position ws)
-    (cond (ltb room 32768) (stays R.Page position ws)
-    (cond (ltb 32768 (length datagram)) (stays R.Datagram position ws)
-    (positionOutcome family admin roll debug flags ws datagram position)))
+unfoldable pub outcome : Box → State → Call → List ℕ → ℕ → Outcome State
+outcome box state call datagram room =
+    cond (not (boxRight box state call)) (stays R.Box call state)
+    (cond (ltb room 32768) (stays R.Page call state)
+    (cond (ltb 32768 (length datagram)) (stays R.Datagram call state)
+    (positionOutcome box state call datagram)))
 
 -- "up to the end or a refusal 1 to 4": whether calls one after the other end with this one
 abbrev pub isOver : Kind → Bool

@@ -2,9 +2,12 @@
 ghost use mathlib.Core.Path.{_≡_};
 ghost use Prim.Native.Nat.{_/_, _%_};
 ghost use lib.ListN.{length};
-ghost use Rattle.handler.specs.Bytes.{After, areWords, bytesOutcome, wordsOutcome};
+ghost use Rattle.boxes.specs.Box.{boxOf};
+ghost use Rattle.response.specs.Answer.{Did};
+ghost use Rattle.handler.specs.Bytes.{storedOf, areWords, bytesOutcome, wordsOutcome};
 use crate::call::handle;
 use crate::call::stay;
+use boxes::Call;
 use refusal::Refusal;
 use response::Answer;
 
@@ -13,13 +16,6 @@ pub const SETTINGS: usize = 8192;
 
 // So few words get room of their own size: to clear room for all that a box can have would cost as much as a small call.
 const FEW: usize = 64;
-
-// The numbers that a call is given.
-pub struct Call {
-    pub family: u32,
-    pub admin: u32,
-    pub position: usize,
-}
 
 // The handler over settings as bytes, with room for their words.
 fn handle_in<'a>(
@@ -33,20 +29,10 @@ fn handle_in<'a>(
     page: &mut [u8],
 ) -> Answer
     requires { ⌜ (length (now settings) % 4 ≡ 0) × (length (now words) ≡ length (now settings) / 4) ⌝ }
-    ensures { λ r. ⌜ After (wordsOutcome (call .family) (call .admin) (now (roll .entry)) (now (debug .entry)) (now (flags .entry)) (now (settings .entry)) (now (datagram .entry)) (call .position) (length (now (page .entry)))) (now (page .entry)) (now (page .exit)) (now (settings .exit)) r ⌝ }
+    ensures { λ r. ⌜ Did (wordsOutcome (boxOf (now (roll .entry)) (now (debug .entry)) (now (flags .entry))) (storedOf (now (settings .entry))) call (now (datagram .entry)) (length (now (page .entry)))) (now (page .entry)) (now (page .exit)) (storedOf (now (settings .exit))) r ⌝ }
 {
     word_bytes::read_words(settings, words);
-    let answer = handle(
-        call.family,
-        call.admin,
-        roll,
-        debug,
-        flags,
-        words,
-        datagram,
-        call.position,
-        page,
-    );
+    let answer = handle(call, roll, debug, flags, words, datagram, page);
     word_bytes::write_words(words, settings);
     answer
 }
@@ -72,7 +58,7 @@ pub fn handle_bytes<'a>(
     datagram: &[u8],
     page: &mut [u8],
 ) -> Answer
-    ensures { λ r. ⌜ After (bytesOutcome (call .family) (call .admin) (now (roll .entry)) (now (debug .entry)) (now (flags .entry)) (now (settings .entry)) (now (datagram .entry)) (call .position) (length (now (page .entry)))) (now (page .entry)) (now (page .exit)) (now (settings .exit)) r ⌝ }
+    ensures { λ r. ⌜ Did (bytesOutcome (boxOf (now (roll .entry)) (now (debug .entry)) (now (flags .entry))) (storedOf (now (settings .entry))) call (now (datagram .entry)) (length (now (page .entry)))) (now (page .entry)) (now (page .exit)) (storedOf (now (settings .exit))) r ⌝ }
 {
     if !are_words(settings) {
         return stay(Refusal::Box, call.position);

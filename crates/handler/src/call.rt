@@ -2,12 +2,15 @@
 ghost use mathlib.Core.Path.{_≡_};
 ghost use Prim.Native.Nat.{_≤_};
 ghost use lib.ListN.{length};
+ghost use Rattle.roll.specs.Table.{Tabled};
 ghost use Rattle.response.specs.Answer.{Did};
 ghost use Rattle.response.specs.declared.Kind.the-variants.{Refused};
-ghost use Rattle.obey.specs.Obey.{Fit, obeyed};
+ghost use Rattle.boxes.specs.Box.{boxOf, stateOf};
+ghost use Rattle.obey.specs.Obey.{Fit};
 ghost use Rattle.handler.specs.Call.{onAdmission, positionOutcome, outcome};
 use admission::Admission;
 use admission::admit;
+use boxes::Call;
 use boxes::rule::box_right;
 use netlink_attributes::payload;
 use netlink_headers::headers::MessageHeader;
@@ -19,6 +22,8 @@ use refusal::Refusal;
 use response::Answer;
 use response::Kind;
 use response::refuse;
+use roll::table::PORTS;
+use roll::table::read_ports;
 
 // The least page and the longest datagram.
 pub const PAGE: usize = 32768;
@@ -48,6 +53,7 @@ fn answer_message<'a>(
     page: &mut [u8],
     settings: &mut [u32],
     roll: &[u8],
+    ports: &[u64],
     debug: &'a [u8],
     flags: &'a [u8],
     m: &[u8],
@@ -56,8 +62,9 @@ fn answer_message<'a>(
     admission: Admission,
 ) -> Answer
     requires { ⌜ (32768 ≤ length (now page)) × (16 ≤ length (now m)) ⌝ }
-    requires { ⌜ Fit (now roll) (now debug) (now flags) (now settings) ⌝ }
-    ensures { λ r. ⌜ Did (onAdmission admission (now (m .entry)) next (now (settings .entry)) (obeyed (now (roll .entry)) (now (debug .entry)) (now (flags .entry)) (now (settings .entry)) (now (m .entry)) h next)) (now (page .entry)) (now (page .exit)) (now (settings .exit)) r ⌝ }
+    requires { ⌜ Tabled (now roll) (now ports) ⌝ }
+    requires { ⌜ Fit (boxOf (now roll) (now debug) (now flags)) (stateOf (now settings)) ⌝ }
+    ensures { λ r. ⌜ Did (onAdmission admission (boxOf (now (roll .entry)) (now (debug .entry)) (now (flags .entry))) (stateOf (now (settings .entry))) (now (m .entry)) h next) (now (page .entry)) (now (page .exit)) (stateOf (now (settings .exit))) r ⌝ }
 {
     match admission {
         Admission::Skipped => {
@@ -72,27 +79,28 @@ fn answer_message<'a>(
                 next,
                 command,
             };
-            return obey(page, settings, roll, debug, flags, m, asked);
+            return obey(page, settings, roll, ports, debug, flags, m, asked);
         }
     }
 }
 
 // Answers the message at a position: the end, a message that is not whole (3 and 4), or one that is answered.
 fn answer_at<'a>(
-    family: u32,
-    admin: u32,
+    call: Call,
     roll: &[u8],
+    ports: &[u64],
     debug: &'a [u8],
     flags: &'a [u8],
     settings: &mut [u32],
     datagram: &[u8],
-    position: usize,
     page: &mut [u8],
 ) -> Answer
     requires { ⌜ 32768 ≤ length (now page) ⌝ }
-    requires { ⌜ Fit (now roll) (now debug) (now flags) (now settings) ⌝ }
-    ensures { λ r. ⌜ Did (positionOutcome family admin (now (roll .entry)) (now (debug .entry)) (now (flags .entry)) (now (settings .entry)) (now (datagram .entry)) position) (now (page .entry)) (now (page .exit)) (now (settings .exit)) r ⌝ }
+    requires { ⌜ Tabled (now roll) (now ports) ⌝ }
+    requires { ⌜ Fit (boxOf (now roll) (now debug) (now flags)) (stateOf (now settings)) ⌝ }
+    ensures { λ r. ⌜ Did (positionOutcome (boxOf (now (roll .entry)) (now (debug .entry)) (now (flags .entry))) (stateOf (now (settings .entry))) call (now (datagram .entry))) (now (page .entry)) (now (page .exit)) (stateOf (now (settings .exit))) r ⌝ }
 {
+    let position = call.position;
     match read_message(datagram, position) {
         MessageRead::Outside => {
             return stay(Refusal::Datagram, position);
@@ -112,44 +120,46 @@ fn answer_at<'a>(
             next,
         } => {
             let m = payload(datagram, position, end);
-            let admission = admit(m, h, family, admin == 1);
-            return answer_message(page, settings, roll, debug, flags, m, h, next, admission);
+            let admission = admit(m, h, call.family, call.admin == 1);
+            return answer_message(
+                page,
+                settings,
+                roll,
+                ports,
+                debug,
+                flags,
+                m,
+                h,
+                next,
+                admission,
+            );
         }
     }
 }
 
 // Takes one message from a datagram, answers it, and keeps the settings. Every input has an answer: nothing is asked of the caller.
 pub fn handle<'a>(
-    family: u32,
-    admin: u32,
+    call: Call,
     roll: &[u8],
     debug: &'a [u8],
     flags: &'a [u8],
     settings: &mut [u32],
     datagram: &[u8],
-    position: usize,
     page: &mut [u8],
 ) -> Answer
-    ensures { λ r. ⌜ Did (outcome family admin (now (roll .entry)) (now (debug .entry)) (now (flags .entry)) (now (settings .entry)) (now (datagram .entry)) position (length (now (page .entry)))) (now (page .entry)) (now (page .exit)) (now (settings .exit)) r ⌝ }
+    ensures { λ r. ⌜ Did (outcome (boxOf (now (roll .entry)) (now (debug .entry)) (now (flags .entry))) (stateOf (now (settings .entry))) call (now (datagram .entry)) (length (now (page .entry)))) (now (page .entry)) (now (page .exit)) (stateOf (now (settings .exit))) r ⌝ }
 {
-    if !box_right(family, admin, roll, debug, flags, settings) {
-        return stay(Refusal::Box, position);
+    let mut table = [0u64; PORTS];
+    let n = read_ports(roll, &mut table);
+    let ports = &table[..n];
+    if !box_right(call, roll, ports, debug, flags, settings) {
+        return stay(Refusal::Box, call.position);
     }
     if page.len() < PAGE {
-        return stay(Refusal::Page, position);
+        return stay(Refusal::Page, call.position);
     }
     if DATAGRAM < datagram.len() {
-        return stay(Refusal::Datagram, position);
+        return stay(Refusal::Datagram, call.position);
     }
-    answer_at(
-        family,
-        admin,
-        roll,
-        debug,
-        flags,
-        settings,
-        datagram,
-        position,
-        page,
-    )
+    answer_at(call, roll, ports, debug, flags, settings, datagram, page)
 }

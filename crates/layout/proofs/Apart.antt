@@ -7,64 +7,67 @@ use native.Mathlib.Omega.{arith}
 use Rattle.basics.proofs.Order.{lt-or-ge}
 use Rattle.layout.specs.declared.Set.{Set}
 use Rattle.layout.specs.declared.Set.the-variants.{Debug, Flags}
-use Rattle.layout.specs.Layout.{ofSet, words, place}
+use Rattle.layout.specs.declared.Sizes.{Sizes}
+use Rattle.layout.specs.Layout.{sizeOf, portWords, firstOf, words, place}
 use Rattle.layout.proofs.Laws.{port-step, in-port}
 
 -- one ends before the other starts
 abbrev pub Apart : ℕ → ℕ → ℕ → ℕ → Type 0
 Apart a v b w = (a + v ≤ b) ⊎ (b + w ≤ a)
 
-module _ (ports wd wf : ℕ) where
+module _ (ports : ℕ) (width : Sizes) where
   -- of two ports
-  earlier : (p q : ℕ) (s t : Set) → p < q → place ports wd wf p s + ofSet s wd wf ≤ place ports wd wf q t
+  earlier : (p q : ℕ) (s t : Set) → p < q → place ports width p s + sizeOf width s ≤ place ports width q t
   unfolding place
-  earlier p q s t h = omega (arith, port-step wd wf p q h, in-port wd wf s)
+  earlier p q s t h = omega (arith, port-step (portWords width) p q h, in-port width s)
 
   -- of one port
-  beside : (p : ℕ) (s t : Set) → (s ≡ t → ⊥) → Apart (place ports wd wf p s) (ofSet s wd wf) (place ports wd wf p t) (ofSet t wd wf)
-  unfolding place ofSet
+  beside : (p : ℕ) (s t : Set) → (s ≡ t → ⊥) → Apart (place ports width p s) (sizeOf width s) (place ports width p t) (sizeOf width t)
+  unfolding place firstOf sizeOf
   beside p Debug Debug n = absurd (n refl)
   beside p Debug Flags n = inl (omega arith)
   beside p Flags Debug n = inr (omega arith)
   beside p Flags Flags n = absurd (n refl)
 
-  pub places-apart : (p q : ℕ) (s t : Set) → (p ≡ q → s ≡ t → ⊥) → Apart (place ports wd wf p s) (ofSet s wd wf) (place ports wd wf q t) (ofSet t wd wf)
+  pub places-apart : (p q : ℕ) (s t : Set) → (p ≡ q → s ≡ t → ⊥) → Apart (place ports width p s) (sizeOf width s) (place ports width q t) (sizeOf width t)
   places-apart p q s t n =
       ⊎-elim
       (λ (h : p < q). inl (earlier p q s t h))
       (λ (h : q ≤ p). ⊎-elim (λ (l : q < p). inr (earlier q p t s l)) (λ (l : p ≤ q). same (omega arith)) (lt-or-ge q p))
       (lt-or-ge p q)
     where
-      same : p ≡ q → Apart (place ports wd wf p s) (ofSet s wd wf) (place ports wd wf q t) (ofSet t wd wf)
+      same : p ≡ q → Apart (place ports width p s) (sizeOf width s) (place ports width q t) (sizeOf width t)
       same e = rw (← e) (beside p s t (n e))
 
 -- a word that belongs to a set of a port
-pub record Owned (ports wd wf j : ℕ) : Type 0 where
+pub record Owned (ports : ℕ) (width : Sizes) (j : ℕ) : Type 0 where
   pub position : ℕ
   pub set : Set
   pub port : position < ports
-  pub from : place ports wd wf position set ≤ j
-  pub to : j < place ports wd wf position set + ofSet set wd wf
+  pub from : place ports width position set ≤ j
+  pub to : j < place ports width position set + sizeOf width set
 
 -- together all: each word belongs to one
-module _ (ports wd wf j : ℕ) (h : j < ports * (wd + wf)) where
-  some : 0 < wd + wf
-  some = ⊎-elim (λ (l : 0 < wd + wf). l) (λ (l : wd + wf ≤ 0). absurd (none l)) (lt-or-ge 0 (wd + wf))
+module _ (ports n j : ℕ) (h : j < ports * n) where
+  some : 0 < n
+  some = ⊎-elim (λ (l : 0 < n). l) (λ (l : n ≤ 0). absurd (none l)) (lt-or-ge 0 n)
     where
-      none : wd + wf ≤ 0 → ⊥
-      none l = let z : ports * (wd + wf) ≤ ports * 0 = mul-le-mul-left ports l in omega arith
+      none : n ≤ 0 → ⊥
+      none l = let z : ports * n ≤ ports * 0 = mul-le-mul-left ports l in omega arith
 
-  which : j / (wd + wf) < ports
+  which : j / n < ports
   which =
       ⊎-elim
-      (λ (l : j / (wd + wf) < ports). l)
-      (λ (l : ports ≤ j / (wd + wf)). absurd (let a : ports * (wd + wf) ≤ j / (wd + wf) * (wd + wf) = mul-le-mul-right (wd + wf) l in let b = div-add-mod' j (wd + wf) in omega arith))
-      (lt-or-ge (j / (wd + wf)) ports)
+      (λ (l : j / n < ports). l)
+      (λ (l : ports ≤ j / n). absurd (let a : ports * n ≤ j / n * n = mul-le-mul-right n l in let b = div-add-mod' j n in omega arith))
+      (lt-or-ge (j / n) ports)
 
-pub words-owned : (ports wd wf j : ℕ) → j < words ports wd wf → Owned ports wd wf j
-unfolding words place ofSet
-words-owned ports wd wf j h =
+pub words-owned : (ports : ℕ) (width : Sizes) (j : ℕ) → j < words ports width → Owned ports width j
+unfolding words place portWords firstOf sizeOf
+words-owned ports width j h =
+    let n = width .debug + width .flags in
+    let b = div-add-mod' j n in
     ⊎-elim
-    (λ (l : j % (wd + wf) < wd). record { position = j / (wd + wf); set = Debug; port = which ports wd wf j h; from = let b = div-add-mod' j (wd + wf) in omega arith; to = let b = div-add-mod' j (wd + wf) in omega arith })
-    (λ (l : wd ≤ j % (wd + wf)). record { position = j / (wd + wf); set = Flags; port = which ports wd wf j h; from = let b = div-add-mod' j (wd + wf) in omega arith; to = let b = div-add-mod' j (wd + wf) in let m = mod-lt j (some ports wd wf j h) in omega arith })
-    (lt-or-ge (j % (wd + wf)) wd)
+    (λ (l : j % n < width .debug). record { position = j / n; set = Debug; port = which ports n j h; from = omega arith; to = omega arith })
+    (λ (l : width .debug ≤ j % n). record { position = j / n; set = Flags; port = which ports n j h; from = omega arith; to = let m = mod-lt j (some ports n j h) in omega arith })
+    (lt-or-ge (j % n) (width .debug))

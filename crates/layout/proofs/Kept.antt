@@ -9,7 +9,8 @@ use lib.Seq.{length-take-le, take-at, drop-at, getD-append-add, getD-take, getD-
 use Rattle.basics.specs.Put.{put, splice}
 use Rattle.basics.proofs.Put.{length-put, getD-put}
 use Rattle.layout.specs.declared.Set.{Set}
-use Rattle.layout.specs.Layout.{ofSet, words, place, setAt}
+use Rattle.layout.specs.declared.Sizes.{Sizes}
+use Rattle.layout.specs.Layout.{sizeOf, words, place, setAt}
 use Rattle.layout.proofs.Laws.{place-inside}
 use Rattle.layout.proofs.Apart.{Apart, places-apart}
 
@@ -57,22 +58,22 @@ module _ (ws ys : List ℕ) (at : ℕ) (h : at + length ys ≤ length ws) where
       each j v = ⊎-elim (λ (q : at + length ys ≤ b). splice-above (b + j) (omega arith)) (λ (q : b + w ≤ at). splice-below (b + j) (omega arith)) apart
 
 -- a new set in the settings
-module _ (settings : List ℕ) (ports wd wf : ℕ) (exact : length settings ≡ words ports wd wf) (position : ℕ) (h : position < ports) (set : Set)
-    (new : List ℕ) (fits : length new ≡ ofSet set wd wf) where
-  room : place ports wd wf position set + length new ≤ length settings
-  room = let i = place-inside ports wd wf position set h in omega arith
+module _ (settings : List ℕ) (ports : ℕ) (width : Sizes) (exact : length settings ≡ words ports width) (position : ℕ) (h : position < ports) (set : Set)
+    (new : List ℕ) (fits : length new ≡ sizeOf width set) where
+  room : place ports width position set + length new ≤ length settings
+  room = let i = place-inside ports width position set h in omega arith
 
-  pub change-length : length (splice (place ports wd wf position set) settings new) ≡ length settings
-  change-length = splice-length settings new (place ports wd wf position set) room
+  pub change-length : length (splice (place ports width position set) settings new) ≡ length settings
+  change-length = splice-length settings new (place ports width position set) room
 
-  pub change-own : setAt (splice (place ports wd wf position set) settings new) ports wd wf position set ≡ new
+  pub change-own : setAt (splice (place ports width position set) settings new) ports width position set ≡ new
   unfolding setAt
-  change-own = rw (← fits) (splice-own settings new (place ports wd wf position set) room)
+  change-own = rw (← fits) (splice-own settings new (place ports width position set) room)
 
   pub change-other : (other : ℕ) (o : Set) → other < ports → (position ≡ other → set ≡ o → ⊥)
-      → setAt (splice (place ports wd wf position set) settings new) ports wd wf other o ≡ setAt settings ports wd wf other o
+      → setAt (splice (place ports width position set) settings new) ports width other o ≡ setAt settings ports width other o
   unfolding setAt
   change-other other o l n =
-      splice-other settings new (place ports wd wf position set) room (place ports wd wf other o) (ofSet o wd wf)
-      (let i = place-inside ports wd wf other o l in omega arith)
-      (rw fits (places-apart ports wd wf position other set o n))
+      splice-other settings new (place ports width position set) room (place ports width other o) (sizeOf width o)
+      (let i = place-inside ports width other o l in omega arith)
+      (rw fits (places-apart ports width position other set o n))

@@ -1,24 +1,67 @@
 -- Where a set lies (document 01, "Port settings are lent as 32-bit words: for each port in roll order its debug set, then its flags").
 -- No other definition says so.
-use Prim.Native.Nat.{ℕ, _+_, _*_}
+use Prim.Native.Nat.{ℕ, _+_, _*_, _≤_}
 use mathlib.Core.List.{List}
+use mathlib.Core.Bool.{Bool, _&&_}
 use lib.ListN.{take, drop}
+use Rattle.bits.specs.Set.{wordsFor}
 use Rattle.layout.specs.declared.Set.{Set}
 use Rattle.layout.specs.declared.Set.the-variants.{Debug, Flags}
+use Rattle.layout.specs.declared.Sizes.{Sizes}
 
--- which of two things is the set's: its words, its N, its names
-unfoldable pub ofSet : {A : Type 0} → Set → A → A → A
-ofSet Debug debug flags = debug
-ofSet Flags debug flags = flags
+-- the names of each set
+pub record Names : Type 0 where
+  pub debug : List ℕ
+  pub flags : List ℕ
 
--- the words of all ports, where a debug set takes wd words and a set of flags wf
-unfoldable pub words : ℕ → ℕ → ℕ → ℕ
-words ports wd wf = ports * (wd + wf)
+abbrev pub namesOf : List ℕ → List ℕ → Names
+namesOf debug flags = record { debug = debug; flags = flags }
+
+-- what is the set's: its names, or its number
+unfoldable pub listOf : Names → Set → List ℕ
+listOf names Debug = names .debug
+listOf names Flags = names .flags
+
+unfoldable pub sizeOf : Sizes → Set → ℕ
+sizeOf sizes Debug = sizes .debug
+sizeOf sizes Flags = sizes .flags
+
+-- a test that every set passes
+unfoldable pub everySet : (Set → Bool) → Bool
+everySet f = f Debug && f Flags
+
+-- a number of each list, and of each number
+abbrev pub ofLists : (List ℕ → ℕ) → Names → Sizes
+ofLists f names = record { debug = f (names .debug); flags = f (names .flags) }
+
+abbrev pub ofSizes : (ℕ → ℕ) → Sizes → Sizes
+ofSizes f sizes = record { debug = f (sizes .debug); flags = f (sizes .flags) }
+
+-- the words that sets of these sizes take
+abbrev pub widths : Sizes → Sizes
+widths sizes = ofSizes wordsFor sizes
+
+-- no number is larger
+pub record AtMost (most : ℕ) (sizes : Sizes) : Type 0 where
+  pub debug : sizes .debug ≤ most
+  pub flags : sizes .flags ≤ most
+
+-- the words of one port, and the first of a set among them
+unfoldable pub portWords : Sizes → ℕ
+portWords width = width .debug + width .flags
+
+unfoldable pub firstOf : Sizes → Set → ℕ
+firstOf width Debug = 0
+firstOf width Flags = width .debug
+
+-- the words of all ports
+unfoldable pub words : ℕ → Sizes → ℕ
+words ports width = ports * portWords width
 
 -- the first word of a set of the port at a position
-unfoldable pub place : ℕ → ℕ → ℕ → ℕ → Set → ℕ
-place ports wd wf position set = position * (wd + wf) + ofSet set 0 wd
+unfoldable pub place : ℕ → Sizes → ℕ → Set → ℕ
+place ports width position set = position * portWords width + firstOf width set
 
 -- the words of that set
-unfoldable pub setAt : List ℕ → ℕ → ℕ → ℕ → ℕ → Set → List ℕ
-setAt settings ports wd wf position set = take (ofSet set wd wf) (drop (place ports wd wf position set) settings)
+unfoldable pub setAt : List ℕ → ℕ → Sizes → ℕ → Set → List ℕ
+setAt settings ports width position set = take (sizeOf width set) (drop (place ports width position set) settings)

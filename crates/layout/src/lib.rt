@@ -1,7 +1,7 @@
 // Where the sets of the ports lie in the settings: for each port in roll order its debug set, then its flags.
 ghost use mathlib.Core.Path.{_≡_};
 ghost use Prim.Native.Nat.{_≤_, _<_};
-ghost use Rattle.layout.specs.Layout.{ofSet, words as wordsOf, place as placeOf};
+ghost use Rattle.layout.specs.Layout.{namesOf, listOf, sizeOf, widths as widthsOf, AtMost, portWords, firstOf, words as wordsOf, place as placeOf};
 
 pub mod change;
 
@@ -11,23 +11,29 @@ pub enum Set {
     Flags,
 }
 
-// Which of two numbers is the set's.
-pub fn number_of(set: Set, debug: usize, flags: usize) -> usize
-    ensures { λ r. ⌜ r ≡ ofSet set debug flags ⌝ }
+// A number for each set: how many bits it has, or how many words.
+pub struct Sizes {
+    pub debug: usize,
+    pub flags: usize,
+}
+
+// The number of the set.
+pub fn size_of(sizes: Sizes, set: Set) -> usize
+    ensures { λ r. ⌜ r ≡ sizeOf sizes set ⌝ }
 {
     match set {
         Set::Debug => {
-            return debug;
+            return sizes.debug;
         }
         Set::Flags => {
-            return flags;
+            return sizes.flags;
         }
     }
 }
 
 // The names of the set.
 pub fn names_of<'a>(set: Set, debug: &'a [u8], flags: &'a [u8]) -> &'a [u8]
-    ensures { λ r. ⌜ now r ≡ ofSet set (now (debug .entry)) (now (flags .entry)) ⌝ }
+    ensures { λ r. ⌜ now r ≡ listOf (namesOf (now (debug .entry)) (now (flags .entry))) set ⌝ }
 {
     match set {
         Set::Debug => {
@@ -39,19 +45,50 @@ pub fn names_of<'a>(set: Set, debug: &'a [u8], flags: &'a [u8]) -> &'a [u8]
     }
 }
 
-// The words of all ports, where a debug set takes `wd` words and a set of flags `wf`.
-pub fn words(ports: usize, wd: usize, wf: usize) -> usize
-    requires { ⌜ (ports ≤ 64) × (wd ≤ 16) × (wf ≤ 16) ⌝ }
-    ensures { λ r. ⌜ r ≡ wordsOf ports wd wf ⌝ }
+// How many words sets of these sizes take.
+pub fn widths(sizes: Sizes) -> Sizes
+    ensures { λ r. ⌜ r ≡ widthsOf sizes ⌝ }
 {
-    ports * (wd + wf)
+    Sizes {
+        debug: bits::words_for(sizes.debug),
+        flags: bits::words_for(sizes.flags),
+    }
+}
+
+// The words of one port.
+fn port_words(width: Sizes) -> usize
+    requires { ⌜ AtMost 16 width ⌝ }
+    ensures { λ r. ⌜ r ≡ portWords width ⌝ }
+{
+    width.debug + width.flags
+}
+
+// The first word of a set in those of its port.
+fn first(width: Sizes, set: Set) -> usize
+    ensures { λ r. ⌜ r ≡ firstOf width set ⌝ }
+{
+    match set {
+        Set::Debug => {
+            return 0;
+        }
+        Set::Flags => {
+            return width.debug;
+        }
+    }
+}
+
+// The words of all ports.
+pub fn words(ports: usize, width: Sizes) -> usize
+    requires { ⌜ (ports ≤ 64) × AtMost 16 width ⌝ }
+    ensures { λ r. ⌜ r ≡ wordsOf ports width ⌝ }
+{
+    ports * port_words(width)
 }
 
 // The first word of a set of the port at a position.
-pub fn place(ports: usize, wd: usize, wf: usize, position: usize, set: Set) -> usize
-    requires { ⌜ (position < ports) × (ports ≤ 64) × (wd ≤ 16) × (wf ≤ 16) ⌝ }
-    ensures { λ r. ⌜ r ≡ placeOf ports wd wf position set ⌝ }
+pub fn place(ports: usize, width: Sizes, position: usize, set: Set) -> usize
+    requires { ⌜ (position < ports) × (ports ≤ 64) × AtMost 16 width ⌝ }
+    ensures { λ r. ⌜ r ≡ placeOf ports width position set ⌝ }
 {
-    let first = number_of(set, 0, wd);
-    words(position, wd, wf) + first
+    words(position, width) + first(width, set)
 }

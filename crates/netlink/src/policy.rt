@@ -44,13 +44,13 @@ impl Fault {
     }
 }
 
-// Whether one of the four bytes from `at` on is NUL. No early exit: all are compared at once.
-fn some_nul(s: &[u8], at: usize) -> bool
-    requires { ⌜ at + 4 ≤ length (now s) ⌝ }
-    ensures { λ r. ⌜ r ≡ any 4 (isNul (now (s .entry)) at) ⌝ }
+// Whether one of the n bytes from `at` on is NUL. No early exit: where n is known, all are compared at once.
+pub fn some_nul(s: &[u8], at: usize, n: usize) -> bool
+    requires { ⌜ at + n ≤ length (now s) ⌝ }
+    ensures { λ r. ⌜ r ≡ any n (isNul (now (s .entry)) at) ⌝ }
 {
     let mut some = false;
-    for j in 0..4 {
+    for j in 0..n {
         some = some | (s[at + j] == 0);
     }
     some
@@ -62,7 +62,7 @@ fn nul_free(s: &[u8]) -> usize
 {
     let mut i = 0;
     while 4 <= s.len() - i {
-        if some_nul(s, i) {
+        if some_nul(s, i, 4) {
             return i;
         }
         i += 4;

@@ -2,6 +2,7 @@
 ghost use mathlib.Core.Path.{_≡_};
 ghost use Prim.Native.Nat.{_+_, _≤_, _<_};
 ghost use mathlib.Core.List.{[]};
+ghost use lib.Dec.{eqb};
 ghost use lib.ListN.{length, take};
 ghost use Rattle.basics.specs.Numbers.{le32};
 ghost use Rattle.basics.specs.Put.{put};
@@ -10,7 +11,7 @@ ghost use Rattle.page.specs.Page.{Wrote};
 ghost use Rattle.netlink_write.specs.Headers.{attributeHeaderBytes};
 ghost use Rattle.netlink_write.specs.Attributes.{attr, filled, nameBytes, identity, numbered};
 use crate::headers::put_attribute_header;
-use netlink::policy::nul_at;
+use crate::spelt::put_spelt;
 use netlink_headers::headers::AttributeHeader;
 use netlink_headers::lengths::Stated;
 use page::bytes::put_filled;
@@ -35,18 +36,12 @@ pub fn put_name(page: &mut [u8], kind: u16, name: &[u8]) -> usize
     ensures { λ r. ⌜ Wrote (attr kind (nameBytes (now (name .entry)))) (now (page .entry)) (now (page .exit)) r ⌝ }
     ensures { λ r. ⌜ r ≤ length (now (name .entry)) + 8 ⌝ }
 {
-    let n = nul_at(name);
-    put_named(page, kind, name, n)
-}
-
-// The same where it is known that n bytes stand before the first NUL.
-fn put_named(page: &mut [u8], kind: u16, name: &[u8], n: usize) -> usize
-    requires { ⌜ (n ≡ nulAt (now name)) × (length (now name) ≤ 256) × (length (now name) + 8 ≤ length (now page)) ⌝ }
-    ensures { λ r. ⌜ Wrote (attr kind (nameBytes (now (name .entry)))) (now (page .entry)) (now (page .exit)) r ⌝ }
-    ensures { λ r. ⌜ r ≤ length (now (name .entry)) + 8 ⌝ }
-{
+    let n = put_spelt(&mut page[AttributeHeader::SIZE..], name);
     // four bytes of header, and the NUL
-    put_stated(page, kind, name, n, n + 5)
+    let stated = n + 5;
+    put_attribute_header(page, stated as u16, kind);
+    let step = Stated(stated as u32).step();
+    step.0
 }
 
 // An attribute of a stated length: the first k bytes, then zeros up to the step.
@@ -132,10 +127,19 @@ fn put_identity(page: &mut [u8], number: u32, name: &[u8]) -> usize
     ensures { λ r. ⌜ r ≤ length (now (name .entry)) + 16 ⌝ }
 {
     put_number(page, 1, number);
-    let n = nul_at(name);
-    if n == 0 {
+    if no_name(name) {
         return 8;
     }
-    let m = put_named(&mut page[8..], 2, name, n);
+    let m = put_name(&mut page[8..], 2, name);
     m + 8
+}
+
+// Whether no byte stands before the first NUL.
+fn no_name(name: &[u8]) -> bool
+    ensures { λ r. ⌜ r ≡ eqb (nulAt (now (name .entry))) 0 ⌝ }
+{
+    if name.len() == 0 {
+        return true;
+    }
+    name[0] == 0
 }

@@ -21,7 +21,7 @@ fn put_two_u16(page: &mut [u8], first: u16, second: u16)
 }
 
 // Two numbers of 32 bits: 8 bytes.
-fn put_two_u32(page: &mut [u8], first: u32, second: u32)
+pub fn put_two_u32(page: &mut [u8], first: u32, second: u32)
     requires { ⌜ 8 ≤ length (now page) ⌝ }
     ensures { λ _. ⌜ now (page .exit) ≡ put (now (page .entry)) (le32 first ++ le32 second) ⌝ }
 {

@@ -5,13 +5,15 @@ ghost use mathlib.Core.Path.{_≡_};
 ghost use Prim.Native.Nat.{_≤_, _<_};
 ghost use lib.ListN.{length};
 ghost use Rattle.roll.specs.Record.{portCount};
-ghost use Rattle.response.specs.Answer.{Said, Did, speech, done, ackBytes};
-ghost use Rattle.obey.specs.Obey.{Fit, placeIn, widthIn, setOf, changedBy, gotten, obeyed, carried};
-ghost use Rattle.entries.specs.Entry.{count};
+ghost use Rattle.roll.specs.Table.{Tabled};
+ghost use Rattle.boxes.specs.Box.{boxOf, stateOf, setOf};
+ghost use Rattle.response.specs.Answer.{Said, Did, speech, done};
 ghost use Rattle.decision.specs.Decision.{PortIn};
+ghost use Rattle.obey.specs.Obey.{Fit, changedBy, gotten, obeyed, carried};
 use crate::show::show;
 use admission::commands::Command;
 use bitset_form::Form;
+use boxes::lists::sizes;
 use boxes::settings::set_at;
 use decision::Decision;
 use decision::Plan;
@@ -20,14 +22,16 @@ use decision::decide;
 use layout::Set;
 use layout::change::apply;
 use layout::names_of;
-use layout::number_of;
 use layout::place;
+use layout::size_of;
+use layout::widths;
 use netlink_headers::headers::MessageHeader;
-use numbers::u32_at;
 use reply::message::heading_of;
 use response::Answer;
 use response::acknowledge;
 use response::refuse;
+use roll::table::index_of;
+use roll::table::name_of;
 
 // An admitted request: its header, the position after it, and its command.
 pub struct Asked {
@@ -39,41 +43,23 @@ pub struct Asked {
 // The most ports of a box: where a set lies does not depend on how many ports follow.
 const PORTS: usize = 64;
 
-// The first word of a set of the port at a position.
-fn place_of(roll: &[u8], debug: &[u8], flags: &[u8], position: usize, set: Set) -> usize
-    requires { ⌜ (position < portCount (now roll)) × (portCount (now roll) ≤ 64) × (count (now debug) ≤ 512) × (count (now flags) ≤ 512) ⌝ }
-    ensures { λ r. ⌜ r ≡ placeIn (now (roll .entry)) (now (debug .entry)) (now (flags .entry)) position set ⌝ }
-{
-    let wd = bits::words_for(entries::count(debug));
-    let wf = bits::words_for(entries::count(flags));
-    place(PORTS, wd, wf, position, set)
-}
-
-// How many words a set has.
-fn width_of(debug: &[u8], flags: &[u8], set: Set) -> usize
-    ensures { λ r. ⌜ r ≡ widthIn (now (debug .entry)) (now (flags .entry)) set ⌝ }
-{
-    let wd = bits::words_for(entries::count(debug));
-    let wf = bits::words_for(entries::count(flags));
-    number_of(set, wd, wf)
-}
-
 // The words of a set of the port at a position.
 fn held<'s>(
     settings: &'s [u32],
     roll: &[u8],
+    ports: &[u64],
     debug: &[u8],
     flags: &[u8],
     position: usize,
     set: Set,
 ) -> &'s [u32]
     requires { ⌜ position < portCount (now roll) ⌝ }
-    requires { ⌜ Fit (now roll) (now debug) (now flags) (now settings) ⌝ }
-    ensures { λ r. ⌜ now r ≡ setOf (now (roll .entry)) (now (debug .entry)) (now (flags .entry)) (now (settings .entry)) position set ⌝ }
+    requires { ⌜ Tabled (now roll) (now ports) ⌝ }
+    requires { ⌜ Fit (boxOf (now roll) (now debug) (now flags)) (stateOf (now settings)) ⌝ }
+    ensures { λ r. ⌜ now r ≡ setOf (boxOf (now (roll .entry)) (now (debug .entry)) (now (flags .entry))) (stateOf (now (settings .entry))) position set ⌝ }
 {
-    let wd = bits::words_for(entries::count(debug));
-    let wf = bits::words_for(entries::count(flags));
-    set_at(settings, roll::count::ports(roll), wd, wf, position, set)
+    let width = widths(sizes(debug, flags));
+    set_at(settings, ports.len(), width, position, set)
 }
 
 // A done GET.
@@ -81,6 +67,7 @@ fn get<'a>(
     page: &mut [u8],
     settings: &[u32],
     roll: &[u8],
+    ports: &[u64],
     debug: &'a [u8],
     flags: &'a [u8],
     m: &[u8],
@@ -88,14 +75,18 @@ fn get<'a>(
     port: Port,
 ) -> Answer
     requires { ⌜ (32768 ≤ length (now page)) × (16 ≤ length (now m)) × (port .position < portCount (now roll)) ⌝ }
-    requires { ⌜ Fit (now roll) (now debug) (now flags) (now settings) ⌝ }
-    ensures { λ r. ⌜ Said (speech done (asked .next) (gotten (now (roll .entry)) (now (debug .entry)) (now (flags .entry)) (now (settings .entry)) (now (m .entry)) (asked .header) (asked .command) (port .position) (port .index) (port .name) (port .flags))) (now (page .entry)) (now (page .exit)) r ⌝ }
+    requires { ⌜ Tabled (now roll) (now ports) ⌝ }
+    requires { ⌜ Fit (boxOf (now roll) (now debug) (now flags)) (stateOf (now settings)) ⌝ }
+    ensures { λ r. ⌜ Said (speech done (asked .next) (gotten (boxOf (now (roll .entry)) (now (debug .entry)) (now (flags .entry))) (stateOf (now (settings .entry))) (now (m .entry)) asked port)) (now (page .entry)) (now (page .exit)) r ⌝ }
 {
+    let position = port.position;
+    let index = index_of(roll, ports, position);
+    let name = name_of(roll, ports, position);
     let h = asked.header;
     let command = asked.command;
     let set = command.set;
-    let words = held(settings, roll, debug, flags, port.position, set);
-    let n = number_of(set, entries::count(debug), entries::count(flags));
+    let words = held(settings, roll, ports, debug, flags, position, set);
+    let n = size_of(sizes(debug, flags), set);
     let names = names_of(set, debug, flags);
     show(
         page,
@@ -103,8 +94,8 @@ fn get<'a>(
         h,
         asked.next,
         heading_of(h, command.reply),
-        u32_at(roll, port.index),
-        roll::name::name_at(roll, port.name),
+        index,
+        name,
         port.flags % 2 == 1,
         names,
         words,
@@ -123,11 +114,12 @@ fn change(
     form: Form,
 )
     requires { ⌜ position < portCount (now roll) ⌝ }
-    requires { ⌜ Fit (now roll) (now debug) (now flags) (now settings) ⌝ }
-    ensures { λ _. ⌜ now (settings .exit) ≡ changedBy (now (roll .entry)) (now (debug .entry)) (now (flags .entry)) (now (settings .entry)) position set (form .mask) (form .value) ⌝ }
+    requires { ⌜ Fit (boxOf (now roll) (now debug) (now flags)) (stateOf (now settings)) ⌝ }
+    ensures { λ _. ⌜ stateOf (now (settings .exit)) ≡ changedBy (boxOf (now (roll .entry)) (now (debug .entry)) (now (flags .entry))) (stateOf (now (settings .entry))) position set form ⌝ }
 {
-    let at = place_of(roll, debug, flags, position, set);
-    let w = width_of(debug, flags, set);
+    let width = widths(sizes(debug, flags));
+    let at = place(PORTS, width, position, set);
+    let w = size_of(width, set);
     let mask = form.mask;
     let value = form.value;
     apply(settings, at, w, mask, value);
@@ -138,6 +130,7 @@ fn carry_out<'a>(
     page: &mut [u8],
     settings: &mut [u32],
     roll: &[u8],
+    ports: &[u64],
     debug: &'a [u8],
     flags: &'a [u8],
     m: &[u8],
@@ -145,8 +138,9 @@ fn carry_out<'a>(
     decision: Decision,
 ) -> Answer
     requires { ⌜ (32768 ≤ length (now page)) × (16 ≤ length (now m)) × PortIn (now roll) (decision .plan) ⌝ }
-    requires { ⌜ Fit (now roll) (now debug) (now flags) (now settings) ⌝ }
-    ensures { λ r. ⌜ Did (carried (now (roll .entry)) (now (debug .entry)) (now (flags .entry)) (now (settings .entry)) (now (m .entry)) (asked .header) (asked .next) (asked .command) decision) (now (page .entry)) (now (page .exit)) (now (settings .exit)) r ⌝ }
+    requires { ⌜ Tabled (now roll) (now ports) ⌝ }
+    requires { ⌜ Fit (boxOf (now roll) (now debug) (now flags)) (stateOf (now settings)) ⌝ }
+    ensures { λ r. ⌜ Did (carried (boxOf (now (roll .entry)) (now (debug .entry)) (now (flags .entry))) (stateOf (now (settings .entry))) (now (m .entry)) asked decision) (now (page .entry)) (now (page .exit)) (stateOf (now (settings .exit))) r ⌝ }
 {
     let plan = decision.plan;
     match plan {
@@ -154,7 +148,7 @@ fn carry_out<'a>(
             return refuse(page, m, why, asked.next);
         }
         Plan::Get(port) => {
-            return get(page, settings, roll, debug, flags, m, asked, port);
+            return get(page, settings, roll, ports, debug, flags, m, asked, port);
         }
         Plan::Set {
             position,
@@ -175,16 +169,28 @@ pub fn obey<'a>(
     page: &mut [u8],
     settings: &mut [u32],
     roll: &[u8],
+    ports: &[u64],
     debug: &'a [u8],
     flags: &'a [u8],
     m: &[u8],
     asked: Asked,
 ) -> Answer
     requires { ⌜ (32768 ≤ length (now page)) × (16 ≤ length (now m)) ⌝ }
-    requires { ⌜ Fit (now roll) (now debug) (now flags) (now settings) ⌝ }
-    ensures { λ r. ⌜ Did (obeyed (now (roll .entry)) (now (debug .entry)) (now (flags .entry)) (now (settings .entry)) (now (m .entry)) (asked .header) (asked .next) (asked .command)) (now (page .entry)) (now (page .exit)) (now (settings .exit)) r ⌝ }
+    requires { ⌜ Tabled (now roll) (now ports) ⌝ }
+    requires { ⌜ Fit (boxOf (now roll) (now debug) (now flags)) (stateOf (now settings)) ⌝ }
+    ensures { λ r. ⌜ Did (obeyed (boxOf (now (roll .entry)) (now (debug .entry)) (now (flags .entry))) (stateOf (now (settings .entry))) (now (m .entry)) asked) (now (page .entry)) (now (page .exit)) (stateOf (now (settings .exit))) r ⌝ }
 {
     let command = asked.command;
-    let decision = decide(m, command, roll, debug, flags);
-    carry_out(page, settings, roll, debug, flags, m, asked, decision)
+    let decision = decide(m, command, roll, ports, debug, flags);
+    carry_out(
+        page,
+        settings,
+        roll,
+        ports,
+        debug,
+        flags,
+        m,
+        asked,
+        decision,
+    )
 }

@@ -14,7 +14,7 @@ use Rattle.request.specs.declared.aim.Aim.the-variants.{Port, Refused}
 -- a port with the header's flags, or 16 or 17
 unfoldable pub withFlags : Target → ℕ → Aim
 withFlags (T.Refused why) flags = Refused why
-withFlags (T.Port position index name end) flags = Port position index name end flags
+withFlags (T.Port position) flags = Port position flags
 
 -- a refusal of the header level, or what its parts come to
 abbrev pub onHeader : Header → (Slot → Slot → ℕ → Aim) → Aim

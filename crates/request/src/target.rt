@@ -1,5 +1,8 @@
 // The port that a header names: refusals 16 and 17.
 ghost use mathlib.Core.Path.{_≡_};
+ghost use lib.ListN.{length};
+ghost use Prim.Native.Nat.{_<_};
+ghost use Rattle.roll.specs.Table.{Tabled};
 ghost use Rattle.request.specs.Target.{otherName, portByIndex, portByName, targetOf};
 use netlink::walk::Slot;
 use netlink::walk::slot_number;
@@ -9,90 +12,85 @@ use refusal::Refusal;
 use roll::Found;
 use roll::find_index;
 use roll::find_name;
-use roll::same_name;
+use roll::is_name;
+use roll::table::name_of;
 
 pub enum Target {
-    // Which port it is, from 0; where its index and its name start in the roll, and where its record ends.
-    Port {
-        position: usize,
-        index: usize,
-        name: usize,
-        end: usize,
-    },
+    // Which port it is, from 0.
+    Port(usize),
     Refused(Refusal),
 }
 
-// Whether a name is given, and is not the one at a place of the roll.
-fn other_name(message: &[u8], name: Slot, roll: &[u8], at: usize) -> bool
-    ensures { λ r. ⌜ r ≡ otherName (now (message .entry)) name (now (roll .entry)) at ⌝ }
+// Whether a name is given, and is not that of the port at a position.
+fn other_name(message: &[u8], name: Slot, roll: &[u8], ports: &[u64], position: usize) -> bool
+    requires { ⌜ Tabled (now roll) (now ports) ⌝ }
+    requires { ⌜ position < length (now ports) ⌝ }
+    ensures { λ r. ⌜ r ≡ otherName (now (message .entry)) name (now (roll .entry)) position ⌝ }
 {
     if !name.present {
         return false;
     }
     let start = name.start;
     let end = name.end;
-    !same_name(roll, at, payload(message, start, end))
+    !is_name(name_of(roll, ports, position), payload(message, start, end))
 }
 
 // The port of the index; a name beside it must be the port's.
-fn port_by_index(message: &[u8], header: Slot, index: Slot, name: Slot, roll: &[u8]) -> Target
+fn port_by_index(
+    message: &[u8],
+    header: Slot,
+    index: Slot,
+    name: Slot,
+    roll: &[u8],
+    ports: &[u64],
+) -> Target
+    requires { ⌜ Tabled (now roll) (now ports) ⌝ }
     ensures { λ r. ⌜ r ≡ portByIndex (now (message .entry)) header index name (now (roll .entry)) ⌝ }
 {
-    match find_index(roll, slot_number(message, index)) {
+    match find_index(roll, ports, slot_number(message, index)) {
         Found::Nothing => {
             return Target::Refused(Refusal::UnknownPort(place(index.start)));
         }
-        Found::Port {
-            position,
-            index: number,
-            name: field,
-            end,
-        } => {
-            if other_name(message, name, roll, field) {
+        Found::At(position) => {
+            if other_name(message, name, roll, ports, position) {
                 return Target::Refused(Refusal::OtherName(place(header.start)));
             }
-            return Target::Port {
-                position,
-                index: number,
-                name: field,
-                end,
-            };
+            return Target::Port(position);
         }
     }
 }
 
 // The port of the name.
-fn port_by_name(message: &[u8], name: Slot, roll: &[u8]) -> Target
+fn port_by_name(message: &[u8], name: Slot, roll: &[u8], ports: &[u64]) -> Target
+    requires { ⌜ Tabled (now roll) (now ports) ⌝ }
     ensures { λ r. ⌜ r ≡ portByName (now (message .entry)) name (now (roll .entry)) ⌝ }
 {
     let start = name.start;
     let end = name.end;
-    match find_name(roll, payload(message, start, end)) {
+    match find_name(roll, ports, payload(message, start, end)) {
         Found::Nothing => {
             return Target::Refused(Refusal::UnknownPort(place(start)));
         }
-        Found::Port {
-            position,
-            index,
-            name: field,
-            end: past,
-        } => {
-            return Target::Port {
-                position,
-                index,
-                name: field,
-                end: past,
-            };
+        Found::At(position) => {
+            return Target::Port(position);
         }
     }
 }
 
 // The port of a header nest's index if given, else of its name.
-pub fn find_target(message: &[u8], header: Slot, index: Slot, name: Slot, roll: &[u8]) -> Target
+pub fn find_target(
+    message: &[u8],
+    header: Slot,
+    index: Slot,
+    name: Slot,
+    roll: &[u8],
+    ports: &[u64],
+) -> Target
+    requires { ⌜ Tabled (now roll) (now ports) ⌝ }
     ensures { λ r. ⌜ r ≡ targetOf (now (message .entry)) header index name (now (roll .entry)) ⌝ }
 {
     if index.present {
-        return port_by_index(message, header, index, name, roll);
+        return port_by_index(message, header, index, name, roll, ports);
     }
-    port_by_name(message, name, roll)
+    port_by_name(message, name, roll, ports)
 }

@@ -1,4 +1,4 @@
--- Document 01, "What a call says back": kind, refusal number, next position, bytes written, and the settings.
+-- Document 01, "What a call says back": kind, refusal number, next position, bytes written, and the state, whatever it holds.
 use Prim.Native.Nat.{ℕ, _/_, _%_}
 use mathlib.Core.Path.{_≡_}
 use mathlib.Core.List.{List, []}
@@ -35,10 +35,10 @@ pub record Speech : Type 0 where
   pub next : ℕ
   pub bytes : List ℕ
 
--- what is said, and the settings after it
-pub record Outcome : Type 0 where
+-- what is said, and the state after it
+pub record Outcome (S : Type 0) : Type 0 where
   pub said : Speech
-  pub words : List ℕ
+  pub state : S
 
 abbrev pub speech : Kind → ℕ → List ℕ → Speech
 speech kind next bytes = record { kind = kind; next = next; bytes = bytes }
@@ -58,9 +58,9 @@ ackBytes message h = cond (eqb (h .flags / 4 % 2) 1) (errorMessage message 0 Not
 abbrev pub quiet : Kind → ℕ → Speech
 quiet kind next = speech kind next []
 
--- the settings stay
-abbrev pub leaves : Speech → List ℕ → Outcome
-leaves s words = record { said = s; words = words }
+-- the state stays
+abbrev pub leaves : {S : Type 0} → Speech → S → Outcome S
+leaves s state = record { said = s; state = state }
 
 -- the code's answer
 abbrev pub returned : Speech → Answer
@@ -71,6 +71,6 @@ pub record Said (s : Speech) (before after : List ℕ) (r : Answer) : Type 0 whe
   pub result : r ≡ returned s
   pub page : after ≡ put before (s .bytes)
 
-pub record Did (o : Outcome) (before after words : List ℕ) (r : Answer) : Type 0 where
+pub record Did {S : Type 0} (o : Outcome S) (before after : List ℕ) (state : S) (r : Answer) : Type 0 where
   pub said : Said (o .said) before after r
-  pub settings : words ≡ o .words
+  pub state-is : state ≡ o .state

@@ -1,33 +1,30 @@
 -- The port of an index or of a name (document 01, refusal 16: "no such port, by index if given, else by name").
-use Prim.Native.Nat.{ℕ, suc}
+use Prim.Native.Nat.{ℕ}
 use mathlib.Core.List.{List}
 use mathlib.Core.Bool.{Bool, cond}
-use lib.Dec.{eqb}
-use Rattle.basics.specs.Numbers.{u32At}
+use lib.Dec.{eqb, ltb}
+use Rattle.basics.specs.Scan.{first}
 use Rattle.roll.specs.declared.find.Found.{Found}
-use Rattle.roll.specs.declared.find.Found.the-variants.{Port, Nothing}
-use Rattle.roll.specs.Record.{Records, records}
-use Rattle.roll.specs.Record.Records.{done, broken, port}
-use Rattle.roll.specs.Name.{isNameAt}
+use Rattle.roll.specs.declared.find.Found.the-variants.{At, Nothing}
+use Rattle.roll.specs.Record.{portCount, indexOf, nameOf}
+use Rattle.roll.specs.Name.{isName}
 
--- the first port of whose places, those of its index and of its name, a test holds; its position is counted from k
-unfoldable pub find : (ℕ → ℕ → Bool) → Records → ℕ → Found
-find f done k = Nothing
-find f broken k = Nothing
-find f (port i n e rest) k = cond (f i n) (Port k i n e) (find f rest (suc k))
+-- the port at a position has the index x
+unfoldable pub isIndex : List ℕ → ℕ → ℕ → Bool
+isIndex roll x k = eqb (indexOf roll k) x
 
--- whether a port has the index x
-unfoldable pub isIndex : List ℕ → ℕ → ℕ → ℕ → Bool
-isIndex roll x i n = eqb (u32At roll i) x
+-- it has the name
+unfoldable pub isNamed : List ℕ → List ℕ → ℕ → Bool
+isNamed roll name k = isName (nameOf roll k) name
 
--- whether a port has the name
-unfoldable pub isNamed : List ℕ → List ℕ → ℕ → ℕ → Bool
-isNamed roll name i n = isNameAt roll n name
+-- the first of n positions at which a test holds
+unfoldable pub find : ℕ → (ℕ → Bool) → Found
+find n f = cond (ltb (first n f) n) (At (first n f)) Nothing
 
 -- the first port of the index x
 unfoldable pub byIndex : List ℕ → ℕ → Found
-byIndex roll x = find (isIndex roll x) (records roll 0) 0
+byIndex roll x = find (portCount roll) (isIndex roll x)
 
 -- the first port of the name
 unfoldable pub byName : List ℕ → List ℕ → Found
-byName roll name = find (isNamed roll name) (records roll 0) 0
+byName roll name = find (portCount roll) (isNamed roll name)

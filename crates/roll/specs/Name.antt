@@ -20,9 +20,9 @@ sameByte a b j = eqb (byteAt a j) (byteAt b j)
 unfoldable pub sameName : List ℕ → List ℕ → Bool
 sameName a b = all 16 (sameByte a b)
 
--- whether the 16 bytes at a place of the roll are the name; NULs may follow the name
-unfoldable pub isNameAt : List ℕ → ℕ → List ℕ → Bool
-isNameAt roll at name = leb (length name) 16 && sameName (nameAt roll at) name
+-- whether a field of 16 bytes holds the name; NULs may follow the name
+unfoldable pub isName : List ℕ → List ℕ → Bool
+isName field name = leb (length name) 16 && sameName field name
 
 -- a NUL at j is followed by a NUL
 unfoldable pub nulThenNul : List ℕ → ℕ → Bool

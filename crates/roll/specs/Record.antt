@@ -1,50 +1,87 @@
 -- Document 01, "The box a call is given", port roll: "records of one kind byte, then a body whose length the kind fixes".
-use Prim.Native.Nat.{ℕ, zero, suc, _+_}
-use mathlib.Core.List.{List}
-use mathlib.Core.Bool.{not, cond}
-use lib.ListN.{length}
+use mathlib.Core.Path.{_≡_}
+use Prim.Native.Nat.{ℕ, zero, suc, _+_, _*_, _≤_, min}
+use mathlib.Core.List.{List, [], _∷_}
+use mathlib.Core.Bool.{Bool, true, false, cond}
+use lib.ListN.{length, getD}
 use lib.Dec.{leb, ltb, eqb}
-use Rattle.basics.specs.Numbers.{byteAt}
+use Rattle.basics.specs.Numbers.{byteAt, u32At}
+use Rattle.roll.specs.Name.{nameAt}
 use Rattle.roll.specs.declared.record.RecordRead.{RecordRead}
-use Rattle.roll.specs.declared.record.RecordRead.the-variants.{Port, Unknown, Cut, End}
+use Rattle.roll.specs.declared.record.RecordRead.the-variants as R
 
--- the record at a place ("Kind 1: index (4 bytes), name (16 bytes)"): where its index and its name start, and where it ends
+-- a port as the roll tells of it: "index (4 bytes), name (16 bytes)"
+pub record Port : Type 0 where
+  pub index : ℕ
+  pub name : List ℕ
+
+-- how many bytes a record of a kind takes, its kind byte with them; 0 for a kind that no record has
+unfoldable pub recordSize : ℕ → ℕ
+recordSize kind = cond (eqb kind 1) 21 0
+
+-- the most that one takes, and what holds of every kind: none, or room for an index and a name
+abbrev pub mostBytes : ℕ
+mostBytes = 21
+
+abbrev pub SizeFits : ℕ → Type 0
+SizeFits size = (size ≤ mostBytes) × (min 1 size * 21 ≤ size)
+
+-- the record at a place: where a port's index and name start, and where the record ends
 unfoldable pub recordAt : List ℕ → ℕ → RecordRead
 recordAt roll at =
-    cond (leb (length roll) at) End
-    (cond (not (eqb (byteAt roll at) 1)) Unknown
-    (cond (ltb (length roll) (at + 21)) Cut
-    (Port (at + 1) (at + 5) (at + 21))))
+    cond (leb (length roll) at) R.End
+    (cond (eqb (recordSize (byteAt roll at)) 0) R.Unknown
+    (cond (ltb (length roll) (at + recordSize (byteAt roll at))) R.Cut
+    (R.Port (at + 1) (at + 5) (at + recordSize (byteAt roll at)))))
 
 -- the records in order, to the roll's end or to the first that is broken: of an unknown kind, or cut
 pub data Records : Type 0 where
   done : Records
   broken : Records
-  port : (index name end : ℕ) → Records → Records
+  port : Port → Records → Records
 
 -- what is read at a place, and then what stands from the next place on
-abbrev pub onRecord : RecordRead → (ℕ → Records) → Records
-onRecord End rest = done
-onRecord Unknown rest = broken
-onRecord Cut rest = broken
-onRecord (Port i n e) rest = port i n e (rest e)
+abbrev pub onRecord : List ℕ → RecordRead → (ℕ → Records) → Records
+onRecord roll R.End rest = done
+onRecord roll R.Unknown rest = broken
+onRecord roll R.Cut rest = broken
+onRecord roll (R.Port i n e) rest = port (record { index = u32At roll i; name = nameAt roll n }) (rest e)
 
 -- at most so many records from a place on
 unfoldable pub recordsUpTo : ℕ → List ℕ → ℕ → Records
 recordsUpTo zero roll at = broken
-recordsUpTo (suc k) roll at = onRecord (recordAt roll at) (λ next. recordsUpTo k roll next)
+recordsUpTo (suc k) roll at = onRecord roll (recordAt roll at) (λ next. recordsUpTo k roll next)
 
 -- the records from a place on: each takes a byte, so one more than the bytes is never reached (law `records-step`)
 unfoldable pub records : List ℕ → ℕ → Records
 unfolding recordsUpTo
 records roll at = recordsUpTo (suc (length roll)) roll at
 
--- how many ports the records hold
-unfoldable pub portsIn : Records → ℕ
-portsIn done = 0
-portsIn broken = 0
-portsIn (port i n e rest) = suc (portsIn rest)
+-- no record is broken
+unfoldable pub whole : Records → Bool
+whole done = true
+whole broken = false
+whole (port p rest) = whole rest
 
--- how many ports a roll has
+-- the ports
+unfoldable pub portsIn : Records → List Port
+portsIn done = []
+portsIn broken = []
+portsIn (port p rest) = p ∷ portsIn rest
+
+-- the ports of a roll in order, and how many there are
+unfoldable pub portsOf : List ℕ → List Port
+portsOf roll = portsIn (records roll 0)
+
 unfoldable pub portCount : List ℕ → ℕ
-portCount roll = portsIn (records roll 0)
+portCount roll = length (portsOf roll)
+
+-- the index and the name of the port at a position, counted from 0
+unfoldable pub portAt : List ℕ → ℕ → Port
+portAt roll k = getD (portsOf roll) k (record { index = 0; name = [] })
+
+unfoldable pub indexOf : List ℕ → ℕ → ℕ
+indexOf roll k = portAt roll k .index
+
+unfoldable pub nameOf : List ℕ → ℕ → List ℕ
+nameOf roll k = portAt roll k .name

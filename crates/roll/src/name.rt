@@ -1,7 +1,7 @@
 // The name of a port: a field of 16 bytes.
 ghost use mathlib.Core.Path.{_≡_};
 ghost use Prim.Native.Nat.{_<_};
-ghost use Rattle.roll.specs.Name.{nameAt, sameName, isNameAt, nulThenNul, nameRight};
+ghost use Rattle.roll.specs.Name.{nameAt, sameName, isName, nulThenNul, nameRight};
 use netlink_attributes::payload;
 use numbers::byte_at;
 use numbers::u32_at;
@@ -20,7 +20,7 @@ pub fn name_at(roll: &[u8], at: usize) -> &[u8]
 }
 
 // Whether two fields hold the same name, four bytes at a time, those in which the names of one box differ first. NULs follow the shorter one.
-fn same(a: &[u8], b: &[u8]) -> bool
+pub fn same_name(a: &[u8], b: &[u8]) -> bool
     ensures { λ r. ⌜ r ≡ sameName (now (a .entry)) (now (b .entry)) ⌝ }
 {
     if u32_at(a, 8) != u32_at(b, 8) {
@@ -35,14 +35,14 @@ fn same(a: &[u8], b: &[u8]) -> bool
     u32_at(a, 12) == u32_at(b, 12)
 }
 
-// Whether the 16 bytes at a place of the roll are the name, NULs after it.
-pub fn same_name(roll: &[u8], at: usize, name: &[u8]) -> bool
-    ensures { λ r. ⌜ r ≡ isNameAt (now (roll .entry)) at (now (name .entry)) ⌝ }
+// Whether a field holds the name, NULs after it.
+pub fn is_name(field: &[u8], name: &[u8]) -> bool
+    ensures { λ r. ⌜ r ≡ isName (now (field .entry)) (now (name .entry)) ⌝ }
 {
     if 16 < name.len() {
         return false;
     }
-    same(name_at(roll, at), name)
+    same_name(field, name)
 }
 
 // Whether a NUL at j is followed by a NUL.

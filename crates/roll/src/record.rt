@@ -1,9 +1,9 @@
 // One record of a roll: a kind byte, then a body whose length the kind fixes.
 ghost use mathlib.Core.Path.{_≡_};
-ghost use Rattle.roll.specs.Record.{recordAt};
+ghost use Rattle.roll.specs.Record.{recordSize, SizeFits, recordAt};
 
 pub enum RecordRead {
-    // Kind 1, a port: where its index (4 bytes) and its name (16 bytes) start, and where the record ends.
+    // A port: where its index (4 bytes) and its name (16 bytes) start, and where the record ends.
     Port {
         index: usize,
         name: usize,
@@ -17,6 +17,16 @@ pub enum RecordRead {
     End,
 }
 
+// How many bytes a record of a kind takes, its kind byte with them; 0 for a kind that no record has.
+fn record_size(kind: u8) -> usize
+    ensures { λ r. ⌜ (r ≡ recordSize kind) × SizeFits r ⌝ }
+{
+    if kind == 1 {
+        return 21;
+    }
+    0
+}
+
 // The record at a place.
 pub fn read_record(roll: &[u8], at: usize) -> RecordRead
     ensures { λ r. ⌜ r ≡ recordAt (now (roll .entry)) at ⌝ }
@@ -24,15 +34,16 @@ pub fn read_record(roll: &[u8], at: usize) -> RecordRead
     if roll.len() <= at {
         return RecordRead::End;
     }
-    if roll[at] != 1 {
+    let size = record_size(roll[at]);
+    if size == 0 {
         return RecordRead::Unknown;
     }
-    if roll.len() - at < 21 {
+    if roll.len() - at < size {
         return RecordRead::Cut;
     }
     RecordRead::Port {
         index: at + 1,
         name: at + 5,
-        end: at + 21,
+        end: at + size,
     }
 }

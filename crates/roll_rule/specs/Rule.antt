@@ -1,27 +1,29 @@
 -- The rule of a roll (document 01, "The box a call is given", port roll).
 use Prim.Native.Nat.{ℕ}
 use mathlib.Core.List.{List}
-use mathlib.Core.Bool.{Bool, true, false, _&&_}
-use lib.Dec.{leb}
-use Rattle.basics.specs.Numbers.{u32At}
-use Rattle.roll.specs.Record.{Records, records, portCount}
-use Rattle.roll.specs.Record.Records.{done, broken, port}
-use Rattle.roll.specs.Name.{nameAt, nameRight}
-use Rattle.roll_distinct.specs.Distinct.{each, distinct}
-
--- no record is broken
-unfoldable pub whole : Records → Bool
-whole done = true
-whole broken = false
-whole (port i n e rest) = whole rest
+use mathlib.Core.Bool.{Bool, _&&_, not}
+use lib.Dec.{leb, eqb}
+use Rattle.basics.specs.Scan.{all}
+use Rattle.roll.specs.Record.{portCount, indexOf, nameOf}
+use Rattle.roll.specs.Name.{sameName, nameRight}
+use Rattle.roll.specs.Table.{listed}
 
 -- "Index 1 to 2,147,483,647; name 1 to 15 bytes that aren't NUL, then NULs only"
-unfoldable pub portRight : List ℕ → ℕ → ℕ → Bool
-portRight roll i n = leb 1 (u32At roll i) && (leb (u32At roll i) 2147483647 && nameRight (nameAt roll n))
+unfoldable pub portRight : List ℕ → ℕ → Bool
+portRight roll k = leb 1 (indexOf roll k) && (leb (indexOf roll k) 2147483647 && nameRight (nameOf roll k))
 
--- "1 to 64 ports", whole records to the roll's end, each port right, and no two alike
+-- the port at j has another index than x, and another name
+unfoldable pub another : List ℕ → ℕ → List ℕ → ℕ → Bool
+another roll x name j = not (eqb (indexOf roll j) x) && not (sameName (nameOf roll j) name)
+
+-- each port before the port at k has another index and another name
+unfoldable pub isNew : List ℕ → ℕ → Bool
+isNew roll k = all k (another roll (indexOf roll k) (nameOf roll k))
+
+-- "Indexes distinct, names distinct"
+unfoldable pub distinct : List ℕ → Bool
+distinct roll = all (portCount roll) (isNew roll)
+
+-- "1 to 64 ports" in whole records, each port right, and no two alike
 unfoldable pub rollRight : List ℕ → Bool
-rollRight roll =
-    whole (records roll 0)
-    && (leb 1 (portCount roll)
-    && (leb (portCount roll) 64 && (each (portRight roll) (records roll 0) && distinct roll (records roll 0))))
+rollRight roll = listed roll && (all (portCount roll) (portRight roll) && distinct roll)

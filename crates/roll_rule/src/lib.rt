@@ -1,109 +1,65 @@
-// The rule of a roll.
+// The rule of a roll, over the table of its ports.
+pub mod distinct;
+pub mod marks;
+
 ghost use mathlib.Core.Path.{_≡_};
-ghost use Rattle.roll.specs.Record.{records, portCount};
-ghost use Rattle.roll_rule.specs.Rule.{whole, portRight, rollRight};
-ghost use Rattle.roll_distinct.specs.Distinct.{each};
-use numbers::u32_at;
-use roll::count::ports;
-use roll::name::name_at;
+ghost use lib.ListN.{length};
+ghost use Prim.Native.Nat.{_<_};
+ghost use Rattle.basics.specs.Scan.{all};
+ghost use Rattle.roll.specs.Record.{portCount};
+ghost use Rattle.roll.specs.Table.{Tabled, Read};
+ghost use Rattle.roll_rule.specs.Rule.{portRight, rollRight};
+use crate::distinct::few_distinct;
+use crate::marks::many_distinct;
 use roll::name::name_right;
-use roll::record::RecordRead;
-use roll::record::read_record;
-use roll_distinct::few_distinct;
-use roll_distinct::marks::many_distinct;
+use roll::table::index_of;
+use roll::table::name_of;
 
 // So many ports are compared pair by pair sooner than by marks.
-const FEW: usize = 8;
-
-// Whether every record is whole and of a known kind.
-fn all_whole(roll: &[u8]) -> bool
-    ensures { λ r. ⌜ r ≡ whole (records (now (roll .entry)) 0) ⌝ }
-{
-    let mut at = 0;
-    loop {
-        match read_record(roll, at) {
-            RecordRead::Port { index, name, end } => {
-                at = end;
-            }
-            RecordRead::Unknown => {
-                return false;
-            }
-            RecordRead::Cut => {
-                return false;
-            }
-            RecordRead::End => {
-                return true;
-            }
-        }
-    }
-}
+const FEW: usize = 3;
 
 // Whether a port's index is 1 to 2,147,483,647 and its name is right.
-fn port_right(roll: &[u8], index: usize, name: usize) -> bool
-    ensures { λ r. ⌜ r ≡ portRight (now (roll .entry)) index name ⌝ }
+fn port_right(roll: &[u8], ports: &[u64], k: usize) -> bool
+    requires { ⌜ Tabled (now roll) (now ports) ⌝ }
+    requires { ⌜ k < length (now ports) ⌝ }
+    ensures { λ r. ⌜ r ≡ portRight (now (roll .entry)) k ⌝ }
 {
-    let number = u32_at(roll, index);
+    let number = index_of(roll, ports, k);
     if number < 1 {
         return false;
     }
     if 2147483647 < number {
         return false;
     }
-    name_right(name_at(roll, name))
+    name_right(name_of(roll, ports, k))
 }
 
 // Whether each port is so.
-fn ports_right(roll: &[u8]) -> bool
-    ensures { λ r. ⌜ r ≡ each (portRight (now (roll .entry))) (records (now (roll .entry)) 0) ⌝ }
+fn ports_right(roll: &[u8], ports: &[u64]) -> bool
+    requires { ⌜ Tabled (now roll) (now ports) ⌝ }
+    ensures { λ r. ⌜ r ≡ all (portCount (now (roll .entry))) (portRight (now (roll .entry))) ⌝ }
 {
-    let mut at = 0;
-    loop {
-        match read_record(roll, at) {
-            RecordRead::Port { index, name, end } => {
-                if !port_right(roll, index, name) {
-                    return false;
-                }
-                at = end;
-            }
-            RecordRead::Unknown => {
-                return true;
-            }
-            RecordRead::Cut => {
-                return true;
-            }
-            RecordRead::End => {
-                return true;
-            }
+    for k in 0..ports.len() {
+        if !port_right(roll, ports, k) {
+            return false;
         }
     }
+    true
 }
 
-// Whether a roll breaks no rule.
-pub fn roll_right(roll: &[u8]) -> bool
+// Whether a roll, of which this is the table, breaks no rule.
+pub fn roll_right(roll: &[u8], ports: &[u64]) -> bool
+    requires { ⌜ Read (now roll) (now ports) ⌝ }
     ensures { λ r. ⌜ r ≡ rollRight (now (roll .entry)) ⌝ }
 {
-    roll_right_of(roll, ports(roll))
-}
-
-// The same where it is known that the roll has n ports.
-pub fn roll_right_of(roll: &[u8], n: usize) -> bool
-    requires { ⌜ n ≡ portCount (now roll) ⌝ }
-    ensures { λ r. ⌜ r ≡ rollRight (now (roll .entry)) ⌝ }
-{
-    if !all_whole(roll) {
+    if ports.len() < 1 {
         return false;
     }
-    if n < 1 {
+    if !ports_right(roll, ports) {
         return false;
     }
-    if 64 < n {
-        return false;
+    if ports.len() <= FEW {
+        return few_distinct(roll, ports);
     }
-    if !ports_right(roll) {
-        return false;
-    }
-    if n <= FEW {
-        return few_distinct(roll);
-    }
-    many_distinct(roll)
+    many_distinct(roll, ports)
 }

@@ -7,11 +7,11 @@ use mathlib.Core.List.{List, [], _∷_, _++_, append-assoc, append-nil}
 use native.Mathlib.Nat.{zero-lt-suc}
 use native.Mathlib.Numerals.{add-one}
 use native.Mathlib.Omega.{arith}
-use lib.ListN.{length, take, drop, getD, set, length-append, List·getD-append, List·getD-eq-default}
-use lib.Seq.{take-suc, take-add, take-all, drop-cons, getD-at, getD-append-add, ext-getD}
+use lib.ListN.{length, take, getD, set, length-append, List·getD-append, List·getD-eq-default}
+use lib.Seq.{take-suc, take-add, take-all, getD-at, getD-append-add, ext-getD}
 use Rattle.basics.specs.Numbers.{le32, u32At}
 use Rattle.basics.specs.Put.{put}
-use Rattle.basics.proofs.Numbers.{digits32}
+use Rattle.basics.proofs.Numbers.{digits32, four-bytes}
 use Rattle.basics.proofs.Order.{lt-or-ge}
 use Rattle.basics.proofs.Put.{put-take}
 use Rattle.bits.specs.Set.{wordsOf}
@@ -94,26 +94,6 @@ words-of-bytes ws s =
 
 -- the bytes of the words in whole words' bytes are these
 module _ (s : List ℕ) (small : (i : ℕ) → getD s i 0 < 256) where
-  four : (p : ℕ) → p + 4 ≤ length s → take 4 (drop p s) ≡ le32 (u32At s p)
-  unfolding u32At
-  four p h =
-      ap (take 4) (next p (p + 1) refl (omega arith) (next (p + 1) (p + 2) (omega arith) (omega arith) (next (p + 2) (p + 3) (omega arith) (omega arith) (next (p + 3) (p + 4) (omega arith) (omega arith) refl))))
-      ∙ digits (getD s p 0) (getD s (p + 1) 0) (getD s (p + 2) 0) (getD s (p + 3) 0) (small p) (small (p + 1)) (small (p + 2)) (small (p + 3))
-    where
-      next : (q r : ℕ) {l : List ℕ} → r ≡ q + 1 → q < length s → drop r s ≡ l → drop q s ≡ getD s q 0 ∷ l
-      next q r {l} e u k = drop-cons s q 0 u ∙ ap (λ (x : List ℕ). getD s q 0 ∷ x) (ap (λ (m : ℕ). drop m s) (sym (add-one q) ∙ sym e) ∙ k)
-
-      digits : (a b c d : ℕ) → a < 256 → b < 256 → c < 256 → d < 256 → a ∷ b ∷ c ∷ d ∷ [] ≡ le32 (a + b * 256 + c * 65536 + d * 16777216)
-      digits a b c d ha hb hc hd =
-          let x0 : (a + b * 256 + c * 65536 + d * 16777216) % 256 ≡ a = omega arith in
-          let y1 : (a + b * 256 + c * 65536 + d * 16777216) / 256 ≡ b + c * 256 + d * 65536 = omega arith in
-          let y2 : (a + b * 256 + c * 65536 + d * 16777216) / 65536 ≡ c + d * 256 = omega arith in
-          let y3 : (a + b * 256 + c * 65536 + d * 16777216) / 16777216 ≡ d = omega arith in
-          let x1 : (b + c * 256 + d * 65536) % 256 ≡ b = omega arith in
-          let x2 : (c + d * 256) % 256 ≡ c = omega arith in
-          let x3 : d % 256 ≡ d = omega arith in
-          sym (rw (x0, y1, y2, y3, x1, x2, x3))
-
   front : (j : ℕ) → j ≤ length s / 4 → bytesOf (take j (wordsIn s)) ≡ take (j * 4) s
   unfolding bytesOf
   front zero h = refl
@@ -121,7 +101,7 @@ module _ (s : List ℕ) (small : (i : ℕ) → getD s i 0 < 256) where
       let up : j * 4 + 4 ≡ suc j * 4 = omega arith in
       ap (λ (k : ℕ). bytesOf (take k (wordsIn s))) (sym (add-one j))
       ∙ bytesOf-more (wordsIn s) j (omega (arith, length-wordsIn s))
-      ∙ ap₂ (λ (x y : List ℕ). x ++ y) (front j (omega arith)) (ap le32 (sym (word-in s j (omega arith))) ∙ sym (four (j * 4) (omega arith)))
+      ∙ ap₂ (λ (x y : List ℕ). x ++ y) (front j (omega arith)) (ap le32 (sym (word-in s j (omega arith))) ∙ sym (four-bytes s small (j * 4) (omega arith)))
       ∙ sym (take-add (j * 4) 4 s) ∙ ap (λ (k : ℕ). take k s) up
 
   pub bytes-of-words : length s % 4 ≡ 0 → bytesOf (wordsIn s) ≡ s

@@ -1,6 +1,7 @@
 use Prim.Native.Nat.{_-_}
 use mathlib.Core.Path.{_≡_}
 use lib.ListN.{length}
+use Rattle.boxes.specs.Box.{stateOf}
 use borrow.Author.Needs.{needs}
 use Rattle.answer.proofs.Laws.{SoFar, run-laws}
 use Rattle.answer.proofs.answer_all.Statement.{statement}
@@ -8,7 +9,7 @@ use Rattle.answer.proofs.answer_all.Tie as tie
 
 abbrev Inv-loop : tie.InvT-loop
 Inv-loop roll debug flags settings₀ datagram page₀ at₀ written₀ settings page at written =
-    SoFar datagram settings at (written .count) × (length page ≡ 32768) × (length page ≡ length page₀) × (length settings ≡ length settings₀)
+    SoFar datagram (stateOf settings) at (written .count) × (length page ≡ 32768) × (length page ≡ length page₀) × (length settings ≡ length settings₀)
 
 abbrev μ-loop : tie.MeasureT-loop
 μ-loop roll debug flags settings₀ datagram page₀ at₀ written₀ settings page at written = length datagram - at

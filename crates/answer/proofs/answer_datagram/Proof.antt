@@ -1,5 +1,5 @@
 use mathlib.Core.Path.{refl}
-use Rattle.answer.specs.Box.{portRoll, debugNames, flagNames, firstWords}
+use Rattle.answer.specs.Box.{portRoll, debugNames, flagNames, firstWords, programBox, firstState}
 use borrow.Author.Needs.{needs}
 use Rattle.answer.proofs.answer_datagram.Statement.{statement}
 use Rattle.answer.proofs.answer_datagram.Tie as tie
@@ -26,8 +26,8 @@ slice-aggregate-answer-all-3 : tie.Need-slice-aggregate-answer-all-3
 slice-aggregate-answer-all-3 c = search needs
 
 answer-all-requires : tie.Need-answer-all-requires
-unfolding portRoll debugNames flagNames firstWords
-answer-all-requires c κs = (record { roll-is = refl; debug-is = refl; flags-is = refl }, refl, search needs)
+unfolding portRoll debugNames flagNames firstWords programBox firstState
+answer-all-requires c κs = (refl, refl, search needs)
 
 returns : tie.Need-returns
 returns c = search needs

@@ -1,61 +1,65 @@
 -- Laws of the rules of the box: the first rule that is broken decides.
 use Prim.Native.Nat.{ℕ, _≤_, _<_}
-use mathlib.Core.Path.{_≡_, sym, _∙_}
+use mathlib.Core.Path.{_≡_, sym, ap, _∙_}
 use mathlib.Core.List.{List}
 use mathlib.Core.Bool.{Bool, true, false, _&&_, not}
 use borrow.Author.Tests.{le-leb, lt-leb, not-true, not-false}
 use Rattle.entries.specs.Entry.{count}
-use Rattle.names.specs.Rule.{namesRight}
-use Rattle.names.proofs.Rules as N
-use Rattle.roll.specs.Record.{portCount}
+use Rattle.roll.specs.Table.{Tabled, Read}
+use lib.ListN.{length}
 use Rattle.roll_rule.specs.Rule.{rollRight}
 use Rattle.roll_rule.proofs.Laws as R
+use Rattle.layout.specs.declared.Sizes.{Sizes}
+use Rattle.layout.specs.Layout.{Names, ofLists, AtMost}
+use Rattle.boxes.specs.declared.Call.{Call}
+use Rattle.boxes.specs.Box.{Box, State, portsIn, sizesIn}
 use Rattle.boxes.specs.Settings.{settingsRight}
-use Rattle.boxes.specs.Box.{familyRight, adminRight, boxRight}
+use Rattle.boxes.specs.Rule.{familyRight, adminRight, listsRight, boxRight}
+use Rattle.boxes.proofs.lists.Laws.{lists-few}
 
 -- the bounds by which the settings may be judged
-pub roll-few : (roll : List ℕ) (b : Bool) (n : ℕ) → b ≡ rollRight roll → not b ≡ false → n ≡ portCount roll → n ≤ 64
-roll-few roll b n e q en = rw en (R.right-means roll (sym e ∙ not-false b q) .few)
+module _ (roll t : List ℕ) (r : Read roll t) (b : Bool) (e : b ≡ rollRight roll) (q : not b ≡ false) where
+  pub roll-tabled : Tabled roll t
+  roll-tabled = R.right-tabled roll t r (sym e ∙ not-false b q)
 
-pub names-few : (names : List ℕ) (b : Bool) (n : ℕ) → b ≡ namesRight names → not b ≡ false → n ≡ count names → n ≤ 512
-names-few names b n e q en = rw en (N.right-means names (sym e ∙ not-false b q) .few)
+  pub roll-few : length t ≤ 64
+  roll-few = roll-tabled .few
 
-module _ (family admin : ℕ) (roll debug flags settings : List ℕ) where
-  pub family-low : family < 16 → false ≡ boxRight family admin roll debug flags settings
+pub sizes-few : (names : Names) (b : Bool) (sizes : Sizes) → b ≡ listsRight names → not b ≡ false → sizes ≡ ofLists count names → AtMost 512 sizes
+sizes-few names b sizes e q es = rw es (lists-few names (sym e ∙ not-false b q))
+
+module _ (box : Box) (state : State) (call : Call) where
+  pub family-low : call .family < 16 → false ≡ boxRight box state call
   unfolding boxRight familyRight
   family-low h = sym (rw (lt-leb _ _ h))
 
-  module _ (l : 16 ≤ family) where
-    pub family-high : 65535 < family → false ≡ boxRight family admin roll debug flags settings
+  module _ (l : 16 ≤ call .family) where
+    pub family-high : 65535 < call .family → false ≡ boxRight box state call
     unfolding boxRight familyRight
     family-high h = sym (rw (le-leb _ _ l, lt-leb _ _ h))
 
-    module _ (u : family ≤ 65535) where
-      pub admin-other : 1 < admin → false ≡ boxRight family admin roll debug flags settings
+    module _ (u : call .family ≤ 65535) where
+      pub admin-other : 1 < call .admin → false ≡ boxRight box state call
       unfolding boxRight familyRight adminRight
       admin-other h = sym (rw (le-leb _ _ l, le-leb _ _ u, lt-leb _ _ h))
 
-      module _ (a : admin ≤ 1) where
-        lists : boxRight family admin roll debug flags settings
-            ≡ rollRight roll && (namesRight debug && (namesRight flags && settingsRight settings (portCount roll) (count debug) (count flags)))
+      module _ (a : call .admin ≤ 1) where
+        lists : boxRight box state call ≡ rollRight (box .roll) && (listsRight (box .names) && settingsRight (state .words) (portsIn box) (sizesIn box))
         unfolding boxRight familyRight adminRight
         lists = rw (le-leb _ _ l, le-leb _ _ u, le-leb _ _ a)
 
-        module _ (r : Bool) (er : r ≡ rollRight roll) where
-          pub roll-wrong : not r ≡ true → false ≡ boxRight family admin roll debug flags settings
+        module _ (r : Bool) (er : r ≡ rollRight (box .roll)) where
+          pub roll-wrong : not r ≡ true → false ≡ boxRight box state call
           roll-wrong h = sym (lists ∙ rw (← er, not-true r h))
 
-          module _ (hr : not r ≡ false) (d : Bool) (ed : d ≡ namesRight debug) where
-            pub debug-wrong : not d ≡ true → false ≡ boxRight family admin roll debug flags settings
-            debug-wrong h = sym (lists ∙ rw (← er, not-false r hr, ← ed, not-true d h))
+          module _ (hr : not r ≡ false) (n : Bool) (en : n ≡ listsRight (box .names)) where
+            pub lists-wrong : not n ≡ true → false ≡ boxRight box state call
+            lists-wrong h = sym (lists ∙ rw (← er, not-false r hr, ← en, not-true n h))
 
-            module _ (hd : not d ≡ false) (f : Bool) (ef : f ≡ namesRight flags) where
-              pub flags-wrong : not f ≡ true → false ≡ boxRight family admin roll debug flags settings
-              flags-wrong h = sym (lists ∙ rw (← er, not-false r hr, ← ed, not-false d hd, ← ef, not-true f h))
+            pub settings-decide : (t : List ℕ) (sizes : Sizes) (b : Bool) → Read (box .roll) t → not n ≡ false → sizes ≡ sizesIn box
+                → b ≡ settingsRight (state .words) (length t) sizes → b ≡ boxRight box state call
+            settings-decide t sizes b rd h es eb =
+                let ep : length t ≡ portsIn box = roll-tabled (box .roll) t rd r er hr .count in
+                eb ∙ ap (λ (x : ℕ). settingsRight (state .words) x sizes) ep ∙ rw es (sym (lists ∙ rw (← er, not-false r hr, ← en, not-false n h)))
 
-              pub settings-decide : (ports nd nf : ℕ) (b : Bool) → not f ≡ false → ports ≡ portCount roll → nd ≡ count debug → nf ≡ count flags
-                  → b ≡ settingsRight settings ports nd nf → b ≡ boxRight family admin roll debug flags settings
-              settings-decide ports nd nf b h ep en em eb =
-                  eb ∙ rw (ep, en, em) (sym (lists ∙ rw (← er, not-false r hr, ← ed, not-false d hd, ← ef, not-false f h)))
-
-pub ruleset box-laws = (family-low, family-high, admin-other, roll-wrong, debug-wrong, flags-wrong, settings-decide)
+pub ruleset box-laws = (family-low, family-high, admin-other, roll-wrong, lists-wrong, settings-decide)

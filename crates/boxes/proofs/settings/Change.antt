@@ -10,10 +10,12 @@ use borrow.Author.Tests.{eq-eqb}
 use Rattle.basics.specs.Put.{splice}
 use Rattle.basics.proofs.Order.{lt-or-ge}
 use Rattle.basics.proofs.Scan.{all-of}
-use Rattle.bits.specs.Set.{wordsFor, noneFrom}
+use Rattle.bits.specs.Set.{noneFrom}
 use Rattle.layout.specs.declared.Set.{Set}
 use Rattle.layout.specs.declared.Set.the-variants.{Debug, Flags}
-use Rattle.layout.specs.Layout.{ofSet, place}
+use Rattle.layout.specs.declared.Sizes.{Sizes}
+use Rattle.layout.specs.Layout.{sizeOf, widths, place}
+use Rattle.layout.proofs.Laws.{each-every}
 use Rattle.boxes.specs.Settings.{setClear, portClear, settingsRight}
 use Rattle.layout.proofs.Kept.{change-length, change-own, change-other}
 use Rattle.boxes.proofs.settings.Laws.{Right, right-means}
@@ -33,39 +35,38 @@ same-number p q =
     (λ (h : q ≤ p). ⊎-elim (λ (l : q < p). inr (λ (e : p ≡ q). omega arith)) (λ (l : p ≤ q). inl (omega arith)) (lt-or-ge q p))
     (lt-or-ge p q)
 
-module _ (settings : List ℕ) (ports nd nf : ℕ) (right : settingsRight settings ports nd nf ≡ true) (position : ℕ) (h : position < ports) (set : Set)
-    (new : List ℕ) (fits : length new ≡ ofSet set (wordsFor nd) (wordsFor nf)) (clear : noneFrom new (ofSet set nd nf) ≡ true) where
+module _ (settings : List ℕ) (ports : ℕ) (sizes : Sizes) (right : settingsRight settings ports sizes ≡ true) (position : ℕ) (h : position < ports) (set : Set)
+    (new : List ℕ) (fits : length new ≡ sizeOf (widths sizes) set) (clear : noneFrom new (sizeOf sizes set) ≡ true) where
   abbrev changed : List ℕ
-  changed = splice (place ports (wordsFor nd) (wordsFor nf) position set) settings new
+  changed = splice (place ports (widths sizes) position set) settings new
 
-  means : Right settings ports nd nf
-  means = right-means settings ports nd nf right
+  means : Right settings ports sizes
+  means = right-means settings ports sizes right
 
-  other-clear : (p : ℕ) (s : Set) → p < ports → (position ≡ p → set ≡ s → ⊥) → setClear changed ports nd nf p s ≡ true
+  other-clear : (p : ℕ) (s : Set) → p < ports → (position ≡ p → set ≡ s → ⊥) → setClear changed ports sizes p s ≡ true
   unfolding setClear
   other-clear p s l n =
-      ap (λ (x : List ℕ). noneFrom x (ofSet s nd nf)) (change-other settings ports (wordsFor nd) (wordsFor nf) (means .exact) position h set new fits p s l n)
+      ap (λ (x : List ℕ). noneFrom x (sizeOf sizes s)) (change-other settings ports (widths sizes) (means .exact) position h set new fits p s l n)
       ∙ means .clear p l s
 
-  own-clear : (p : ℕ) (s : Set) → position ≡ p → set ≡ s → setClear changed ports nd nf p s ≡ true
+  own-clear : (p : ℕ) (s : Set) → position ≡ p → set ≡ s → setClear changed ports sizes p s ≡ true
   unfolding setClear
   own-clear p s ep es =
-      rw (← ep, ← es)
-      (ap (λ (x : List ℕ). noneFrom x (ofSet set nd nf)) (change-own settings ports (wordsFor nd) (wordsFor nf) (means .exact) position h set new fits) ∙ clear)
+      rw (← ep, ← es) (ap (λ (x : List ℕ). noneFrom x (sizeOf sizes set)) (change-own settings ports (widths sizes) (means .exact) position h set new fits) ∙ clear)
 
-  each-clear : (p : ℕ) (s : Set) → p < ports → setClear changed ports nd nf p s ≡ true
-  each-clear p s l =
+  each-clear : (p : ℕ) → p < ports → (s : Set) → setClear changed ports sizes p s ≡ true
+  each-clear p l s =
       ⊎-elim
       (λ ep. ⊎-elim (λ es. own-clear p s ep es) (λ ns. other-clear p s l (λ e f. ns f)) (same-set set s))
       (λ np. other-clear p s l (λ e f. np e))
       (same-number position p)
 
-  both-clear : (p : ℕ) → p < ports → portClear changed ports nd nf p ≡ true
+  port-clear : (p : ℕ) → p < ports → portClear changed ports sizes p ≡ true
   unfolding portClear
-  both-clear p l = rw (each-clear p Debug l, each-clear p Flags l)
+  port-clear p l = each-every (setClear changed ports sizes p) (each-clear p l)
 
-  pub change-right : settingsRight changed ports nd nf ≡ true
+  pub change-right : settingsRight changed ports sizes ≡ true
   unfolding settingsRight
   change-right =
       rw
-      (eq-eqb _ _ (change-length settings ports (wordsFor nd) (wordsFor nf) (means .exact) position h set new fits ∙ means .exact), all-of (portClear changed ports nd nf) ports both-clear)
+      (eq-eqb _ _ (change-length settings ports (widths sizes) (means .exact) position h set new fits ∙ means .exact), all-of (portClear changed ports sizes) ports port-clear)

@@ -10,7 +10,6 @@ use native.Mathlib.Omega.{arith}
 use borrow.Author.Tests.{lt-ltb, le-ltb, ltb-false, not-false}
 use Rattle.basics.specs.Numbers.{u32At}
 use Rattle.basics.proofs.Put.{put-nil}
-use Rattle.entries.specs.Entry.{count}
 use Rattle.netlink_headers.specs.Lengths.{roundUp4}
 use Rattle.netlink_headers.specs.Headers.{messageHeader}
 use Rattle.netlink_headers.specs.Messages.{messageAt}
@@ -21,10 +20,12 @@ use Rattle.netlink_headers.specs.declared.messages.MessageRead.{MessageRead}
 use Rattle.netlink_headers.specs.declared.messages.MessageRead.the-variants.{Message, Misstated, Cut, AtEnd, Outside}
 use Rattle.refusal.specs.declared.Refusal.{Refusal}
 use Rattle.refusal.specs.declared.Refusal.the-variants as R
-use Rattle.roll.specs.Record.{portCount}
-use Rattle.boxes.specs.Box.{boxRight}
+use Rattle.boxes.specs.Box.{Box, State, setOf}
+use Rattle.boxes.specs.Rule.{boxRight}
+use Rattle.boxes.specs.declared.Call.{Call}
 use Rattle.boxes.proofs.rule.Meaning.{box-means}
-use Rattle.boxes.proofs.settings.Laws as S
+use Rattle.roll.specs.Table.{Tabled, Read}
+use Rattle.roll_rule.proofs.Laws.{right-tabled}
 use Rattle.admission.specs.Admission.{admitted}
 use Rattle.admission.specs.declared.commands.Command.{Command}
 use Rattle.admission.specs.declared.Admission.{Admission}
@@ -37,92 +38,84 @@ use Rattle.response.specs.declared.Kind.the-variants.{End, Skipped, Refused}
 use Rattle.response.specs.declared.Answer.{Answer}
 use Rattle.obey.proofs.Laws.{leaves-did}
 
--- nothing is written, and the settings stay
-pub quiet-did : (o : Outcome) (k : Kind) (next : ℕ) (P ws : List ℕ) (r : Answer) → r ≡ record { kind = k; next = next; written = 0 } → o ≡ leaves (quiet k next) ws
-    → Did o P P ws r
-quiet-did o k next P ws r e q = rw q (record { said = record { result = e; page = sym (put-nil P) }; settings = refl })
+-- nothing is written, and the state stays
+pub quiet-did : (o : Outcome State) (k : Kind) (next : ℕ) (P : List ℕ) (state : State) (r : Answer) → r ≡ record { kind = k; next = next; written = 0 }
+    → o ≡ leaves (quiet k next) state → Did o P P state r
+quiet-did o k next P state r e q = rw q (record { said = record { result = e; page = sym (put-nil P) }; state-is = refl })
 
-module _ (roll debug flags ws m : List ℕ) (h : MessageHeader) (next : ℕ) (a : Admission) (P : List ℕ) (r : Answer) where
-  pub message-skipped : a ≡ A.Skipped → r ≡ record { kind = Skipped; next = next; written = 0 }
-      → Did (onAdmission a m next ws (obeyed roll debug flags ws m h next)) P P ws r
-  message-skipped q er = quiet-did _ Skipped next P ws r er (rw q)
+module _ (box : Box) (state : State) (m : List ℕ) (h : MessageHeader) (next : ℕ) (a : Admission) (P : List ℕ) (r : Answer) where
+  pub message-skipped : a ≡ A.Skipped → r ≡ record { kind = Skipped; next = next; written = 0 } → Did (onAdmission a box state m h next) P P state r
+  message-skipped q er = quiet-did _ Skipped next P state r er (rw q)
 
   module _ (Q : List ℕ) where
-    pub message-refused : (why : Refusal) → a ≡ A.Refused why → Said (refusal m next why) P Q r
-        → Did (onAdmission a m next ws (obeyed roll debug flags ws m h next)) P Q ws r
-    message-refused why q s = rw q (leaves-did (refusal m next why) P Q ws r s)
+    pub message-refused : (why : Refusal) → a ≡ A.Refused why → Said (refusal m next why) P Q r → Did (onAdmission a box state m h next) P Q state r
+    message-refused why q s = rw q (leaves-did (refusal m next why) P Q state r s)
 
-    pub message-go : (c : Command) (new : List ℕ) → a ≡ A.Go c → Did (obeyed roll debug flags ws m h next c) P Q new r
-        → Did (onAdmission a m next ws (obeyed roll debug flags ws m h next)) P Q new r
+    pub message-go : (c : Command) (new : State) → a ≡ A.Go c → Did (obeyed box state m (record { header = h; next = next; command = c })) P Q new r
+        → Did (onAdmission a box state m h next) P Q new r
     message-go c new q d = rw q d
 
 pub ruleset message-laws = (message-skipped, message-refused, message-go)
 
 -- a right box fits
-pub box-fit : (family admin : ℕ) (roll debug flags ws : List ℕ) (b : Bool) → b ≡ boxRight family admin roll debug flags ws → not b ≡ false → Fit roll debug flags ws
-box-fit family admin roll debug flags ws b e n =
-    let right = box-means family admin roll debug flags ws (sym e ∙ not-false b n) in
-    record {
-      ports = right .ports-few;
-      debug-few = right .debug-few;
-      flags-few = right .flags-few;
-      exact = right .exact;
-      clear = S.right-means ws (portCount roll) (count debug) (count flags) (right .settings-right) .clear;
-    }
+pub box-fit : (box : Box) (state : State) (call : Call) (b : Bool) → b ≡ boxRight box state call → not b ≡ false → Fit box state
+unfolding setOf
+box-fit box state call b e n =
+    let right = box-means box state call (sym e ∙ not-false b n) in
+    record { ports = right .ports-few; few = right .few; exact = right .settings .exact; clear = right .settings .clear }
+
+-- and its table holds its ports
+pub box-table : (box : Box) (state : State) (call : Call) (b : Bool) (t : List ℕ) → Read (box .roll) t → b ≡ boxRight box state call → not b ≡ false → Tabled (box .roll) t
+box-table box state call b t r e n = right-tabled (box .roll) t r (box-means box state call (sym e ∙ not-false b n) .roll-right)
 
 -- the message at the position
-module _ (family admin : ℕ) (roll debug flags ws datagram : List ℕ) (position : ℕ) (P : List ℕ) (x : MessageRead) (ex : x ≡ messageAt datagram position) where
-  by-message : positionOutcome family admin roll debug flags ws datagram position
-      ≡ onMessage x position ws (λ h end next. messageOutcome family admin roll debug flags ws (partOf datagram position end) h next)
+module _ (box : Box) (state : State) (call : Call) (datagram P : List ℕ) (x : MessageRead) (ex : x ≡ messageAt datagram (call .position)) where
+  by-message : positionOutcome box state call datagram
+      ≡ onMessage x call state (λ h end next. messageOutcome box state call (partOf datagram (call .position) end) h next)
   unfolding positionOutcome
   by-message = rw (← ex)
 
   module _ (r : Answer) where
-    pub at-outside : x ≡ Outside → r ≡ record { kind = Refused R.Datagram; next = position; written = 0 }
-        → Did (positionOutcome family admin roll debug flags ws datagram position) P P ws r
-    at-outside q er = quiet-did _ (Refused R.Datagram) position P ws r er (by-message ∙ rw q)
+    pub at-outside : x ≡ Outside → r ≡ record { kind = Refused R.Datagram; next = call .position; written = 0 } → Did (positionOutcome box state call datagram) P P state r
+    at-outside q er = quiet-did _ (Refused R.Datagram) (call .position) P state r er (by-message ∙ rw q)
 
-    pub at-end : x ≡ AtEnd → r ≡ record { kind = End; next = position; written = 0 }
-        → Did (positionOutcome family admin roll debug flags ws datagram position) P P ws r
-    at-end q er = quiet-did _ End position P ws r er (by-message ∙ rw q)
+    pub at-end : x ≡ AtEnd → r ≡ record { kind = End; next = call .position; written = 0 } → Did (positionOutcome box state call datagram) P P state r
+    at-end q er = quiet-did _ End (call .position) P state r er (by-message ∙ rw q)
 
-    pub at-cut : x ≡ Cut → r ≡ record { kind = Refused R.Datagram; next = position; written = 0 }
-        → Did (positionOutcome family admin roll debug flags ws datagram position) P P ws r
-    at-cut q er = quiet-did _ (Refused R.Datagram) position P ws r er (by-message ∙ rw q)
+    pub at-cut : x ≡ Cut → r ≡ record { kind = Refused R.Datagram; next = call .position; written = 0 } → Did (positionOutcome box state call datagram) P P state r
+    at-cut q er = quiet-did _ (Refused R.Datagram) (call .position) P state r er (by-message ∙ rw q)
 
-    pub at-misstated : x ≡ Misstated → r ≡ record { kind = Refused R.Length; next = position; written = 0 }
-        → Did (positionOutcome family admin roll debug flags ws datagram position) P P ws r
-    at-misstated q er = quiet-did _ (Refused R.Length) position P ws r er (by-message ∙ rw q)
+    pub at-misstated : x ≡ Misstated → r ≡ record { kind = Refused R.Length; next = call .position; written = 0 } → Did (positionOutcome box state call datagram) P P state r
+    at-misstated q er = quiet-did _ (Refused R.Length) (call .position) P state r er (by-message ∙ rw q)
 
-    pub at-message : (h : MessageHeader) (end next : ℕ) (m Q new : List ℕ) (a : Admission) → x ≡ Message h end next → m ≡ partOf datagram position end
-        → a ≡ admitted m h family (eqb admin 1) → Did (onAdmission a m next ws (obeyed roll debug flags ws m h next)) P Q new r
-        → Did (positionOutcome family admin roll debug flags ws datagram position) P Q new r
+    pub at-message : (h : MessageHeader) (end next : ℕ) (m Q : List ℕ) (new : State) (a : Admission) → x ≡ Message h end next → m ≡ partOf datagram (call .position) end
+        → a ≡ admitted m h (call .family) (eqb (call .admin) 1) → Did (onAdmission a box state m h next) P Q new r → Did (positionOutcome box state call datagram) P Q new r
     unfolding messageOutcome
     at-message h end next m Q new a q em ea d = rw (by-message, q, ← em, ← ea) d
 
 pub ruleset at-laws = (at-outside, at-end, at-cut, at-misstated, at-message)
 
 -- the box, the page, the datagram
-module _ (family admin : ℕ) (roll debug flags ws datagram : List ℕ) (position : ℕ) (P : List ℕ) (b : Bool) (e : b ≡ boxRight family admin roll debug flags ws) where
-  pub call-box : (r : Answer) → not b ≡ true → r ≡ record { kind = Refused R.Box; next = position; written = 0 }
-      → Did (outcome family admin roll debug flags ws datagram position (length P)) P P ws r
+module _ (box : Box) (state : State) (call : Call) (datagram P : List ℕ) (b : Bool) (e : b ≡ boxRight box state call) where
+  pub call-box : (r : Answer) → not b ≡ true → r ≡ record { kind = Refused R.Box; next = call .position; written = 0 }
+      → Did (outcome box state call datagram (length P)) P P state r
   unfolding outcome
-  call-box r z er = quiet-did _ (Refused R.Box) position P ws r er (rw (← e, z))
+  call-box r z er = quiet-did _ (Refused R.Box) (call .position) P state r er (rw (← e, z))
 
   module _ (right : not b ≡ false) where
-    pub call-page : (r : Answer) → length P < 32768 → r ≡ record { kind = Refused R.Page; next = position; written = 0 }
-        → Did (outcome family admin roll debug flags ws datagram position (length P)) P P ws r
+    pub call-page : (r : Answer) → length P < 32768 → r ≡ record { kind = Refused R.Page; next = call .position; written = 0 }
+        → Did (outcome box state call datagram (length P)) P P state r
     unfolding outcome
-    call-page r l er = quiet-did _ (Refused R.Page) position P ws r er (rw (← e, right, lt-ltb _ _ l))
+    call-page r l er = quiet-did _ (Refused R.Page) (call .position) P state r er (rw (← e, right, lt-ltb _ _ l))
 
     module _ (room : 32768 ≤ length P) where
-      pub call-long : (r : Answer) → 32768 < length datagram → r ≡ record { kind = Refused R.Datagram; next = position; written = 0 }
-          → Did (outcome family admin roll debug flags ws datagram position (length P)) P P ws r
+      pub call-long : (r : Answer) → 32768 < length datagram → r ≡ record { kind = Refused R.Datagram; next = call .position; written = 0 }
+          → Did (outcome box state call datagram (length P)) P P state r
       unfolding outcome
-      call-long r l er = quiet-did _ (Refused R.Datagram) position P ws r er (rw (← e, right, le-ltb _ _ room, lt-ltb _ _ l))
+      call-long r l er = quiet-did _ (Refused R.Datagram) (call .position) P state r er (rw (← e, right, le-ltb _ _ room, lt-ltb _ _ l))
 
-      pub call-at : length datagram ≤ 32768 → (Q new : List ℕ) (r : Answer) → Did (positionOutcome family admin roll debug flags ws datagram position) P Q new r
-          → Did (outcome family admin roll debug flags ws datagram position (length P)) P Q new r
+      pub call-at : length datagram ≤ 32768 → (Q : List ℕ) (new : State) (r : Answer) → Did (positionOutcome box state call datagram) P Q new r
+          → Did (outcome box state call datagram (length P)) P Q new r
       unfolding outcome
       call-at short Q new r d = rw (← e, right, le-ltb _ _ room, le-ltb _ _ short) d
 

@@ -1,19 +1,17 @@
-use Rattle.layout.specs.Layout.{words}
-use Rattle.layout.proofs.Laws.{words-room}
 use native.Mathlib.Omega.{arith}
+use Rattle.layout.proofs.Laws.{words-room, words-is}
 use borrow.Author.Needs.{needs}
 use Rattle.layout.proofs.words.Statement.{statement}
 use Rattle.layout.proofs.words.Tie as tie
 
-add-result : tie.Need-add-result
-add-result c = search needs
+port-words-requires : tie.Need-port-words-requires
+port-words-requires c κs = search needs
 
 mul-result : tie.Need-mul-result
-mul-result c = omega (arith, words-room _ _ _ (c .pre .0) (c .pre .1) (c .pre .2))
+mul-result c = omega (arith, words-room _ _ _ (c .before .pre .0) (c .before .pre .1) (c .port-words .ensures))
 
 returns : tie.Need-returns
-unfolding words
-returns c = search needs
+returns c = search (needs, words-is)
 
 pub words-spec : {M : Type 1} → statement M
-words-spec = tie.close (tie.spec add-result mul-result returns)
+words-spec = tie.close (tie.spec port-words-requires mul-result returns)

@@ -57,8 +57,8 @@ nul-run s i (suc n) inv h f =
     let k : i + suc n ≡ i + n + 1 = omega arith in
     rw k (nul-more s (i + n) (nul-run s i n inv (omega arith) (λ j l. f j (omega arith))) (omega arith) (eqb-false _ _ (f n (omega arith))))
 
-pub nul-four : (s : List ℕ) (i : ℕ) (b : Bool) → NulFrom s i → i + 4 ≤ length s → b ≡ any 4 (isNul s i) → b ≡ false → NulFrom s (i + 4)
-nul-four s i b inv h eb z = nul-run s i 4 inv h (λ j l. any-not (isNul s i) 4 j (sym eb ∙ z) l)
+pub nul-none : (s : List ℕ) (i n : ℕ) (b : Bool) → NulFrom s i → i + n ≤ length s → b ≡ any n (isNul s i) → b ≡ false → NulFrom s (i + n)
+nul-none s i n b inv h eb z = nul-run s i n inv h (λ j l. any-not (isNul s i) n j (sym eb ∙ z) l)
 
 pub ruleset nul-laws = (nul-start, nul-end, nul-here, nul-more)
 
@@ -72,8 +72,8 @@ module _ (s : List ℕ) (at : ℕ) where
   unfolding any isNul
   some-more j b e = rw (add-one j, e)
 
-  pub some-done : (j : ℕ) (b : Bool) → b ≡ any j (isNul s at) → j ≤ 4 → 4 ≤ j → b ≡ any 4 (isNul s at)
-  some-done j b e l u = let k : j ≡ 4 = omega arith in rw k at e
+  pub some-done : (j n : ℕ) (b : Bool) → b ≡ any j (isNul s at) → j ≤ n → n ≤ j → b ≡ any n (isNul s at)
+  some-done j n b e l u = let k : j ≡ n = omega arith in rw k at e
 
 module _ (max : ℕ) (s : List ℕ) (n : ℕ) (e : n ≡ nulAt s) where
   pub name-open : length s ≤ n → false ≡ isName max s

@@ -3,11 +3,17 @@ use borrow.Author.Needs.{needs}
 use Rattle.obey.proofs.change.Statement.{statement}
 use Rattle.obey.proofs.change.Tie as tie
 
-place-of-requires : tie.Need-place-of-requires
-place-of-requires c κs = search needs
+sizes-requires : tie.Need-sizes-requires
+sizes-requires c κs = search needs
 
-width-of-requires : tie.Need-width-of-requires
-width-of-requires c κs = search needs
+widths-requires : tie.Need-widths-requires
+widths-requires c κs = search needs
+
+place-requires : tie.Need-place-requires
+place-requires c κs = search (needs, change-laws)
+
+size-of-requires : tie.Need-size-of-requires
+size-of-requires c κs = search needs
 
 apply-requires : tie.Need-apply-requires
 apply-requires c κs = search (needs, change-laws)
@@ -20,4 +26,12 @@ returns c = search (needs, change-laws)
 
 pub change-spec : {M : Type 1} → statement M
 change-spec =
-    tie.close (tie.spec place-of-requires width-of-requires apply-requires same-length returns)
+    tie.close
+    (tie.spec
+    sizes-requires
+    widths-requires
+    place-requires
+    size-of-requires
+    apply-requires
+    same-length
+    returns)

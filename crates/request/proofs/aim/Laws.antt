@@ -19,9 +19,9 @@ module _ (t : Target) (flags : ℕ) where
   unfolding withFlags
   flags-refused why q = sym (rw q)
 
-  pub flags-port : (k i n e : ℕ) → t ≡ T.Port k i n e → Port k i n e flags ≡ withFlags t flags
+  pub flags-port : (k : ℕ) → t ≡ T.Port k → Port k flags ≡ withFlags t flags
   unfolding withFlags
-  flags-port k i n e q = sym (rw q)
+  flags-port k q = sym (rw q)
 
 pub ruleset flags-laws = (flags-refused, flags-port)
 

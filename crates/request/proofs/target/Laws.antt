@@ -1,5 +1,5 @@
 -- Laws of the search for the port: one for each return.
-use Prim.Native.Nat.{ℕ, _-_}
+use Prim.Native.Nat.{ℕ, _-_, _<_}
 use mathlib.Core.Path.{_≡_, sym, ap, _∙_}
 use mathlib.Core.List.{List}
 use mathlib.Core.Bool.{Bool, true, false, _&&_, not, cond}
@@ -10,30 +10,35 @@ use Rattle.netlink.specs.Walk.{slotNumber}
 use Rattle.netlink.specs.declared.walk.Slot.{Slot}
 use Rattle.refusal.specs.declared.Refusal.the-variants.{UnknownPort, OtherName}
 use Rattle.roll.specs.Find.{byIndex, byName}
-use Rattle.roll.specs.Name.{isNameAt}
+use Rattle.roll.specs.Name.{isName}
+use Rattle.roll.specs.Record.{portCount, nameOf}
+use Rattle.roll.specs.Table.{Tabled}
+use lib.ListN.{length}
+use Rattle.roll.proofs.find.Laws.{index-is}
 use Rattle.roll.specs.declared.find.Found.{Found}
 use Rattle.roll.specs.declared.find.Found.the-variants as F
 use Rattle.request.specs.Target.{onFound, otherName, portByIndex, portByName, targetOf}
 use Rattle.request.specs.declared.target.Target.{Target}
 use Rattle.request.specs.declared.target.Target.the-variants.{Port, Refused}
 
-module _ (m : List ℕ) (name : Slot) (roll : List ℕ) (at : ℕ) where
-  pub other-absent : not (name .present) ≡ true → false ≡ otherName m name roll at
+module _ (m : List ℕ) (name : Slot) (roll : List ℕ) (k : ℕ) where
+  pub other-absent : not (name .present) ≡ true → false ≡ otherName m name roll k
   unfolding otherName
-  other-absent h = sym (ap (λ (x : Bool). x && not (isNameAt roll at (partOf m (name .start) (name .end)))) (not-true (name .present) h))
+  other-absent h = sym (ap (λ (x : Bool). x && not (isName (nameOf roll k) (partOf m (name .start) (name .end)))) (not-true (name .present) h))
 
-  pub other-given : (p : List ℕ) (b : Bool) → not (name .present) ≡ false → p ≡ partOf m (name .start) (name .end) → b ≡ isNameAt roll at p
-      → not b ≡ otherName m name roll at
+  pub other-given : (s p : List ℕ) (b : Bool) → not (name .present) ≡ false → s ≡ nameOf roll k → p ≡ partOf m (name .start) (name .end) → b ≡ isName s p
+      → not b ≡ otherName m name roll k
   unfolding otherName
-  other-given p b h ep eb =
-      ap not (eb ∙ ap (isNameAt roll at) ep)
-      ∙ sym (ap (λ (x : Bool). x && not (isNameAt roll at (partOf m (name .start) (name .end)))) (not-false (name .present) h))
+  other-given s p b h es ep eb =
+      let e : b ≡ isName (nameOf roll k) (partOf m (name .start) (name .end)) = eb ∙ rw (es, ep) in
+      ap not e
+      ∙ sym (ap (λ (x : Bool). x && not (isName (nameOf roll k) (partOf m (name .start) (name .end)))) (not-false (name .present) h))
 
 pub ruleset other-laws = (other-absent, other-given)
 
 module _ (m : List ℕ) (header index name : Slot) (roll : List ℕ) (x : ℕ) (ex : x ≡ slotNumber m index) (f : Found) (ef : f ≡ byIndex roll x) where
-  judge : ℕ → ℕ → ℕ → ℕ → Target
-  judge k i n e = cond (otherName m name roll n) (Refused (OtherName (header .start - 4))) (Port k i n e)
+  judge : ℕ → Target
+  judge k = cond (otherName m name roll k) (Refused (OtherName (header .start - 4))) (Port k)
 
   by-index : portByIndex m header index name roll ≡ onFound f (Refused (UnknownPort (index .start - 4))) judge
   unfolding portByIndex judge
@@ -43,18 +48,22 @@ module _ (m : List ℕ) (header index name : Slot) (roll : List ℕ) (x : ℕ) (
   index-unknown at ea q =
       ap (λ (y : ℕ). Refused (UnknownPort y)) ea ∙ sym (by-index ∙ ap (λ (y : Found). onFound y (Refused (UnknownPort (index .start - 4))) judge) q)
 
-  module _ (k i n e : ℕ) (q : f ≡ F.Port k i n e) (b : Bool) (eb : b ≡ otherName m name roll n) where
-    found : portByIndex m header index name roll ≡ cond b (Refused (OtherName (header .start - 4))) (Port k i n e)
+  module _ (k : ℕ) (q : f ≡ F.At k) (b : Bool) (eb : b ≡ otherName m name roll k) where
+    found : portByIndex m header index name roll ≡ cond b (Refused (OtherName (header .start - 4))) (Port k)
     unfolding judge
     found =
         by-index ∙ ap (λ (y : Found). onFound y (Refused (UnknownPort (index .start - 4))) judge) q
-        ∙ ap (λ (y : Bool). cond y (Refused (OtherName (header .start - 4))) (Port k i n e)) (sym eb)
+        ∙ ap (λ (y : Bool). cond y (Refused (OtherName (header .start - 4))) (Port k)) (sym eb)
 
     pub index-other : (at : ℕ) → at ≡ header .start - 4 → b ≡ true → Refused (OtherName at) ≡ portByIndex m header index name roll
     index-other at ea h = ap (λ (y : ℕ). Refused (OtherName y)) ea ∙ sym (found ∙ cond-true b _ _ h)
 
-    pub index-found : b ≡ false → Port k i n e ≡ portByIndex m header index name roll
+    pub index-found : b ≡ false → Port k ≡ portByIndex m header index name roll
     index-found h = sym (found ∙ cond-false b _ _ h)
+
+-- the port that is found stands in the table
+pub index-here : (roll : List ℕ) (x k : ℕ) (f : Found) (t : List ℕ) → f ≡ byIndex roll x → f ≡ F.At k → Tabled roll t → k < length t
+index-here roll x k f t ef q tab = rw (tab .count) (index-is roll x k (sym ef ∙ q) .0)
 
 pub ruleset index-laws = (index-unknown, index-other, index-found)
 
@@ -66,8 +75,8 @@ module _ (m : List ℕ) (name : Slot) (roll p : List ℕ) (ep : p ≡ partOf m (
   pub name-unknown : (at : ℕ) → at ≡ name .start - 4 → f ≡ F.Nothing → Refused (UnknownPort at) ≡ portByName m name roll
   name-unknown at ea q = ap (λ (y : ℕ). Refused (UnknownPort y)) ea ∙ sym (rw q at by-name)
 
-  pub name-found : (k i n e : ℕ) → f ≡ F.Port k i n e → Port k i n e ≡ portByName m name roll
-  name-found k i n e q = sym (rw q at by-name)
+  pub name-found : (k : ℕ) → f ≡ F.At k → Port k ≡ portByName m name roll
+  name-found k q = sym (rw q at by-name)
 
 pub ruleset name-laws = (name-unknown, name-found)
 

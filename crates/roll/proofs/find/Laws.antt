@@ -1,115 +1,94 @@
--- Laws of the search for a port, over any test: how it goes on and ends, and where the port stands that it finds.
-use Prim.Native.Nat.{ℕ, suc, _+_, _<_, _≤_}
+-- Laws of the search for a port: how it goes on and ends, and what a port that it finds is.
+use Prim.Native.Nat.{ℕ, _+_, _<_, _≤_}
 use mathlib.Core.Path.{_≡_, refl, sym, ap, _∙_}
 use mathlib.Core.List.{List}
 use mathlib.Core.Bool.{Bool, true, false, cond}
-use native.Mathlib.Numerals.{add-one}
+use lib.Dec.{ltb}
 use native.Mathlib.Omega.{arith}
-use borrow.Author.Tests.{eq-eqb, ne-eqb}
-use Rattle.basics.specs.Numbers.{u32At}
-use Rattle.roll.specs.declared.record.RecordRead.{RecordRead}
-use Rattle.roll.specs.declared.record.RecordRead.the-variants as R
+use borrow.Author.Tests.{eq-eqb, ne-eqb, eqb-true, lt-ltb, le-ltb, ltb-true}
+use Rattle.basics.specs.Scan.{first}
+use Rattle.basics.proofs.Scan.{first-none, first-more, first-at, first-is}
 use Rattle.roll.specs.declared.find.Found.{Found}
-use Rattle.roll.specs.declared.find.Found.the-variants.{Port, Nothing}
-use Rattle.roll.specs.Record.{recordAt, Records, records, portsIn, portCount}
-use Rattle.roll.specs.Record.Records.{done, broken, port}
-use Rattle.roll.specs.Name.{isNameAt}
-use Rattle.roll.specs.Find.{find, isIndex, isNamed, byIndex, byName}
-use Rattle.roll.proofs.record.Laws.{Last, turn-last, turn-port}
+use Rattle.roll.specs.declared.find.Found.the-variants.{At, Nothing}
+use lib.ListN.{length}
+use Rattle.roll.specs.Record.{portCount, indexOf, nameOf}
+use Rattle.roll.specs.Name.{isName}
+use Rattle.roll.specs.Table.{Tabled}
+use Rattle.roll.specs.Find.{isIndex, isNamed, find, byIndex, byName}
 
--- the first k ports, which stand before a place, are passed
-abbrev pub FindFrom : (ℕ → ℕ → Bool) → List ℕ → ℕ → ℕ → Type 0
-FindFrom f roll k at = find f (records roll 0) 0 ≡ find f (records roll at) k
+-- the first k positions are passed
+abbrev pub Passed : (ℕ → Bool) → ℕ → Type 0
+Passed f k = first k f ≡ k
 
-module _ (f : ℕ → ℕ → Bool) (roll : List ℕ) (k at : ℕ) (inv : FindFrom f roll k at) (r : RecordRead) (e : r ≡ recordAt roll at) where
-  find-last : Last r → Nothing ≡ find f (records roll 0) 0
+module _ (f : ℕ → Bool) where
+  find-start : Passed f 0
+  find-start = first-none f
+
+  find-here : (n k : ℕ) → k < n → Passed f k → f k ≡ true → At k ≡ find n f
   unfolding find
-  find-last l = sym (inv ∙ turn-last roll at r e (λ (x : Records). find f x k) Nothing refl refl l)
+  find-here n k l h e = let a = first-at f n k l h e in sym (rw (a, lt-ltb k n l))
 
-  module _ (i n z : ℕ) (q : r ≡ R.Port i n z) where
-    passing : find f (records roll 0) 0 ≡ cond (f i n) (Port k i n z) (find f (records roll z) (suc k))
-    unfolding find
-    passing = inv ∙ ap (λ (x : Records). find f x k) (turn-port roll at r e i n z q)
+  find-none : (n k : ℕ) → Passed f k → k ≤ n → n ≤ k → Nothing ≡ find n f
+  unfolding find
+  find-none n k h l u = let e : k ≡ n = omega arith in let a : first n f ≡ n = rw e at h in sym (rw (a, le-ltb n n (omega arith)))
 
-    find-here : f i n ≡ true → Port k i n z ≡ find f (records roll 0) 0
-    find-here h = sym (rw h at passing)
-
-    find-next : f i n ≡ false → FindFrom f roll (k + 1) z
-    find-next h = rw (add-one k) (rw h at passing)
+  find-is : (n k : ℕ) → find n f ≡ At k → (k < n) × (f k ≡ true)
+  unfolding find
+  find-is n k h = go (ltb (first n f) n) refl h
+    where
+      go : (t : Bool) → ltb (first n f) n ≡ t → cond t (At (first n f)) Nothing ≡ At k → (k < n) × (f k ≡ true)
+      go true e h = let l = ltb-true (first n f) n e in let q : first n f ≡ k = cc in (rw q at l, rw q at (first-is f n l))
+      go false e h = absurd (let z : _≡_ {A = ℕ} 0 1 = cc in omega arith)
 
 -- by index
 module _ (roll : List ℕ) (x : ℕ) where
-  abbrev pub IndexFrom : ℕ → ℕ → Type 0
-  IndexFrom k at = FindFrom (isIndex roll x) roll k at
+  pub index-start : Passed (isIndex roll x) 0
+  index-start = find-start (isIndex roll x)
 
-  pub index-start : IndexFrom 0 0
-  index-start = refl
+  module _ (k : ℕ) (h : Passed (isIndex roll x) k) where
+    pub index-next : (y : ℕ) → y ≡ indexOf roll k → (y ≡ x → ⊥) → Passed (isIndex roll x) (k + 1)
+    unfolding isIndex
+    index-next y ey n = first-more (isIndex roll x) k h (ne-eqb _ _ (λ (p : indexOf roll k ≡ x). n (ey ∙ p)))
 
-  module _ (k at : ℕ) (inv : IndexFrom k at) (r : RecordRead) (e : r ≡ recordAt roll at) where
-    pub index-last : Last r → Nothing ≡ byIndex roll x
-    unfolding byIndex
-    index-last l = find-last (isIndex roll x) roll k at inv r e l
-
-    module _ (i n z : ℕ) (q : r ≡ R.Port i n z) (y : ℕ) (ey : y ≡ u32At roll i) where
-      pub index-here : y ≡ x → Port k i n z ≡ byIndex roll x
+    module _ (t : List ℕ) (tab : Tabled roll t) where
+      pub index-here : (y : ℕ) → k < length t → y ≡ indexOf roll k → y ≡ x → At k ≡ byIndex roll x
       unfolding byIndex isIndex
-      index-here h = find-here (isIndex roll x) roll k at inv r e i n z q (eq-eqb _ _ (sym ey ∙ h))
+      index-here y l ey q = find-here (isIndex roll x) (portCount roll) k (rw (tab .count) at l) h (eq-eqb _ _ (sym ey ∙ q))
 
-      pub index-next : (y ≡ x → ⊥) → IndexFrom (k + 1) z
-      unfolding isIndex
-      index-next h = find-next (isIndex roll x) roll k at inv r e i n z q (ne-eqb _ _ (λ (p : u32At roll i ≡ x). h (ey ∙ p)))
+      pub index-none : k ≤ length t → length t ≤ k → Nothing ≡ byIndex roll x
+      unfolding byIndex
+      index-none l u = find-none (isIndex roll x) (portCount roll) k h (rw (tab .count) at l) (rw (tab .count) at u)
 
-pub ruleset index-laws = (index-start, index-last, index-here, index-next)
+  pub index-is : (k : ℕ) → byIndex roll x ≡ At k → (k < portCount roll) × (indexOf roll k ≡ x)
+  unfolding byIndex isIndex
+  index-is k e = let r = find-is (isIndex roll x) (portCount roll) k e in (r .0, eqb-true _ _ (r .1))
+
+pub ruleset index-laws = (index-start, index-next, index-here, index-none)
 
 -- by name
 module _ (roll name : List ℕ) where
-  abbrev pub NameFrom : ℕ → ℕ → Type 0
-  NameFrom k at = FindFrom (isNamed roll name) roll k at
+  pub name-start : Passed (isNamed roll name) 0
+  name-start = find-start (isNamed roll name)
 
-  pub name-start : NameFrom 0 0
-  name-start = refl
-
-  module _ (k at : ℕ) (inv : NameFrom k at) (r : RecordRead) (e : r ≡ recordAt roll at) where
-    pub name-last : Last r → Nothing ≡ byName roll name
-    unfolding byName
-    name-last l = find-last (isNamed roll name) roll k at inv r e l
-
-    module _ (i n z : ℕ) (q : r ≡ R.Port i n z) (b : Bool) (eb : b ≡ isNameAt roll n name) where
-      pub name-here : b ≡ true → Port k i n z ≡ byName roll name
-      unfolding byName isNamed
-      name-here h = find-here (isNamed roll name) roll k at inv r e i n z q (sym eb ∙ h)
-
-      pub name-next : b ≡ false → NameFrom (k + 1) z
+  module _ (k : ℕ) (h : Passed (isNamed roll name) k) where
+    module _ (s : List ℕ) (b : Bool) (es : s ≡ nameOf roll k) (eb : b ≡ isName s name) where
+      named : b ≡ isNamed roll name k
       unfolding isNamed
-      name-next h = find-next (isNamed roll name) roll k at inv r e i n z q (sym eb ∙ h)
+      named = eb ∙ ap (λ (z : List ℕ). isName z name) es
 
-pub ruleset name-laws = (name-start, name-last, name-here, name-next)
+      pub name-next : b ≡ false → Passed (isNamed roll name) (k + 1)
+      name-next q = first-more (isNamed roll name) k h (sym named ∙ q)
 
--- a port that is found is one of n
-abbrev pub Below : ℕ → Found → Type 0
-Below n Nothing = 0 ≤ n
-Below n (Port k i m e) = k < n
+      pub name-here : (t : List ℕ) → Tabled roll t → k < length t → b ≡ true → At k ≡ byName roll name
+      unfolding byName
+      name-here t tab l q = find-here (isNamed roll name) (portCount roll) k (rw (tab .count) at l) h (sym named ∙ q)
 
-find-below : (f : ℕ → ℕ → Bool) (rs : Records) (k : ℕ) → Below (k + portsIn rs) (find f rs k)
-unfolding find portsIn
-find-below f done k = omega arith
-find-below f broken k = omega arith
-find-below f (port i n e rest) k =
-    let s : suc k + portsIn rest ≡ k + suc (portsIn rest) = omega arith in
-    go (f i n) (rw s at (find-below f rest (suc k)))
-  where
-    go : (b : Bool) → Below (k + suc (portsIn rest)) (find f rest (suc k))
-        → Below (k + suc (portsIn rest)) (cond b (Port k i n e) (find f rest (suc k)))
-    go true h = omega arith
-    go false h = h
+    pub name-none : (t : List ℕ) → Tabled roll t → k ≤ length t → length t ≤ k → Nothing ≡ byName roll name
+    unfolding byName
+    name-none t tab l u = find-none (isNamed roll name) (portCount roll) k h (rw (tab .count) at l) (rw (tab .count) at u)
 
-below-all : (f : ℕ → ℕ → Bool) (rs : Records) → Below (portsIn rs) (find f rs 0)
-below-all f rs = let z : 0 + portsIn rs ≡ portsIn rs = omega arith in rw z at (find-below f rs 0)
+  pub name-is : (k : ℕ) → byName roll name ≡ At k → (k < portCount roll) × (isName (nameOf roll k) name ≡ true)
+  unfolding byName isNamed
+  name-is k e = find-is (isNamed roll name) (portCount roll) k e
 
-pub index-below : (roll : List ℕ) (x : ℕ) → Below (portCount roll) (byIndex roll x)
-unfolding byIndex portCount
-index-below roll x = below-all (isIndex roll x) (records roll 0)
-
-pub name-below : (roll name : List ℕ) → Below (portCount roll) (byName roll name)
-unfolding byName portCount
-name-below roll name = below-all (isNamed roll name) (records roll 0)
+pub ruleset name-laws = (name-start, name-next, name-here, name-none)

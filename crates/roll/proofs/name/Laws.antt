@@ -16,7 +16,7 @@ use Rattle.basics.proofs.Scan.{all-none, all-more, all-fails, all-done, all-of,
 use Rattle.basics.proofs.Truth.{false-of, both-true, clash}
 use Rattle.netlink_attributes.specs.Attributes.{partOf}
 use Rattle.netlink_attributes.proofs.Laws.{part-past}
-use Rattle.roll.specs.Name.{nameAt, sameByte, sameName, isNameAt, nulThenNul, nameRight}
+use Rattle.roll.specs.Name.{nameAt, sameByte, sameName, isName, nulThenNul, nameRight}
 
 -- the field at a place
 module _ (roll : List ℕ) (at : ℕ) where
@@ -92,19 +92,19 @@ module _ (a b : List ℕ) where
         go true q = sym (fours-same (sym a0 ∙ e0 ∙ b0) (sym a4 ∙ e4 ∙ b4) (sym a8 ∙ e8 ∙ b8) (sym ex ∙ eqb-true _ _ q ∙ ey))
         go false q = four-differ 12 x y ex ey (λ p. clash (eq-eqb _ _ p) q) (omega arith)
 
--- the name at a place
-module _ (roll : List ℕ) (at : ℕ) (name : List ℕ) where
-  pub name-long : 16 < length name → false ≡ isNameAt roll at name
-  unfolding isNameAt
+-- a field that holds a name
+module _ (field name : List ℕ) where
+  pub name-long : 16 < length name → false ≡ isName field name
+  unfolding isName
   name-long h = sym (rw (lt-leb _ _ h))
 
-  pub name-fits : (f : List ℕ) (b : Bool) → length name ≤ 16 → f ≡ nameAt roll at → b ≡ sameName f name → b ≡ isNameAt roll at name
-  unfolding isNameAt
-  name-fits f b h ef eb = eb ∙ sym (rw (le-leb _ _ h, ← ef))
+  pub name-fits : (b : Bool) → length name ≤ 16 → b ≡ sameName field name → b ≡ isName field name
+  unfolding isName
+  name-fits b h eb = eb ∙ sym (rw (le-leb _ _ h))
 
-  pub named-same : isNameAt roll at name ≡ true → sameName (nameAt roll at) name ≡ true
-  unfolding isNameAt
-  named-same h = both-true (leb (length name) 16) (sameName (nameAt roll at) name) h .1
+  pub named-same : isName field name ≡ true → sameName field name ≡ true
+  unfolding isName
+  named-same h = both-true (leb (length name) 16) (sameName field name) h .1
 
 pub ruleset named-laws = (name-long, name-fits)
 

@@ -1,6 +1,5 @@
+use native.Mathlib.Omega.{arith}
 use Rattle.layout.proofs.Laws.{words-few, place-inside, set-is}
-use native.Mathlib.Omega.{arith}
-use native.Mathlib.Omega.{arith}
 use borrow.Author.Needs.{needs}
 use Rattle.boxes.proofs.settings.set_at.Statement.{statement}
 use Rattle.boxes.proofs.settings.set_at.Tie as tie
@@ -8,14 +7,14 @@ use Rattle.boxes.proofs.settings.set_at.Tie as tie
 place-requires : tie.Need-place-requires
 place-requires c κs = search needs
 
-number-of-requires : tie.Need-number-of-requires
-number-of-requires c κs = search needs
+size-of-requires : tie.Need-size-of-requires
+size-of-requires c κs = search needs
 
 add-end : tie.Need-add-end
-add-end c = let s = c .before .before .before in let p = s .pre .0 in let a = s .args in omega (arith, place-inside (a .ports) (a .wd) (a .wf) (a .position) (a .set) (p .0), words-few (a .ports) (a .wd) (a .wf) (p .1) (p .2) (p .3))
+add-end c = let s = c .before .before .before in let a = s .args in let p = s .pre .0 in omega (arith, place-inside (a .ports) (a .width) (a .position) (a .set) (p .0), words-few (a .ports) (a .width) (p .1) (p .2))
 
 mul-result : tie.Need-mul-result
-mul-result c = let s = c .before .before .before in let p = s .pre .0 in let a = s .args in omega (arith, place-inside (a .ports) (a .wd) (a .wf) (a .position) (a .set) (p .0), words-few (a .ports) (a .wd) (a .wf) (p .1) (p .2) (p .3))
+mul-result c = let s = c .before .before .before in let a = s .args in let p = s .pre .0 in omega (arith, place-inside (a .ports) (a .width) (a .position) (a .set) (p .0), words-few (a .ports) (a .width) (p .1) (p .2))
 
 sub-result : tie.Need-sub-result
 sub-result c = search needs
@@ -24,7 +23,7 @@ part-result-start : tie.Need-part-result-start
 part-result-start c = search needs
 
 part-result-end : tie.Need-part-result-end
-part-result-end c = let s = c .before .before .before in let p = s .pre .0 in let a = s .args in omega (arith, place-inside (a .ports) (a .wd) (a .wf) (a .position) (a .set) (p .0), words-few (a .ports) (a .wd) (a .wf) (p .1) (p .2) (p .3))
+part-result-end c = let s = c .before .before .before in let a = s .args in let p = s .pre .0 in omega (arith, place-inside (a .ports) (a .width) (a .position) (a .set) (p .0), words-few (a .ports) (a .width) (p .1) (p .2))
 
 returns : tie.Need-returns
 returns c = search (needs, set-is)
@@ -34,7 +33,7 @@ set-at-spec =
     tie.close
     (tie.spec
     place-requires
-    number-of-requires
+    size-of-requires
     add-end
     mul-result
     sub-result

@@ -3,25 +3,23 @@ use mathlib.Core.Path.{_≡_}
 use mathlib.Core.Bool.{true}
 use Rattle.basics.specs.Scan.{all}
 use Rattle.boxes.specs.Settings.{portClear}
+use Rattle.layout.proofs.Laws.{widths-few}
 use Rattle.boxes.proofs.settings.Laws.{settings-laws}
 use borrow.Author.Needs.{needs}
 use Rattle.boxes.proofs.settings.settings_right.Statement.{statement}
 use Rattle.boxes.proofs.settings.settings_right.Tie as tie
 
 abbrev Inv-loop : tie.InvT-loop
-Inv-loop settings ports nd nf position₀ position = (position ≤ ports) × (all position (portClear settings ports nd nf) ≡ true)
+Inv-loop settings ports sizes position₀ position = (position ≤ ports) × (all position (portClear settings ports sizes) ≡ true)
 
 abbrev μ-loop : tie.MeasureT-loop
-μ-loop settings ports nd nf position₀ position = ports - position
+μ-loop settings ports sizes position₀ position = ports - position
 
-words-for-requires : tie.Need-words-for-requires Inv-loop μ-loop
-words-for-requires c κs = search (needs, settings-laws)
-
-words-for-requires-2 : tie.Need-words-for-requires-2 Inv-loop μ-loop
-words-for-requires-2 c κs = search (needs, settings-laws)
+widths-requires : tie.Need-widths-requires Inv-loop μ-loop
+widths-requires c κs = search (needs, settings-laws)
 
 words-requires : tie.Need-words-requires Inv-loop μ-loop
-words-requires c κs = search (needs, settings-laws)
+words-requires c κs = search (needs, widths-few)
 
 returns : tie.Need-returns Inv-loop μ-loop
 returns c = search (needs, settings-laws)
@@ -53,8 +51,7 @@ settings-right-spec =
     (tie.spec
     Inv-loop
     μ-loop
-    words-for-requires
-    words-for-requires-2
+    widths-requires
     words-requires
     returns
     loop-holds

@@ -52,7 +52,7 @@ admit-requires : tie.Need-admit-requires
 admit-requires c κs = search needs
 
 answer-message-requires : tie.Need-answer-message-requires
-answer-message-requires c κs = ((search needs, search (needs, message-long)), search needs)
+answer-message-requires c κs = ((search needs, search (needs, message-long)), (search needs, search needs))
 
 same-length : tie.Need-same-length
 same-length c = search needs

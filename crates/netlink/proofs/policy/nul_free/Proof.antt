@@ -3,7 +3,7 @@ use lib.ListN.{length}
 use native.Mathlib.Omega.{arith}
 use borrow.Author.Needs.{needs}
 use Rattle.netlink.specs.Policy.{NulFrom}
-use Rattle.netlink.proofs.policy.Laws.{nul-start, nul-four}
+use Rattle.netlink.proofs.policy.Laws.{nul-start, nul-none}
 use Rattle.netlink.proofs.policy.nul_free.Statement.{statement}
 use Rattle.netlink.proofs.policy.nul_free.Tie as tie
 
@@ -32,7 +32,7 @@ loop-less : tie.Need-loop-less Inv-loop μ-loop
 loop-less c = search (needs, nul-start)
 
 loop-again : tie.Need-loop-again Inv-loop μ-loop
-loop-again c = (omega arith, nul-four _ _ _ (search needs) (omega arith) (c .before .some-nul .ensures) (c .if1 .left))
+loop-again c = (omega arith, nul-none _ _ _ _ (search needs) (omega arith) (c .before .some-nul .ensures) (c .if1 .left))
 
 returns-2 : tie.Need-returns-2 Inv-loop μ-loop
 returns-2 c = search (needs, nul-start)

@@ -9,10 +9,10 @@ use Rattle.netlink.proofs.policy.some_nul.Statement.{statement}
 use Rattle.netlink.proofs.policy.some_nul.Tie as tie
 
 abbrev Inv-loop : tie.InvT-loop
-Inv-loop s at some₀ j₀ some j = (j ≤ 4) × (some ≡ any j (isNul s at))
+Inv-loop s at n some₀ j₀ some j = (j ≤ n) × (some ≡ any j (isNul s at))
 
 abbrev μ-loop : tie.MeasureT-loop
-μ-loop s at some₀ j₀ some j = 4 - j
+μ-loop s at n some₀ j₀ some j = n - j
 
 loop-holds : tie.Need-loop-holds Inv-loop μ-loop
 loop-holds c = search (needs, some-start, some-done)

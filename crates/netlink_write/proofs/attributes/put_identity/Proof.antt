@@ -1,5 +1,5 @@
 use native.Mathlib.Omega.{arith}
-use Rattle.netlink_write.proofs.attributes.Laws.{nul-le, identity-plain, identity-named}
+use Rattle.netlink_write.proofs.attributes.Laws.{identity-plain, identity-named}
 use borrow.Author.Needs.{needs}
 use Rattle.netlink_write.proofs.attributes.put_identity.Statement.{statement}
 use Rattle.netlink_write.proofs.attributes.put_identity.Tie as tie
@@ -7,8 +7,8 @@ use Rattle.netlink_write.proofs.attributes.put_identity.Tie as tie
 put-number-requires : tie.Need-put-number-requires
 put-number-requires c κs = search needs
 
-nul-at-requires : tie.Need-nul-at-requires
-nul-at-requires c κs = search needs
+no-name-requires : tie.Need-no-name-requires
+no-name-requires c κs = search needs
 
 same-length : tie.Need-same-length
 same-length c = search needs
@@ -16,22 +16,22 @@ same-length c = search needs
 returns : tie.Need-returns
 returns c =
     let one = c .before .before .before .before .put-number .ensures in
-    (identity-plain _ _ _ (c .before .nul-at .ensures) _ _ _ (c .if1 .taken) (one .1) (one .0), omega arith)
+    (identity-plain _ _ _ (c .before .no-name .ensures) _ _ _ (c .if1 .taken) (one .1) (one .0), omega arith)
 
-sub-put-named : tie.Need-sub-put-named
-sub-put-named c = search needs
+sub-put-name : tie.Need-sub-put-name
+sub-put-name c = search needs
 
-part-put-named-start : tie.Need-part-put-named-start
-part-put-named-start c = search needs
+part-put-name-start : tie.Need-part-put-name-start
+part-put-name-start c = search needs
 
-part-put-named-end : tie.Need-part-put-named-end
-part-put-named-end c = search needs
+part-put-name-end : tie.Need-part-put-name-end
+part-put-name-end c = search needs
 
-put-named-requires : tie.Need-put-named-requires
-put-named-requires c κs = search needs
+put-name-requires : tie.Need-put-name-requires
+put-name-requires c κs = search needs
 
 add-result : tie.Need-add-result
-add-result c = omega (arith, nul-le (c .before .before .before .before .before .before .before .before .before .before .before .before .args .name .now))
+add-result c = search needs
 
 same-length-2 : tie.Need-same-length-2
 same-length-2 c = search needs
@@ -39,22 +39,22 @@ same-length-2 c = search needs
 returns-2 : tie.Need-returns-2
 returns-2 c =
     let one = c .before .before .before .before .before .before .before .before .put-number .ensures in
-    let two = c .before .before .put-named .ensures in
+    let two = c .before .before .put-name .ensures in
     let start = c .before .before .before .before .before .before .before .before .before .before .before .before in
-    (identity-named _ _ _ (c .before .before .before .before .before .nul-at .ensures) _ _ _ _ _ (c .before .before .before .before .if1 .left) (start .pre .1) (one .1) (one .0) (two .0), omega (arith, two .1))
+    (identity-named _ _ _ (c .before .before .before .before .before .no-name .ensures) _ _ _ _ _ (c .before .before .before .before .if1 .left) (start .pre .1) (one .1) (one .0) (two .0), omega (arith, two .1))
 
 pub put-identity-spec : {M : Type 1} → statement M
 put-identity-spec =
     tie.close
     (tie.spec
     put-number-requires
-    nul-at-requires
+    no-name-requires
     same-length
     returns
-    sub-put-named
-    part-put-named-start
-    part-put-named-end
-    put-named-requires
+    sub-put-name
+    part-put-name-start
+    part-put-name-end
+    put-name-requires
     add-result
     same-length-2
     returns-2)

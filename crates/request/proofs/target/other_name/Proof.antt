@@ -6,14 +6,18 @@ use Rattle.request.proofs.target.other_name.Tie as tie
 returns : tie.Need-returns
 returns c = search (needs, other-laws)
 
+name-of-requires : tie.Need-name-of-requires
+name-of-requires c κs = search needs
+
 payload-requires : tie.Need-payload-requires
 payload-requires c κs = search needs
 
-same-name-requires : tie.Need-same-name-requires
-same-name-requires c κs = search needs
+is-name-requires : tie.Need-is-name-requires
+is-name-requires c κs = search needs
 
 returns-2 : tie.Need-returns-2
 returns-2 c = search (needs, other-laws)
 
 pub other-name-spec : {M : Type 1} → statement M
-other-name-spec = tie.close (tie.spec returns payload-requires same-name-requires returns-2)
+other-name-spec =
+    tie.close (tie.spec returns name-of-requires payload-requires is-name-requires returns-2)

@@ -1,4 +1,4 @@
-use Rattle.request.proofs.target.Laws.{index-laws}
+use Rattle.request.proofs.target.Laws.{index-laws, index-here}
 use borrow.Author.Needs.{needs}
 use Rattle.request.proofs.target.port_by_index.Statement.{statement}
 use Rattle.request.proofs.target.port_by_index.Tie as tie
@@ -22,7 +22,7 @@ enum-known-position : tie.Need-enum-known-position
 enum-known-position c = search needs
 
 other-name-requires : tie.Need-other-name-requires
-other-name-requires c κs = search needs
+other-name-requires c κs = search (needs, index-here)
 
 place-requires-2 : tie.Need-place-requires-2
 place-requires-2 c κs = search needs

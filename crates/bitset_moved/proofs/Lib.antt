@@ -1,0 +1,7 @@
+pub mod Attributes
+pub mod Walk
+pub mod Compact
+pub mod Bit
+pub mod BitList
+pub mod Bitset
+pub mod Both

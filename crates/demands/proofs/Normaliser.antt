@@ -1,0 +1,206 @@
+-- Demands 2 and 3 speak of one bitset.
+--     set-alike        a SET that comes to its bitset: done where the normaliser, given the payload alone, answers 0 and writes the normal form of
+--                      the bitset that is carried out; refused by the number by which the normaliser refuses
+--     done-normal      the bitset of a done SET is the one whose normal form the normaliser writes
+use Prim.Native.Nat.{ℕ, _+_, _-_, _≤_, _<_}
+use mathlib.Core.Path.{_≡_, refl, sym, ap, _∙_}
+use mathlib.Core.List.{List}
+use mathlib.Core.Bool.{Bool, true, false, _&&_, not, cond}
+use mathlib.Core.Logic.{⊎-elim}
+use lib.ListN.{length, length-take, length-drop, getD}
+use lib.Dec.{eqb, ltb}
+use native.Mathlib.Omega.{arith}
+use borrow.Author.Tests.{lt-ltb, ltb-false}
+use Rattle.basics.specs.Numbers.{u32At}
+use Rattle.basics.proofs.Order.{lt-or-ge}
+use Rattle.basics.proofs.Truth.{clash}
+use Rattle.entries.specs.Entry.{count}
+use Rattle.names.specs.Rule.{namesRight}
+use Rattle.netlink_attributes.specs.Attributes.{partOf}
+use Rattle.netlink_attributes.proofs.Laws.{part-in, part-past, part-back}
+use Rattle.netlink_headers.specs.Headers.{messageHeader}
+use Rattle.netlink_headers.specs.declared.headers.MessageHeader.{MessageHeader}
+use Rattle.netlink.specs.Walk.{absent, walked}
+use Rattle.netlink.specs.declared.walk.Slot.{Slot}
+use Rattle.netlink.specs.declared.walk.Stop.{Stop}
+use Rattle.netlink.specs.declared.walk.Stop.the-variants.{Whole, At}
+use Rattle.refusal.specs.Refusal.{numberOf, onStop}
+use Rattle.refusal.specs.declared.Refusal.the-variants as R
+use Rattle.bitset_form.specs.Bitset.{Reading}
+use Rattle.bitset_form.specs.Bitset.Reading.{refused, accepted}
+use Rattle.bitset.specs.Judge.{bitsetReading}
+use Rattle.bitset_moved.proofs.Walk.{slot-inside}
+use Rattle.bitset_moved.proofs.Both.{both-accept, both-refuse}
+use Rattle.normal.specs.Normal.{normalForm}
+use Rattle.boxes.specs.Box.{Box, State}
+use Rattle.boxes.specs.declared.Call.{Call}
+use Rattle.boxes.specs.Rule.{boxRight}
+use Rattle.boxes.proofs.rule.Meaning.{box-means}
+use Rattle.admission.specs.Admission.{admitted}
+use Rattle.admission.specs.declared.Admission.{Admission}
+use Rattle.admission.specs.declared.Admission.the-variants as A
+use Rattle.request.specs.Policies.{topPolicy}
+use Rattle.request.specs.Top.{nestsOf, topOf}
+use Rattle.request.specs.declared.top.Top.{Top}
+use Rattle.request.specs.declared.top.Top.the-variants as T
+use Rattle.request.specs.declared.aim.Aim.{Aim}
+use Rattle.response.specs.Answer.{Outcome, speech, done, leaves}
+use Rattle.response.specs.declared.Kind.the-variants.{Done}
+use Rattle.obey.specs.declared.Asked.{Asked}
+use Rattle.obey.specs.Obey.{gotten, onReading, setOutcome, deed, onAim, aimed, onTop, obeyed}
+use Rattle.handler.specs.Call.{stays, onAdmission, messageOutcome, positionOutcome, outcome, isOver}
+use Rattle.demands.specs.Call.{messageOf}
+use Rattle.demands.specs.CallCase.{CallCase}
+use Rattle.demands.specs.CallCase.CallCase.{over, stayed, answered}
+use Rattle.demands.specs.Message.{Named, askedOf}
+use Rattle.demands.specs.Done.{DoneSet}
+use Rattle.demands.specs.Normaliser.{namesFor, normalOf, Alike}
+use Rattle.demands.specs.Normaliser.Alike.{both-done, both-refused}
+use Rattle.demands.proofs.Bitset.{kindOf}
+use Rattle.demands.proofs.Request.{kind, message-first}
+use Rattle.demands.proofs.CallCase.{call-case}
+
+-- a part is no longer than the whole
+part-short : (s : List ℕ) (a e : ℕ) → length (partOf s a e) ≤ length s
+part-short s a e =
+    ⊎-elim
+    (λ (h : e < a). rw (← part-back s a e h) (omega arith))
+    (λ (h : a ≤ e). ⊎-elim
+    (λ (g : length s < e). rw (← part-past s a e h g) (omega arith))
+    (λ (g : e ≤ length s). rw (← part-in s a e h g) (simp (length-take, length-drop) (omega arith)))
+    (lt-or-ge (length s) e))
+    (lt-or-ge e a)
+
+-- the bitset that is named stands inside the message
+module _ (roll m : List ℕ) (n : Named roll m) where
+  abbrev slots : List Slot
+  slots = walked (topPolicy (n .command .change)) m 20 .slots
+
+  bitset-inside : (n .bitset .start ≤ n .bitset .end) × (n .bitset .end ≤ length m)
+  unfolding topOf nestsOf
+  bitset-inside = go (walked (topPolicy (n .command .change)) m 20 .stop) refl (n .nests)
+    where
+      is-it : (a b : Bool) → cond a (T.Refused (R.MissingTop 1)) (cond b (T.Refused (R.MissingTop 2)) (T.Nests (getD slots 1 absent) (getD slots 2 absent)))
+          ≡ T.Nests (n .header) (n .bitset) → getD slots 2 absent ≡ n .bitset
+      is-it true b e = absurd (let z : _≡_ {A = ℕ} 0 1 = cc in omega arith)
+      is-it false true e = absurd (let z : _≡_ {A = ℕ} 0 1 = cc in omega arith)
+      is-it false false e = cc
+
+      go : (t : Stop) → walked (topPolicy (n .command .change)) m 20 .stop ≡ t
+          → onStop t T.Refused
+          (cond (not (getD slots 1 absent .present)) (T.Refused (R.MissingTop 1))
+          (cond (n .command .change && not (getD slots 2 absent .present)) (T.Refused (R.MissingTop 2)) (T.Nests (getD slots 1 absent) (getD slots 2 absent))))
+          ≡ T.Nests (n .header) (n .bitset)
+          → (n .bitset .start ≤ n .bitset .end) × (n .bitset .end ≤ length m)
+      go (At fault at) w e = absurd (let z : _≡_ {A = ℕ} 0 1 = cc in omega arith)
+      go Whole w e =
+          let q = is-it (not (getD slots 1 absent .present)) (n .command .change && not (getD slots 2 absent .present)) e in
+          rw q at (slot-inside m (topPolicy (n .command .change)) 20 w 2 (omega arith))
+
+module _ (box : Box) (state : State) (call : Call) (datagram : List ℕ) (room : ℕ) where
+  abbrev position : ℕ
+  position = call .position
+
+  abbrev o : Outcome State
+  o = outcome box state call datagram room
+
+  abbrev m : List ℕ
+  m = messageOf datagram position
+
+  abbrev h : MessageHeader
+  h = messageHeader datagram position
+
+  -- neither the end nor 1 to 4
+  module _ (going : isOver (o .said .kind) ≡ false) where
+    within : length datagram ≤ 32768
+    unfolding outcome
+    within = go (not (boxRight box state call)) (ltb room 32768) (ltb 32768 (length datagram)) refl going
+      where
+        go : (a b c : Bool) → ltb 32768 (length datagram) ≡ c
+            → isOver
+            (cond a (stays R.Box call state)
+            (cond b (stays R.Page call state)
+            (cond c (stays R.Datagram call state) (positionOutcome box state call datagram))) .said .kind)
+            ≡ false
+            → length datagram ≤ 32768
+        go true b c e q = absurd (clash refl q)
+        go false true c e q = absurd (clash refl q)
+        go false false true e q = absurd (clash refl q)
+        go false false false e q = ltb-false 32768 (length datagram) e
+
+    payload-short : (a e : ℕ) → length (partOf m a e) ≤ 32768
+    unfolding messageOf
+    payload-short a e =
+        let w = within in
+        omega (arith, part-short m a e, part-short datagram position (position + u32At datagram position))
+
+    right : boxRight box state call ≡ true
+    right = by (call-case box state call datagram room)
+      where
+        by : CallCase box state call datagram o → boxRight box state call ≡ true
+        by (over e) = absurd (clash (ap (λ (x : Outcome State). isOver (x .said .kind)) e) going)
+        by (stayed w l e) = absurd (clash (ap (λ (x : Outcome State). isOver (x .said .kind)) e ∙ lt-ltb (numberOf w) 5 (omega arith)) going)
+        by (answered next right lo hi long first c) = right
+
+    module _ (n : Named (box .roll) m) where
+      abbrev reading : Reading
+      reading = bitsetReading (partOf m 0 (n .bitset .end)) (n .bitset .start) (namesFor box m n)
+
+      -- a SET that is admitted, names a port and so comes to its bitset
+      module _ (change : n .command .change ≡ true) (admit : admitted m h (call .family) (eqb (call .admin) 1) ≡ A.Go (n .command)) where
+        deed-kind : (next : ℕ) → kind (messageOutcome box state call m h next) ≡ kindOf reading
+        unfolding messageOutcome obeyed aimed deed setOutcome
+        deed-kind next =
+            ap (λ (a : Admission). kind (onAdmission a box state m h next)) admit
+            ∙ ap (λ (t : Top). kind (onTop t state m asked (aimed box state m asked))) (n .nests)
+            ∙ ap (λ (a : Aim). kind (onAim a state m asked (deed box state m asked (n .bitset)))) (n .found)
+            ∙ ap (λ (t : Bool). kind (cond t (setOutcome box state m asked (n .bitset) (n .port .position)) shown)) change
+            ∙ read-kind reading
+          where
+            asked : Asked
+            asked = askedOf h next (n .command)
+
+            shown : Outcome State
+            shown = leaves (speech done next (gotten box state m asked (n .port))) state
+
+            read-kind : (r : Reading) → kind (onReading r box state m asked (n .port .position)) ≡ kindOf r
+            read-kind (refused why) = refl
+            read-kind (accepted b) = refl
+
+        kind-is : o .said .kind ≡ kindOf reading
+        kind-is = by (call-case box state call datagram room)
+          where
+            by : CallCase box state call datagram o → o .said .kind ≡ kindOf reading
+            by (over e) = absurd (clash (ap (λ (x : Outcome State). isOver (x .said .kind)) e) going)
+            by (stayed w l e) = absurd (clash (ap (λ (x : Outcome State). isOver (x .said .kind)) e ∙ lt-ltb (numberOf w) 5 (omega arith)) going)
+            by (answered next right lo hi long first c) = first ∙ sym (message-first box state m h next call) ∙ deed-kind next
+
+        pub set-alike : (page : ℕ) → 144 ≤ page → Alike box m n page (o .said .kind)
+        set-alike page wide = go reading refl
+          where
+            names : namesRight (namesFor box m n) ≡ true
+            names = box-means box state call right .names-right (n .command .set)
+
+            at : (n .bitset .start ≤ n .bitset .end) × (n .bitset .end ≤ length m)
+            at = bitset-inside (box .roll) m n
+
+            short : length (partOf m (n .bitset .start) (n .bitset .end)) ≤ 32768
+            short = payload-short (n .bitset .start) (n .bitset .end)
+
+            go : (r : Reading) → reading ≡ r → Alike box m n page (o .said .kind)
+            go (accepted b) e =
+                both-done b (kind-is ∙ ap kindOf e) e
+                (both-accept m (namesFor box m n) (n .bitset .start) (n .bitset .end) (at .0) (at .1) names page wide short b e)
+            go (refused why) e =
+                both-refused why (kind-is ∙ ap kindOf e)
+                (both-refuse m (namesFor box m n) (n .bitset .start) (n .bitset .end) (at .0) (at .1) names page wide short why e)
+
+  pub done-normal : o .said .kind ≡ Done → (d : DoneSet box state call m h o) (page : ℕ) → 144 ≤ page
+      → normalOf box m (d .named) page
+      ≡ record { number = 0; bytes = normalForm (count (namesFor box m (d .named))) (d .bits) }
+  done-normal told d page wide =
+      let n = d .named in
+      let i = bitset-inside (box .roll) m n in
+      both-accept m (namesFor box m n) (n .bitset .start) (n .bitset .end) (i .0) (i .1)
+      (box-means box (o .state) call (d .right) .names-right (n .command .set)) page wide
+      (payload-short (ap isOver told) (n .bitset .start) (n .bitset .end)) (d .bits) (d .carries)

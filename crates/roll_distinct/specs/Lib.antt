@@ -1,2 +1,0 @@
-pub mod Distinct
-pub mod Marks
