@@ -19,41 +19,41 @@ use Rattle.netlink_headers.specs.declared.headers.MessageHeader.{MessageHeader}
 use Rattle.netlink_headers.proofs.headers.Laws.{generic-short, generic-whole}
 use Rattle.refusal.specs.declared.Refusal.the-variants as R
 use Rattle.admission.specs.Commands.{commandOf}
-use Rattle.admission.specs.Admission.{barred, permitted, onCommand, admitted}
+use Rattle.admission.specs.Admission.{notPermitted, permitted, onCommand, admitted}
 use Rattle.admission.specs.declared.commands.Command.{Command}
 use Rattle.admission.specs.declared.commands.CommandRead.{CommandRead}
 use Rattle.admission.specs.declared.commands.CommandRead.the-variants.{Listed, Unlisted}
 use Rattle.admission.specs.declared.Admission.{Admission}
-use Rattle.admission.specs.declared.Admission.the-variants.{Go, Skipped, Refused}
+use Rattle.admission.specs.declared.Admission.the-variants.{Admitted, Skipped, Refused}
 
 module _ (command : Command) (admin : Bool) where
-  pub barred-change : command .change ≡ true → not admin ≡ barred command admin
-  unfolding barred
-  barred-change h = sym (ap (λ (x : Bool). x && not admin) h)
+  pub permission-change : command .change ≡ true → not admin ≡ notPermitted command admin
+  unfolding notPermitted
+  permission-change h = sym (ap (λ (x : Bool). x && not admin) h)
 
-  pub barred-get : command .change ≡ false → false ≡ barred command admin
-  unfolding barred
-  barred-get h = sym (ap (λ (x : Bool). x && not admin) h)
+  pub permission-get : command .change ≡ false → false ≡ notPermitted command admin
+  unfolding notPermitted
+  permission-get h = sym (ap (λ (x : Bool). x && not admin) h)
 
-pub ruleset barred-laws = (barred-change, barred-get)
+pub ruleset permission-laws = (permission-change, permission-get)
 
 module _ (h : MessageHeader) (command : Command) (admin : Bool) where
   pub permit-dump : h .flags / 256 % 4 ≡ 3 → Refused R.Dump ≡ permitted h admin command
   unfolding permitted
   permit-dump q = sym (rw (eq-eqb _ _ q))
 
-  module _ (q : h .flags / 256 % 4 ≡ 3 → ⊥) (b : Bool) (eb : b ≡ barred command admin) where
-    no-dump : permitted h admin command ≡ cond b (Refused R.Permission) (Go command)
+  module _ (q : h .flags / 256 % 4 ≡ 3 → ⊥) (b : Bool) (eb : b ≡ notPermitted command admin) where
+    no-dump : permitted h admin command ≡ cond b (Refused R.Permission) (Admitted command)
     unfolding permitted
     no-dump = rw (ne-eqb _ _ q, eb)
 
-    pub permit-barred : b ≡ true → Refused R.Permission ≡ permitted h admin command
-    permit-barred z = sym (no-dump ∙ cond-true b _ _ z)
+    pub permit-refused : b ≡ true → Refused R.Permission ≡ permitted h admin command
+    permit-refused z = sym (no-dump ∙ cond-true b _ _ z)
 
-    pub permit-go : b ≡ false → Go command ≡ permitted h admin command
-    permit-go z = sym (no-dump ∙ cond-false b _ _ z)
+    pub permit-admitted : b ≡ false → Admitted command ≡ permitted h admin command
+    permit-admitted z = sym (no-dump ∙ cond-false b _ _ z)
 
-pub ruleset permit-laws = (permit-dump, permit-barred, permit-go)
+pub ruleset permit-laws = (permit-dump, permit-refused, permit-admitted)
 
 -- what is learnt of the generic header: it is missing below 20 bytes, and holds the command
 module _ (m : List ℕ) (g : GenericHeaderRead) (e : g ≡ genericHeaderAt m 16) where

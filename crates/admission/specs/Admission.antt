@@ -12,18 +12,18 @@ use Rattle.admission.specs.declared.commands.Command.{Command}
 use Rattle.admission.specs.declared.commands.CommandRead.{CommandRead}
 use Rattle.admission.specs.declared.commands.CommandRead.the-variants.{Listed, Unlisted}
 use Rattle.admission.specs.declared.Admission.{Admission}
-use Rattle.admission.specs.declared.Admission.the-variants.{Go, Skipped, Refused}
+use Rattle.admission.specs.declared.Admission.the-variants.{Admitted, Skipped, Refused}
 
 -- "SET, not admin"
-unfoldable pub barred : Command → Bool → Bool
-barred command admin = command .change && not admin
+unfoldable pub notPermitted : Command → Bool → Bool
+notPermitted command admin = command .change && not admin
 
 -- a listed command: 8 where both DUMP bits (0x300) stand, then 9
 unfoldable pub permitted : MessageHeader → Bool → Command → Admission
 permitted h admin command =
     cond (eqb (h .flags / 256 % 4) 3) (Refused R.Dump)
-    (cond (barred command admin) (Refused R.Permission)
-    (Go command))
+    (cond (notPermitted command admin) (Refused R.Permission)
+    (Admitted command))
 
 -- 7, or what a listed command comes to
 abbrev pub onCommand : CommandRead → (Command → Admission) → Admission

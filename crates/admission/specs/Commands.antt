@@ -10,18 +10,18 @@ use Rattle.admission.specs.declared.commands.CommandRead.{CommandRead}
 use Rattle.admission.specs.declared.commands.CommandRead.the-variants.{Listed, Unlisted}
 
 -- a row: the number, SET (true) or GET, the set, and the command of the reply
-abbrev pub row : ℕ → Bool → Set → ℕ → Command
-row number change set reply = record { number = number; change = change; set = set; reply = reply }
+abbrev pub commandRow : ℕ → Bool → Set → ℕ → Command
+commandRow number change set reply = record { number = number; change = change; set = set; reply = reply }
 
 -- "DEBUG_GET 7, DEBUG_SET 8, PRIVFLAGS_GET 13, PRIVFLAGS_SET 14"; in a reply "command 7 for DEBUG, 14 for PRIVFLAGS"
 abbrev pub commands : List Command
-commands = row 7 false Debug 7 ∷ row 8 true Debug 7 ∷ row 13 false Flags 14 ∷ row 14 true Flags 14 ∷ []
+commands = commandRow 7 false Debug 7 ∷ commandRow 8 true Debug 7 ∷ commandRow 13 false Flags 14 ∷ commandRow 14 true Flags 14 ∷ []
 
 -- the first of some rows that has a number
-unfoldable pub rowOf : List Command → ℕ → CommandRead
-rowOf [] number = Unlisted
-rowOf (command ∷ rows) number = cond (eqb (command .number) number) (Listed command) (rowOf rows number)
+unfoldable pub commandIn : List Command → ℕ → CommandRead
+commandIn [] number = Unlisted
+commandIn (command ∷ rows) number = cond (eqb (command .number) number) (Listed command) (commandIn rows number)
 
 -- the command of a number
 unfoldable pub commandOf : ℕ → CommandRead
-commandOf number = rowOf commands number
+commandOf number = commandIn commands number

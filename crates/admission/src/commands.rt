@@ -1,6 +1,6 @@
 // The commands that are taken up, a row of one table each.
 ghost use mathlib.Core.Path.{_≡_};
-ghost use Rattle.admission.specs.Commands.{row, commands, commandOf};
+ghost use Rattle.admission.specs.Commands.{commandRow, commands, commandOf};
 use layout::Set;
 
 // The numbers of the commands, and of their replies.
@@ -32,8 +32,8 @@ pub enum CommandRead {
     Unlisted,
 }
 
-fn row(number: u8, change: bool, set: Set, reply: u8) -> Command
-    ensures { λ r. ⌜ r ≡ row number change set reply ⌝ }
+fn command_row(number: u8, change: bool, set: Set, reply: u8) -> Command
+    ensures { λ r. ⌜ r ≡ commandRow number change set reply ⌝ }
 {
     Command {
         number,
@@ -48,10 +48,10 @@ fn commands() -> [Command; COUNT]
     ensures { λ r. ⌜ r ≡ commands ⌝ }
 {
     [
-        row(DEBUG_GET, false, Set::Debug, DEBUG_GET_REPLY),
-        row(DEBUG_SET, true, Set::Debug, DEBUG_GET_REPLY),
-        row(PRIVFLAGS_GET, false, Set::Flags, PRIVFLAGS_GET_REPLY),
-        row(PRIVFLAGS_SET, true, Set::Flags, PRIVFLAGS_GET_REPLY),
+        command_row(DEBUG_GET, false, Set::Debug, DEBUG_GET_REPLY),
+        command_row(DEBUG_SET, true, Set::Debug, DEBUG_GET_REPLY),
+        command_row(PRIVFLAGS_GET, false, Set::Flags, PRIVFLAGS_GET_REPLY),
+        command_row(PRIVFLAGS_SET, true, Set::Flags, PRIVFLAGS_GET_REPLY),
     ]
 }
 

@@ -1,6 +1,6 @@
 // Whether a message is taken up, by its two headers: skipped, and refusals 5 to 9.
 ghost use mathlib.Core.Path.{_≡_};
-ghost use Rattle.admission.specs.Admission.{barred, permitted, admitted};
+ghost use Rattle.admission.specs.Admission.{notPermitted, permitted, admitted};
 use crate::commands::Command;
 use crate::commands::CommandRead;
 use crate::commands::read_command;
@@ -12,14 +12,14 @@ use refusal::Refusal;
 pub mod commands;
 
 pub enum Admission {
-    Go(Command),
+    Admitted(Command),
     Skipped,
     Refused(Refusal),
 }
 
 // Whether a command is a SET and its sender is not admin.
-fn barred(command: Command, admin: bool) -> bool
-    ensures { λ r. ⌜ r ≡ barred command admin ⌝ }
+fn not_permitted(command: Command, admin: bool) -> bool
+    ensures { λ r. ⌜ r ≡ notPermitted command admin ⌝ }
 {
     if command.change {
         return !admin;
@@ -34,10 +34,10 @@ fn permit(h: MessageHeader, command: Command, admin: bool) -> Admission
     if h.flags / 256 % 4 == 3 {
         return Admission::Refused(Refusal::Dump);
     }
-    if barred(command, admin) {
+    if not_permitted(command, admin) {
         return Admission::Refused(Refusal::Permission);
     }
-    Admission::Go(command)
+    Admission::Admitted(command)
 }
 
 // Judges a message, cut at its stated end, and its header h.

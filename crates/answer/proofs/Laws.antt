@@ -13,7 +13,7 @@ use Rattle.basics.proofs.Put.{take-put}
 use Rattle.refusal.specs.Refusal.{numberOf}
 use Rattle.refusal.specs.declared.Refusal.{Refusal}
 use Rattle.boxes.specs.Box.{Box, State}
-use Rattle.response.specs.Answer.{Outcome, Did}
+use Rattle.response.specs.Answer.{Outcome, Performs}
 use Rattle.handler.specs.Call.{outcome}
 use Rattle.response.specs.declared.Kind.{Kind}
 use Rattle.response.specs.declared.Kind.the-variants.{Refused}
@@ -28,10 +28,10 @@ goes-refused kind r n e q = rw (e, q)
 -- as far as what follows agrees
 on-same : (d : List ℕ) (at : ℕ) (o : Outcome State) (f g : State → ℕ → List (List ℕ)) → Moves d at o
     → ((state : State) (k : ℕ) → at < k → k ≤ length d → f state k ≡ g state k) → onCall o f ≡ onCall o g
-on-same d at o f g m p = by (goesOn (o .said .kind)) m
+on-same d at o f g m p = by (goesOn (o .response .kind)) m
   where
-    by : (b : Bool) → (b ≡ true → (at < o .said .next) × (o .said .next ≤ length d)) → onward b o f ≡ onward b o g
-    by true m = ap (λ (l : List (List ℕ)). o .said .bytes ∷ l) (p (o .state) (o .said .next) (m refl .0) (m refl .1))
+    by : (b : Bool) → (b ≡ true → (at < o .response .next) × (o .response .next ≤ length d)) → onward b o f ≡ onward b o g
+    by true m = ap (λ (l : List (List ℕ)). o .response .bytes ∷ l) (p (o .state) (o .response .next) (m refl .0) (m refl .1))
     by false m = refl
 
 -- a larger bound on the count changes nothing
@@ -54,9 +54,9 @@ answers-step d state at = on-same d at (call d state at) _ _ (call-moves d state
 few : (n : ℕ) (d : List ℕ) (state : State) (at : ℕ) → length (answersUpTo n d state at) ≤ n
 unfolding answersUpTo
 few zero d state at = omega arith
-few (suc n) d state at = by (goesOn (call d state at .said .kind)) (few n d (call d state at .state) (call d state at .said .next))
+few (suc n) d state at = by (goesOn (call d state at .response .kind)) (few n d (call d state at .state) (call d state at .response .next))
   where
-    by : (b : Bool) → length (answersUpTo n d (call d state at .state) (call d state at .said .next)) ≤ n → length (onward b (call d state at) (answersUpTo n d)) ≤ suc n
+    by : (b : Bool) → length (answersUpTo n d (call d state at .state) (call d state at .response .next)) ≤ n → length (onward b (call d state at) (answersUpTo n d)) ≤ suc n
     by true h = omega arith
     by false h = omega arith
 
@@ -76,27 +76,27 @@ none-yet d state k e q = rw (e, q) (record { before = []; count = refl; whole = 
 
 -- what the library's call says of the program's box
 pub called : (box : Box) (state : State) (d : List ℕ) (at : ℕ) (P Q : List ℕ) (new : State) (r : Answer) → box ≡ programBox → length P ≡ 32768
-    → Did (outcome box state (callAt at) d (length P)) P Q new r → Did (call d state at) P Q new r
+    → Performs (outcome box state (callAt at) d (length P)) P Q new r → Performs (call d state at) P Q new r
 unfolding call
 called box state d at P Q new r b ep h = rw (b, ep) at h
 
 -- what was written is in the page
-pub written-fits : (o : Outcome State) (P Q : List ℕ) (new : State) (r : Answer) → Did o P Q new r → length Q ≡ length P → r .written ≤ length Q
+pub written-fits : (o : Outcome State) (P Q : List ℕ) (new : State) (r : Answer) → Performs o P Q new r → length Q ≡ length P → r .written ≤ length Q
 unfolding put
 written-fits o P Q new r h e =
-    let n : r .written ≡ length (o .said .bytes) = ap (λ (x : Answer). x .written) (h .said .result) in
-    let l = ap length (h .said .page) ∙ length-append (o .said .bytes) (drop (length (o .said .bytes)) P) in
-    omega (arith, length-drop (length (o .said .bytes)) P)
+    let n : r .written ≡ length (o .response .bytes) = ap (λ (x : Answer). x .written) (h .response .result) in
+    let l = ap length (h .response .page) ∙ length-append (o .response .bytes) (drop (length (o .response .bytes)) P) in
+    omega (arith, length-drop (length (o .response .bytes)) P)
 
-pub written-part : (o : Outcome State) (P Q : List ℕ) (new : State) (r : Answer) → Did o P Q new r → length Q ≡ length P → r .written ≡ length (take (r .written) Q)
+pub written-part : (o : Outcome State) (P Q : List ℕ) (new : State) (r : Answer) → Performs o P Q new r → length Q ≡ length P → r .written ≡ length (take (r .written) Q)
 written-part o P Q new r h e = sym (length-take-le (r .written) Q (written-fits o P Q new r h e))
 
-module _ (d : List ℕ) (state : State) (at k : ℕ) (s : SoFar d state at k) (P Q : List ℕ) (new : State) (r : Answer) (did : Did (call d state at) P Q new r) (b : Bool) (eb : b ≡ goesOn (r .kind)) where
-  go : b ≡ goesOn (call d state at .said .kind)
-  go = eb ∙ ap (λ (x : Answer). goesOn (x .kind)) (did .said .result)
+module _ (d : List ℕ) (state : State) (at k : ℕ) (s : SoFar d state at k) (P Q : List ℕ) (new : State) (r : Answer) (did : Performs (call d state at) P Q new r) (b : Bool) (eb : b ≡ goesOn (r .kind)) where
+  go : b ≡ goesOn (call d state at .response .kind)
+  go = eb ∙ ap (λ (x : Answer). goesOn (x .kind)) (did .response .result)
 
-  next-is : r .next ≡ call d state at .said .next
-  next-is = ap (λ (x : Answer). x .next) (did .said .result)
+  next-is : r .next ≡ call d state at .response .next
+  next-is = ap (λ (x : Answer). x .next) (did .response .result)
 
   from-here : answersFrom d state at ≡ onward b (call d state at) (answersFrom d)
   from-here = answers-step d state at ∙ ap (λ (x : Bool). onward x (call d state at) (answersFrom d)) (sym go)
@@ -108,9 +108,9 @@ module _ (d : List ℕ) (state : State) (at k : ℕ) (s : SoFar d state at k) (P
 
   module _ (z : not b ≡ false) where
     rest : List (List ℕ)
-    rest = answersFrom d (call d state at .state) (call d state at .said .next)
+    rest = answersFrom d (call d state at .state) (call d state at .response .next)
 
-    here : answers d ≡ s .before ++ (call d state at .said .bytes ∷ rest)
+    here : answers d ≡ s .before ++ (call d state at .response .bytes ∷ rest)
     unfolding rest
     here = s .whole ∙ ap (λ (l : List (List ℕ)). s .before ++ l) (from-here ∙ ap (λ (x : Bool). onward x (call d state at) (answersFrom d)) (not-false b z))
 
@@ -122,22 +122,22 @@ module _ (d : List ℕ) (state : State) (at k : ℕ) (s : SoFar d state at k) (P
 
     pub run-next : IsNext d k (take (r .written) Q)
     run-next =
-        let l = ap length here ∙ length-append (s .before) (call d state at .said .bytes ∷ rest) in
+        let l = ap length here ∙ length-append (s .before) (call d state at .response .bytes ∷ rest) in
         record {
           more = omega (arith, s .count);
           here =
-              ap (take (r .written)) (did .said .page) ∙ take-put P (call d state at .said .bytes) (r .written) (sym (ap (λ (x : Answer). x .written) (did .said .result)))
-              ∙ sym (ap (λ (l : List (List ℕ)). getD l k []) here ∙ getD-at (s .before) (call d state at .said .bytes) rest [] k (s .count));
+              ap (take (r .written)) (did .response .page) ∙ take-put P (call d state at .response .bytes) (r .written) (sym (ap (λ (x : Answer). x .written) (did .response .result)))
+              ∙ sym (ap (λ (l : List (List ℕ)). getD l k []) here ∙ getD-at (s .before) (call d state at .response .bytes) rest [] k (s .count));
         }
 
     pub run-again : (n : ℕ) → n ≡ k + 1 → SoFar d new (r .next) n
     unfolding rest
     run-again n e =
         record {
-          before = s .before ++ (call d state at .said .bytes ∷ []);
-          count = length-append (s .before) (call d state at .said .bytes ∷ []) ∙ omega (arith, s .count, e);
+          before = s .before ++ (call d state at .response .bytes ∷ []);
+          count = length-append (s .before) (call d state at .response .bytes ∷ []) ∙ omega (arith, s .count, e);
           whole =
-              here ∙ sym (append-assoc (s .before) (call d state at .said .bytes ∷ []) rest)
+              here ∙ sym (append-assoc (s .before) (call d state at .response .bytes ∷ []) rest)
               ∙ rw (did .state-is, next-is) refl;
         }
 

@@ -26,13 +26,13 @@ use Rattle.admission.specs.Commands as C
 use Rattle.request.specs.Policies.{topPolicy}
 use Rattle.request.specs.Top as O
 use Rattle.request.specs.Header as HR
-use Rattle.request.specs.Target as G
-use Rattle.request.specs.Aim as I
+use Rattle.request.specs.Port as G
+use Rattle.request.specs.Target as I
 use Rattle.reply.proofs.Whole.{wholeReply}
 use Rattle.bitset_reply.specs.Set as RS
 use Rattle.reply.specs.Message as RM
 use Rattle.response.specs.Answer as A
-use Rattle.obey.specs.Obey as OB
+use Rattle.execute.specs.Execute as OB
 use Rattle.handler.specs.Call as K
 use Rattle.answer.specs.Box.{portRoll, debugNames, flagNames, firstWords, programBox, firstState}
 use Rattle.answer.specs.Run.{callAt, call, onCall, answersFrom, answers}
@@ -47,11 +47,11 @@ request =
     ∷ 0x0D ∷ 0x01 ∷ 0x00 ∷ 0x00 ∷ 0x14 ∷ 0x00 ∷ 0x01 ∷ 0x80 ∷ 0x08 ∷ 0x00 ∷ 0x01 ∷ 0x00 ∷ 0x03 ∷ 0x00 ∷ 0x00 ∷ 0x00
     ∷ 0x08 ∷ 0x00 ∷ 0x03 ∷ 0x00 ∷ 0x01 ∷ 0x00 ∷ 0x00 ∷ 0x00 ∷ []
 
-first-call : call request firstState 0 ≡ A.leaves (A.speech Done 40 wholeReply) firstState
-unfolding call K.outcome K.positionOutcome K.messageOutcome OB.obeyed OB.aimed OB.deed OB.gotten X.setOf OB.shown A.ackBytes portRoll debugNames flagNames firstWords programBox firstState messageAt H.messageHeaderAt H.genericHeaderAt H.attributeHeaderAt T.attributeAt T.partOf T.attributesUpTo T.attributes Y.ruleOf Y.nulAt Y.isName Y.plain Y.nested Y.judged W.firstFault W.lastOf W.walked W.slotNumber Q.barred Q.permitted Q.admitted C.rowOf C.commandOf topPolicy O.nestsOf O.topOf HR.flagsJudged HR.partsOf HR.headerOf G.otherName G.portByIndex G.portByName G.targetOf I.withFlags I.aimOf F.find F.isIndex F.byIndex P.portCount P.portsOf P.portsIn P.portAt P.indexOf P.nameOf P.records P.recordsUpTo P.recordAt P.recordSize M.nameAt L.listOf L.sizeOf L.portWords L.firstOf L.words L.place L.setAt byteAt u16At u32At all first RM.replyBytes RM.headersBytes RM.attributesBytes RS.setBytes RS.contentsBytes RS.compactBytes RS.openingBytes TW.numbered TW.identity TW.named TW.nameBytes TW.nest TW.attr TW.padding HW.messageHeaderBytes HW.genericHeaderBytes HW.attributeHeaderBytes bytesOf
+first-call : call request firstState 0 ≡ A.unchanged (A.responseOf Done 40 wholeReply) firstState
+unfolding call K.outcome K.positionOutcome K.messageOutcome OB.requestOutcome OB.headerOutcome OB.portOutcome OB.getBytes X.setOf OB.replyAndAck A.ackBytes portRoll debugNames flagNames firstWords programBox firstState messageAt H.messageHeaderAt H.genericHeaderAt H.attributeHeaderAt T.attributeAt T.partOf T.attributesUpTo T.attributes Y.ruleOf Y.nulAt Y.isNamePayload Y.plain Y.nested Y.judged W.firstFault W.lastOfType W.walked W.slotNumber Q.notPermitted Q.permitted Q.admitted C.commandIn C.commandOf topPolicy O.nestsOf O.topOf HR.flagsJudged HR.partsOf HR.headerOf G.otherName G.portByIndex G.portByName G.portOf I.withFlags I.targetOf F.findPort F.hasIndex F.foundByIndex P.portCount P.portsOf P.recordPorts P.portAt P.indexOf P.nameOf P.records P.recordsUpTo P.recordAt P.recordSize M.nameAt L.listOf L.sizeOf L.portWords L.firstOf L.totalWords L.setPlace L.setAt byteAt u16At u32At all first RM.replyBytes RM.headersBytes RM.attributesBytes RS.setBytes RS.contentsBytes RS.compactBytes RS.openingBytes TW.numbered TW.identity TW.named TW.nameBytes TW.nest TW.attr TW.padding HW.messageHeaderBytes HW.genericHeaderBytes HW.attributeHeaderBytes bytesOf
 first-call = rw (box-right 0) refl
 
-last-call : call request firstState 40 ≡ A.leaves (A.quiet End 40) firstState
+last-call : call request firstState 40 ≡ A.unchanged (A.noBytes End 40) firstState
 unfolding call K.outcome K.positionOutcome messageAt
 last-call = rw (box-right 40) refl
 
@@ -63,7 +63,7 @@ whole-run =
     ∙ ap (λ (l : List (List ℕ)). wholeReply ∷ l)
     (answers-step request firstState 40 ∙ ap (λ (o : A.Outcome State). onCall o (answersFrom request)) last-call)
 
-long-stops : (d : List ℕ) → 32768 < length d → call d firstState 0 ≡ K.stays Datagram (callAt 0) firstState
+long-stops : (d : List ℕ) → 32768 < length d → call d firstState 0 ≡ K.refusedInPlace Datagram (callAt 0) firstState
 unfolding call K.outcome
 long-stops d h = rw (box-right 0, lt-ltb _ _ h) refl
 

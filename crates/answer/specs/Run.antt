@@ -31,12 +31,12 @@ goesOn (Refused r) = ltb 4 (numberOf r)
 
 -- the answer's bytes, then the answers with the state and from the position that it leaves; none where the program stops
 abbrev pub onward : Bool → Outcome State → (State → ℕ → List (List ℕ)) → List (List ℕ)
-onward true o rest = o .said .bytes ∷ rest (o .state) (o .said .next)
+onward true o rest = o .response .bytes ∷ rest (o .state) (o .response .next)
 onward false o rest = []
 
 -- what a call adds to the answers that follow it
 abbrev pub onCall : Outcome State → (State → ℕ → List (List ℕ)) → List (List ℕ)
-onCall o rest = onward (goesOn (o .said .kind)) o rest
+onCall o rest = onward (goesOn (o .response .kind)) o rest
 
 -- the answers to at most so many messages
 unfoldable pub answersUpTo : ℕ → List ℕ → State → ℕ → List (List ℕ)

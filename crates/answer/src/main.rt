@@ -1,7 +1,7 @@
 // The program of document 01: standard input is one datagram, the answers go to standard output.
 ghost use mathlib.Core.Path.{_≡_};
 ghost use lib.ListN.{length};
-ghost use Rattle.response.specs.Answer.{Did};
+ghost use Rattle.response.specs.Answer.{Performs};
 ghost use Rattle.boxes.specs.Box.{boxOf, stateOf};
 ghost use Rattle.answer.specs.Box.{programBox, firstState};
 ghost use Rattle.answer.specs.Run.{call, goesOn, answers};
@@ -42,7 +42,7 @@ fn answer_one<'a>(
     page: &mut [u8],
 ) -> Answer
     requires { ⌜ (boxOf (now roll) (now debug) (now flags) ≡ programBox) × (length (now page) ≡ 32768) ⌝ }
-    ensures { λ r. ⌜ Did (call (now (datagram .entry)) (stateOf (now (settings .entry))) at) (now (page .entry)) (now (page .exit)) (stateOf (now (settings .exit))) r ⌝ }
+    ensures { λ r. ⌜ Performs (call (now (datagram .entry)) (stateOf (now (settings .entry))) at) (now (page .entry)) (now (page .exit)) (stateOf (now (settings .exit))) r ⌝ }
 {
     let call = Call {
         family: 25,

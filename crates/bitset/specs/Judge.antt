@@ -14,22 +14,22 @@ use Rattle.bitset_compact.specs.Compact.{compactReading}
 use Rattle.refusal.specs.Refusal.{onStop}
 use Rattle.bitset_list.specs.BitList.{listReading}
 use Rattle.bitset.specs.declared.judge.Mixing.{Mixing}
-use Rattle.bitset.specs.declared.judge.Mixing.the-variants.{Pure, At}
+use Rattle.bitset.specs.declared.judge.Mixing.the-variants.{Unmixed, At}
 
 -- "18, in order: BITS with VALUE; BITS with MASK; NOMASK with MASK"
 unfoldable pub mixedAt : Slot → Slot → Slot → Slot → Mixing
 mixedAt nomask bits value mask =
     cond (bits .present && value .present) (At (value .start - 4))
     (cond (bits .present && mask .present) (At (mask .start - 4))
-    (cond (nomask .present && mask .present) (At (mask .start - 4)) Pure))
+    (cond (nomask .present && mask .present) (At (mask .start - 4)) Unmixed))
 
 abbrev pub onMixing : Mixing → Reading → Reading
-onMixing Pure rest = rest
+onMixing Unmixed rest = rest
 onMixing (At at) rest = refused (Mixed at)
 
 -- the parts of a bitset: NOMASK, SIZE, BITS, VALUE, MASK; its place is `nest`
-unfoldable pub partsReading : List ℕ → ℕ → List ℕ → Slot → Slot → Slot → Slot → Slot → Reading
-partsReading s nest names nomask size bits value mask =
+unfoldable pub bitsetPartsReading : List ℕ → ℕ → List ℕ → Slot → Slot → Slot → Slot → Slot → Reading
+bitsetPartsReading s nest names nomask size bits value mask =
     onMixing (mixedAt nomask bits value mask)
     (cond (bits .present) (listReading s names nomask bits) (compactReading s nest (count names) nomask size value mask))
 
@@ -37,7 +37,7 @@ partsReading s nest names nomask size bits value mask =
 unfoldable pub bitsetReading : List ℕ → ℕ → List ℕ → Reading
 bitsetReading s from names =
     onStop (walked bitsetPolicy s from .stop) refused
-    (partsReading s (from - 4) names
+    (bitsetPartsReading s (from - 4) names
     (getD (walked bitsetPolicy s from .slots) 1 absent)
     (getD (walked bitsetPolicy s from .slots) 2 absent)
     (getD (walked bitsetPolicy s from .slots) 3 absent)

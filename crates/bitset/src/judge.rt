@@ -2,7 +2,7 @@
 ghost use mathlib.Core.Path.{_≡_};
 ghost use Rattle.entries.specs.Entry.{count};
 ghost use Rattle.bitset_form.specs.Bitset.{judgedAs};
-ghost use Rattle.bitset.specs.Judge.{mixedAt, partsReading, bitsetReading};
+ghost use Rattle.bitset.specs.Judge.{mixedAt, bitsetPartsReading, bitsetReading};
 use bitset_compact::judge_compact;
 use bitset_form::Judged;
 use bitset_form::policies::BITS;
@@ -22,7 +22,7 @@ use refusal::of_fault;
 
 // Where the forms of a bitset are mixed, if they are.
 pub enum Mixing {
-    Pure,
+    Unmixed,
     At(usize),
 }
 
@@ -36,18 +36,18 @@ fn mixed_at(nomask: Slot, bits: Slot, value: Slot, mask: Slot) -> Mixing
         if mask.present {
             return Mixing::At(place(mask.start));
         }
-        return Mixing::Pure;
+        return Mixing::Unmixed;
     }
     if nomask.present {
         if mask.present {
             return Mixing::At(place(mask.start));
         }
     }
-    Mixing::Pure
+    Mixing::Unmixed
 }
 
 // Judges the parts of a bitset that stands at `nest`.
-fn judge_parts(
+fn judge_bitset_parts(
     s: &[u8],
     nest: usize,
     names: &[u8],
@@ -57,7 +57,7 @@ fn judge_parts(
     value: Slot,
     mask: Slot,
 ) -> Judged
-    ensures { λ r. ⌜ r ≡ judgedAs (count (now (names .entry))) (partsReading (now (s .entry)) nest (now (names .entry)) nomask size bits value mask) ⌝ }
+    ensures { λ r. ⌜ r ≡ judgedAs (count (now (names .entry))) (bitsetPartsReading (now (s .entry)) nest (now (names .entry)) nomask size bits value mask) ⌝ }
 {
     if let Mixing::At(at) = mixed_at(nomask, bits, value, mask) {
         return refused(Refusal::Mixed(at));
@@ -69,7 +69,7 @@ fn judge_parts(
 }
 
 // Judges the bitset whose contents are the bytes of s from `from` on. Places count from the start of s.
-pub fn judge(s: &[u8], from: usize, names: &[u8]) -> Judged
+pub fn judge_bitset(s: &[u8], from: usize, names: &[u8]) -> Judged
     ensures { λ r. ⌜ r ≡ judgedAs (count (now (names .entry))) (bitsetReading (now (s .entry)) from (now (names .entry))) ⌝ }
 {
     let walked = walk(bitset_policy(), s, from);
@@ -82,5 +82,5 @@ pub fn judge(s: &[u8], from: usize, names: &[u8]) -> Judged
     let bits = walked.slots[BITS];
     let value = walked.slots[VALUE];
     let mask = walked.slots[MASK];
-    judge_parts(s, place(from), names, nomask, size, bits, value, mask)
+    judge_bitset_parts(s, place(from), names, nomask, size, bits, value, mask)
 }

@@ -13,7 +13,7 @@ use Rattle.names.specs.Search.{lookup}
 use Rattle.names.specs.declared.Lookup.{Lookup}
 use Rattle.netlink_attributes.specs.Attributes.{Attributes, attributes, attributeAt, onRead, partOf}
 use Rattle.netlink.specs.Policy.{ruleOf, judged}
-use Rattle.netlink.specs.Walk.{found, absent, onVerdict, firstFault, lastOf, eachType, onStop as walkStop, walked, slotNumber}
+use Rattle.netlink.specs.Walk.{found, absent, onVerdict, firstFault, lastOfType, eachType, walkedTo as walkStop, walked, slotNumber}
 use Rattle.netlink_attributes.specs.declared.AttributeRead.{AttributeRead}
 use Rattle.netlink_attributes.specs.declared.AttributeRead.the-variants.{Attribute, Broken, End}
 use Rattle.netlink.specs.declared.policy.Fault.{Fault}
@@ -31,72 +31,72 @@ use Rattle.refusal.specs.Refusal.{ofFault}
 use Rattle.refusal.specs.declared.Refusal.{Refusal}
 use Rattle.refusal.specs.declared.Refusal.the-variants.{PastLength, UnknownBit, NoBit}
 use Rattle.bitset_form.specs.Policies.{bitPolicy}
-use Rattle.bitset_bit.specs.Bit.{byIndex, onLookup, byName, identified, onLooked, partsReading, bitWalked, bitReading}
+use Rattle.bitset_bit.specs.Bit.{bitByIndex, onLookup, bitByName, identified, onIdentityRead, bitPartsReading, bitWalked, bitReading}
 use Rattle.refusal.specs.Refusal.{onStop}
 use Rattle.bitset_form.specs.declared.Judgement.the-variants.{Refused}
 use Rattle.bitset_bit.specs.declared.Identity.{Identity}
 use Rattle.bitset_bit.specs.declared.Identity.the-variants.{Number, Neither}
-use Rattle.bitset_bit.specs.declared.Looked.{Looked}
-use Rattle.bitset_bit.specs.declared.Looked.the-variants as L
+use Rattle.bitset_bit.specs.declared.IdentityRead.{IdentityRead}
+use Rattle.bitset_bit.specs.declared.IdentityRead.the-variants as L
 use Rattle.bitset_bit.specs.declared.BitWalk.{BitWalk}
 use Rattle.bitset_bit.specs.declared.BitWalk.the-variants as W
 use Rattle.bitset_bit.specs.declared.BitRead.{BitRead}
 use Rattle.bitset_bit.specs.declared.BitRead.the-variants as B
 
 module _ (s : List ℕ) (n : ℕ) (index : Slot) (i : ℕ) (e : i ≡ slotNumber s index) where
-  pub index-past : (at : ℕ) → at ≡ index .start - 4 → n ≤ i → L.Refused (PastLength at) ≡ byIndex s n index
-  unfolding byIndex
+  pub index-past : (at : ℕ) → at ≡ index .start - 4 → n ≤ i → L.Refused (PastLength at) ≡ bitByIndex s n index
+  unfolding bitByIndex
   index-past at ea h = rw (ea, ← e, le-leb _ _ h)
 
-  pub index-in : i < n → L.Up (Number i) ≡ byIndex s n index
-  unfolding byIndex
+  pub index-in : i < n → L.Read (Number i) ≡ bitByIndex s n index
+  unfolding bitByIndex
   index-in h = rw (← e, lt-leb _ _ h)
 
 pub ruleset index-laws = (index-past, index-in)
 
 module _ (s names : List ℕ) (name : Slot) (p : List ℕ) (ep : p ≡ partOf s (name .start) (name .end)) (l : Lookup) (el : l ≡ lookup names p) where
-  looked : byName s names name ≡ onLookup l (name .start - 4)
-  unfolding byName
+  looked : bitByName s names name ≡ onLookup l (name .start - 4)
+  unfolding bitByName
   looked = sym (ap (λ (x : Lookup). onLookup x (name .start - 4)) (el ∙ ap (lookup names) ep))
 
-  pub name-found : l .found ≡ true → L.Up (Number (l .bit)) ≡ byName s names name
-  name-found h = sym (looked ∙ cond-true (l .found) (L.Up (Number (l .bit))) (L.Refused (UnknownBit (name .start - 4))) h)
+  pub name-found : l .found ≡ true → L.Read (Number (l .bit)) ≡ bitByName s names name
+  name-found h = sym (looked ∙ cond-true (l .found) (L.Read (Number (l .bit))) (L.Refused (UnknownBit (name .start - 4))) h)
 
-  pub name-unknown : (at : ℕ) → at ≡ name .start - 4 → l .found ≡ false → L.Refused (UnknownBit at) ≡ byName s names name
+  pub name-unknown : (at : ℕ) → at ≡ name .start - 4 → l .found ≡ false → L.Refused (UnknownBit at) ≡ bitByName s names name
   name-unknown at ea h =
       ap (λ (x : ℕ). L.Refused (UnknownBit x)) ea
-      ∙ sym (looked ∙ cond-false (l .found) (L.Up (Number (l .bit))) (L.Refused (UnknownBit (name .start - 4))) h)
+      ∙ sym (looked ∙ cond-false (l .found) (L.Read (Number (l .bit))) (L.Refused (UnknownBit (name .start - 4))) h)
 
 pub ruleset name-laws = (name-found, name-unknown)
 
 module _ (s names : List ℕ) (index name : Slot) where
-  pub identify-index : (n : ℕ) (r : Looked) → n ≡ count names → index .present ≡ true → r ≡ byIndex s n index → r ≡ identified s names index name
+  pub identify-index : (n : ℕ) (r : IdentityRead) → n ≡ count names → index .present ≡ true → r ≡ bitByIndex s n index → r ≡ identified s names index name
   unfolding identified
-  identify-index n r en h e = e ∙ ap (λ (x : ℕ). byIndex s x index) en ∙ sym (cond-true (index .present) _ _ h)
+  identify-index n r en h e = e ∙ ap (λ (x : ℕ). bitByIndex s x index) en ∙ sym (cond-true (index .present) _ _ h)
 
-  pub identify-name : (r : Looked) → index .present ≡ false → name .present ≡ true → r ≡ byName s names name → r ≡ identified s names index name
+  pub identify-name : (r : IdentityRead) → index .present ≡ false → name .present ≡ true → r ≡ bitByName s names name → r ≡ identified s names index name
   unfolding identified
   identify-name r h g e = e ∙ sym (cond-false (index .present) _ _ h ∙ cond-true (name .present) _ _ g)
 
-  pub identify-neither : index .present ≡ false → name .present ≡ false → L.Up Neither ≡ identified s names index name
+  pub identify-neither : index .present ≡ false → name .present ≡ false → L.Read Neither ≡ identified s names index name
   unfolding identified
   identify-neither h g = sym (cond-false (index .present) _ _ h ∙ cond-false (name .present) _ _ g)
 
 pub ruleset identify-laws = (identify-index, identify-name, identify-neither)
 
-module _ (s names : List ℕ) (at : ℕ) (index name on : Slot) (l : Looked) (el : l ≡ identified s names index name) where
-  pub parts-refused : (r : Refusal) → l ≡ L.Refused r → B.Refused r ≡ partsReading s names at index name on
-  unfolding partsReading
-  parts-refused r h = sym (ap (λ (x : Looked). onLooked x at (on .present)) (sym el ∙ h))
+module _ (s names : List ℕ) (at : ℕ) (index name on : Slot) (l : IdentityRead) (el : l ≡ identified s names index name) where
+  pub parts-refused : (r : Refusal) → l ≡ L.Refused r → B.Refused r ≡ bitPartsReading s names at index name on
+  unfolding bitPartsReading
+  parts-refused r h = sym (ap (λ (x : IdentityRead). onIdentityRead x at (on .present)) (sym el ∙ h))
 
-  module _ (i : Identity) (h : l ≡ L.Up i) where
-    pub parts-neither : i ≡ Neither → B.Refused (NoBit at) ≡ partsReading s names at index name on
-    unfolding partsReading
-    parts-neither g = sym (ap (λ (x : Looked). onLooked x at (on .present)) (sym el ∙ h ∙ ap L.Up g))
+  module _ (i : Identity) (h : l ≡ L.Read i) where
+    pub parts-neither : i ≡ Neither → B.Refused (NoBit at) ≡ bitPartsReading s names at index name on
+    unfolding bitPartsReading
+    parts-neither g = sym (ap (λ (x : IdentityRead). onIdentityRead x at (on .present)) (sym el ∙ h ∙ ap L.Read g))
 
-    pub parts-number : (k : ℕ) → i ≡ Number k → B.Bit k (on .present) ≡ partsReading s names at index name on
-    unfolding partsReading
-    parts-number k g = sym (ap (λ (x : Looked). onLooked x at (on .present)) (sym el ∙ h ∙ ap L.Up g))
+    pub parts-number : (k : ℕ) → i ≡ Number k → B.Bit k (on .present) ≡ bitPartsReading s names at index name on
+    unfolding bitPartsReading
+    parts-number k g = sym (ap (λ (x : IdentityRead). onIdentityRead x at (on .present)) (sym el ∙ h ∙ ap L.Read g))
 
 pub ruleset parts-laws = (parts-refused, parts-neither, parts-number)
 
@@ -133,7 +133,7 @@ pub ruleset rule-laws = (rule-index, rule-name, rule-on, rule-other, by-rule)
 
 -- the slots of a BIT whose walk is whole: the last of each type, the slots given where there is none
 abbrev lastParts : Attributes → Slot → Slot → Slot → BitWalk
-lastParts xs i n o = W.Parts (lastOf 1 i xs) (lastOf 2 n xs) (lastOf 3 o xs)
+lastParts xs i n o = W.Parts (lastOfType 1 i xs) (lastOfType 2 n xs) (lastOfType 3 o xs)
 
 -- a BIT that is walked as far as a place, with slots i, n, o of its three types
 abbrev pub BitFrom : List ℕ → ℕ → Slot → Slot → Slot → ℕ → Type 0
@@ -144,8 +144,8 @@ unfolding bitWalked walked
 bit-start s from i n o ei en eo = rw (ei, en, eo) (go (firstFault bitPolicy s (attributes s from)))
   where
     go : (t : Stop)
-        → onStop (walkStop t (eachType (λ kind. lastOf kind absent (attributes s from))) .stop) W.Refused
-        (W.Parts (getD (walkStop t (eachType (λ kind. lastOf kind absent (attributes s from))) .slots) 1 absent) (getD (walkStop t (eachType (λ kind. lastOf kind absent (attributes s from))) .slots) 2 absent) (getD (walkStop t (eachType (λ kind. lastOf kind absent (attributes s from))) .slots) 3 absent))
+        → onStop (walkStop t (eachType (λ kind. lastOfType kind absent (attributes s from))) .stop) W.Refused
+        (W.Parts (getD (walkStop t (eachType (λ kind. lastOfType kind absent (attributes s from))) .slots) 1 absent) (getD (walkStop t (eachType (λ kind. lastOfType kind absent (attributes s from))) .slots) 2 absent) (getD (walkStop t (eachType (λ kind. lastOfType kind absent (attributes s from))) .slots) 3 absent))
         ≡ onStop t W.Refused (lastParts (attributes s from) absent absent absent)
     go S.Whole = refl
     go (S.At f at) = refl
@@ -158,7 +158,7 @@ module _ (s : List ℕ) (from : ℕ) (i n o : Slot) (at : ℕ) (inv : BitFrom s 
   bit-step = inv ∙ ap reading (attributes-step s at ∙ ap (λ (x : AttributeRead). onRead x at (attributes s)) (sym e))
 
   pub bit-end : r ≡ End → W.Parts i n o ≡ bitWalked s from
-  unfolding firstFault lastOf
+  unfolding firstFault lastOfType
   bit-end q = sym (rw q at bit-step)
 
   pub bit-broken : (y : Refusal) → r ≡ Broken → y ≡ ofFault Length at → W.Refused y ≡ bitWalked s from
@@ -176,7 +176,7 @@ module _ (s : List ℕ) (from : ℕ) (i n o : Slot) (at : ℕ) (inv : BitFrom s 
       bit-judged : bitWalked s from
           ≡ onStop (onVerdict v at (firstFault bitPolicy s (attributes s next))) W.Refused
           (lastParts (attributes s next) (cond (eqb k 1) (found a z) i) (cond (eqb k 2) (found a z) n) (cond (eqb k 3) (found a z) o))
-      unfolding firstFault lastOf
+      unfolding firstFault lastOfType
       bit-judged = rw q at bit-step ∙ rw (verdict, here)
         where
           verdict : judged (ruleOf bitPolicy k) b (partOf s a z) ≡ v
@@ -221,20 +221,20 @@ module _ (s names : List ℕ) (from : ℕ) (w : BitWalk) (e : w ≡ bitWalked s 
           ≡ onStop t W.Refused (W.Parts (getD (walked bitPolicy s from .slots) 1 absent) (getD (walked bitPolicy s from .slots) 2 absent) (getD (walked bitPolicy s from .slots) 3 absent))
           → B.Refused y
           ≡ onStop t B.Refused
-          (partsReading s names (from - 4) (getD (walked bitPolicy s from .slots) 1 absent) (getD (walked bitPolicy s from .slots) 2 absent) (getD (walked bitPolicy s from .slots) 3 absent))
+          (bitPartsReading s names (from - 4) (getD (walked bitPolicy s from .slots) 1 absent) (getD (walked bitPolicy s from .slots) 2 absent) (getD (walked bitPolicy s from .slots) 3 absent))
       go S.Whole q = absurd (let c : _≡_ {A = ℕ} 0 1 = cc in omega arith)
       go (S.At f at) q = ap B.Refused cc
 
-  pub bit-parts : (i n o : Slot) (p : ℕ) (y : BitRead) → w ≡ W.Parts i n o → p ≡ from - 4 → y ≡ partsReading s names p i n o → y ≡ bitReading s names from
+  pub bit-parts : (i n o : Slot) (p : ℕ) (y : BitRead) → w ≡ W.Parts i n o → p ≡ from - 4 → y ≡ bitPartsReading s names p i n o → y ≡ bitReading s names from
   unfolding bitWalked bitReading
-  bit-parts i n o p y q ep ey = ey ∙ ap (λ (x : ℕ). partsReading s names x i n o) ep ∙ go (walked bitPolicy s from .stop) (sym q ∙ e)
+  bit-parts i n o p y q ep ey = ey ∙ ap (λ (x : ℕ). bitPartsReading s names x i n o) ep ∙ go (walked bitPolicy s from .stop) (sym q ∙ e)
     where
       go : (t : Stop)
           → W.Parts i n o
           ≡ onStop t W.Refused (W.Parts (getD (walked bitPolicy s from .slots) 1 absent) (getD (walked bitPolicy s from .slots) 2 absent) (getD (walked bitPolicy s from .slots) 3 absent))
-          → partsReading s names (from - 4) i n o
+          → bitPartsReading s names (from - 4) i n o
           ≡ onStop t B.Refused
-          (partsReading s names (from - 4) (getD (walked bitPolicy s from .slots) 1 absent) (getD (walked bitPolicy s from .slots) 2 absent) (getD (walked bitPolicy s from .slots) 3 absent))
+          (bitPartsReading s names (from - 4) (getD (walked bitPolicy s from .slots) 1 absent) (getD (walked bitPolicy s from .slots) 2 absent) (getD (walked bitPolicy s from .slots) 3 absent))
       go S.Whole q = cc
       go (S.At f at) q = absurd (let c : _≡_ {A = ℕ} 0 1 = cc in omega arith)
 

@@ -15,41 +15,41 @@ use Rattle.refusal.specs.declared.Refusal.the-variants.{PastLength, UnknownBit,
 use Rattle.bitset_form.specs.Policies.{bitPolicy}
 use Rattle.bitset_bit.specs.declared.Identity.{Identity}
 use Rattle.bitset_bit.specs.declared.Identity.the-variants.{Number, Neither}
-use Rattle.bitset_bit.specs.declared.Looked.{Looked}
-use Rattle.bitset_bit.specs.declared.Looked.the-variants as L
+use Rattle.bitset_bit.specs.declared.IdentityRead.{IdentityRead}
+use Rattle.bitset_bit.specs.declared.IdentityRead.the-variants as L
 use Rattle.bitset_bit.specs.declared.BitWalk.{BitWalk}
 use Rattle.bitset_bit.specs.declared.BitWalk.the-variants as W
 use Rattle.bitset_bit.specs.declared.BitRead.{BitRead}
 use Rattle.bitset_bit.specs.declared.BitRead.the-variants as B
 
 -- by INDEX: 20 at or past N
-unfoldable pub byIndex : List ℕ → ℕ → Slot → Looked
-byIndex s n index = cond (leb n (slotNumber s index)) (L.Refused (PastLength (index .start - 4))) (L.Up (Number (slotNumber s index)))
+unfoldable pub bitByIndex : List ℕ → ℕ → Slot → IdentityRead
+bitByIndex s n index = cond (leb n (slotNumber s index)) (L.Refused (PastLength (index .start - 4))) (L.Read (Number (slotNumber s index)))
 
 -- by NAME: the entry that equals it, or 21
-abbrev pub onLookup : Lookup → ℕ → Looked
-onLookup l at = cond (l .found) (L.Up (Number (l .bit))) (L.Refused (UnknownBit at))
+abbrev pub onLookup : Lookup → ℕ → IdentityRead
+onLookup l at = cond (l .found) (L.Read (Number (l .bit))) (L.Refused (UnknownBit at))
 
-unfoldable pub byName : List ℕ → List ℕ → Slot → Looked
-byName s names name = onLookup (lookup names (partOf s (name .start) (name .end))) (name .start - 4)
+unfoldable pub bitByName : List ℕ → List ℕ → Slot → IdentityRead
+bitByName s names name = onLookup (lookup names (partOf s (name .start) (name .end))) (name .start - 4)
 
 -- INDEX decides where both stand
-unfoldable pub identified : List ℕ → List ℕ → Slot → Slot → Looked
+unfoldable pub identified : List ℕ → List ℕ → Slot → Slot → IdentityRead
 identified s names index name =
-    cond (index .present) (byIndex s (count names) index) (cond (name .present) (byName s names name) (L.Up Neither))
+    cond (index .present) (bitByIndex s (count names) index) (cond (name .present) (bitByName s names name) (L.Read Neither))
 
 -- a BIT with neither: 22
 abbrev pub onIdentity : Identity → ℕ → Bool → BitRead
 onIdentity (Number number) at on = B.Bit number on
 onIdentity Neither at on = B.Refused (NoBit at)
 
-abbrev pub onLooked : Looked → ℕ → Bool → BitRead
-onLooked (L.Up identity) at on = onIdentity identity at on
-onLooked (L.Refused r) at on = B.Refused r
+abbrev pub onIdentityRead : IdentityRead → ℕ → Bool → BitRead
+onIdentityRead (L.Read identity) at on = onIdentity identity at on
+onIdentityRead (L.Refused r) at on = B.Refused r
 
 -- the parts of the BIT at a place: INDEX, NAME and the VALUE flag
-unfoldable pub partsReading : List ℕ → List ℕ → ℕ → Slot → Slot → Slot → BitRead
-partsReading s names at index name on = onLooked (identified s names index name) at (on .present)
+unfoldable pub bitPartsReading : List ℕ → List ℕ → ℕ → Slot → Slot → Slot → BitRead
+bitPartsReading s names at index name on = onIdentityRead (identified s names index name) at (on .present)
 
 -- a BIT that is walked whole: its first fault, or the slots of its three types
 unfoldable pub bitWalked : List ℕ → ℕ → BitWalk
@@ -64,7 +64,7 @@ bitWalked s from =
 unfoldable pub bitReading : List ℕ → List ℕ → ℕ → BitRead
 bitReading s names from =
     onStop (walked bitPolicy s from .stop) B.Refused
-    (partsReading s names (from - 4)
+    (bitPartsReading s names (from - 4)
     (getD (walked bitPolicy s from .slots) 1 absent)
     (getD (walked bitPolicy s from .slots) 2 absent)
     (getD (walked bitPolicy s from .slots) 3 absent))

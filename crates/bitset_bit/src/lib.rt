@@ -1,6 +1,6 @@
 // One BIT of a bit list: walked whole, then judged.
 ghost use mathlib.Core.Path.{_≡_};
-ghost use Rattle.bitset_bit.specs.Bit.{bitWalked, byIndex, byName, identified, partsReading, bitReading};
+ghost use Rattle.bitset_bit.specs.Bit.{bitWalked, bitByIndex, bitByName, identified, bitPartsReading, bitReading};
 ghost use Rattle.netlink.specs.Policy.{ruleOf, judged};
 ghost use Rattle.netlink.specs.Walk.{absent, found};
 ghost use Rattle.bitset_form.specs.Policies.{bitPolicy};
@@ -9,7 +9,7 @@ ghost use Rattle.entries.specs.Chain.{IndexedIf};
 use netlink::policy::Fault;
 use netlink::policy::Rule;
 use netlink::policy::Verdict;
-use netlink::policy::judge;
+use netlink::policy::judge_by_rule;
 use netlink::walk::Slot;
 use netlink::walk::slot_number;
 use netlink_attributes::AttributeRead;
@@ -26,8 +26,8 @@ pub enum Identity {
 }
 
 // An INDEX or a NAME looked up.
-pub enum Looked {
-    Up(Identity),
+pub enum IdentityRead {
+    Read(Identity),
     Refused(Refusal),
 }
 
@@ -63,19 +63,19 @@ fn found(start: usize, end: usize) -> Slot
     }
 }
 
-fn by_index(s: &[u8], n: usize, index: Slot) -> Looked
-    ensures { λ r. ⌜ r ≡ byIndex (now (s .entry)) n index ⌝ }
+fn bit_by_index(s: &[u8], n: usize, index: Slot) -> IdentityRead
+    ensures { λ r. ⌜ r ≡ bitByIndex (now (s .entry)) n index ⌝ }
 {
     let number = slot_number(s, index) as usize;
     if n <= number {
-        return Looked::Refused(Refusal::PastLength(place(index.start)));
+        return IdentityRead::Refused(Refusal::PastLength(place(index.start)));
     }
-    Looked::Up(Identity::Number(number))
+    IdentityRead::Read(Identity::Number(number))
 }
 
-fn by_name(s: &[u8], names: &[u8], indexed: bool, head: &[u16], links: &[u16], name: Slot) -> Looked
+fn bit_by_name(s: &[u8], names: &[u8], indexed: bool, head: &[u16], links: &[u16], name: Slot) -> IdentityRead
     requires { ⌜ IndexedIf indexed (now names) (now head) (now links) ⌝ }
-    ensures { λ r. ⌜ r ≡ byName (now (s .entry)) (now (names .entry)) name ⌝ }
+    ensures { λ r. ⌜ r ≡ bitByName (now (s .entry)) (now (names .entry)) name ⌝ }
 {
     let lookup = name_index::look_up(
         names,
@@ -85,9 +85,9 @@ fn by_name(s: &[u8], names: &[u8], indexed: bool, head: &[u16], links: &[u16], n
         payload(s, name.start, name.end),
     );
     if lookup.found {
-        return Looked::Up(Identity::Number(lookup.bit));
+        return IdentityRead::Read(Identity::Number(lookup.bit));
     }
-    Looked::Refused(Refusal::UnknownBit(place(name.start)))
+    IdentityRead::Refused(Refusal::UnknownBit(place(name.start)))
 }
 
 // INDEX decides where both stand.
@@ -99,21 +99,21 @@ fn identify(
     links: &[u16],
     index: Slot,
     name: Slot,
-) -> Looked
+) -> IdentityRead
     requires { ⌜ IndexedIf indexed (now names) (now head) (now links) ⌝ }
     ensures { λ r. ⌜ r ≡ identified (now (s .entry)) (now (names .entry)) index name ⌝ }
 {
     if index.present {
-        return by_index(s, names::count(names), index);
+        return bit_by_index(s, names::count(names), index);
     }
     if name.present {
-        return by_name(s, names, indexed, head, links, name);
+        return bit_by_name(s, names, indexed, head, links, name);
     }
-    Looked::Up(Identity::Neither)
+    IdentityRead::Read(Identity::Neither)
 }
 
 // Judges the parts of the BIT that stands at `at`.
-fn judge_parts(
+fn judge_bit_parts(
     s: &[u8],
     names: &[u8],
     indexed: bool,
@@ -125,11 +125,11 @@ fn judge_parts(
     on: Slot,
 ) -> BitRead
     requires { ⌜ IndexedIf indexed (now names) (now head) (now links) ⌝ }
-    ensures { λ r. ⌜ r ≡ partsReading (now (s .entry)) (now (names .entry)) at index name on ⌝ }
+    ensures { λ r. ⌜ r ≡ bitPartsReading (now (s .entry)) (now (names .entry)) at index name on ⌝ }
 {
     match identify(s, names, indexed, head, links, index, name) {
-        Looked::Refused(why) => BitRead::Refused(why),
-        Looked::Up(identity) => {
+        IdentityRead::Refused(why) => BitRead::Refused(why),
+        IdentityRead::Read(identity) => {
             let Identity::Number(number) = identity else {
                 return BitRead::Refused(Refusal::NoBit(at));
             };
@@ -146,10 +146,10 @@ fn judge_attribute(kind: u16, bits: u16, payload: &[u8]) -> Verdict
     ensures { λ r. ⌜ r ≡ judged (ruleOf bitPolicy kind) bits (now (payload .entry)) ⌝ }
 {
     match kind {
-        1 => judge(Rule::Number, bits, payload),
-        2 => judge(Rule::Name(32), bits, payload),
-        3 => judge(Rule::Flag, bits, payload),
-        _ => judge(Rule::Unlisted, bits, payload),
+        1 => judge_by_rule(Rule::Number, bits, payload),
+        2 => judge_by_rule(Rule::Name(32), bits, payload),
+        3 => judge_by_rule(Rule::Flag, bits, payload),
+        _ => judge_by_rule(Rule::Unlisted, bits, payload),
     }
 }
 
@@ -207,7 +207,7 @@ pub fn judge_bit(
     match walk_bit(s, from) {
         BitWalk::Refused(why) => BitRead::Refused(why),
         BitWalk::Parts { index, name, on } => {
-            judge_parts(s, names, indexed, head, links, place(from), index, name, on)
+            judge_bit_parts(s, names, indexed, head, links, place(from), index, name, on)
         }
     }
 }

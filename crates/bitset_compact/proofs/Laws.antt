@@ -17,9 +17,9 @@ use Rattle.refusal.specs.declared.Refusal.{Refusal}
 use Rattle.refusal.specs.declared.Refusal.the-variants.{MissingIn, ShortBitmap, PastLength}
 use Rattle.bitset_form.specs.Form.{cutAt, both}
 use Rattle.bitset_form.specs.Bitset.{Bitset, Reading, maskOf, valueOf, refusedAs, judgedAs}
-use Rattle.bitset_form.specs.Bitset.Bitset.{masked, whole}
+use Rattle.bitset_form.specs.Bitset.Bitset.{maskedBitmap, nomaskBitmap}
 use Rattle.bitset_form.specs.Bitset.Reading.{refused, accepted}
-use Rattle.bitset_compact.specs.Compact.{bitmap, wholeReading, maskedReading, compactReading}
+use Rattle.bitset_compact.specs.Compact.{bitmap, nomaskReading, maskedReading, compactReading}
 use Rattle.bitset_form.specs.declared.Judgement.the-variants.{Accepted}
 use Rattle.bitset_form.specs.declared.Judged.{Judged}
 
@@ -35,24 +35,24 @@ unfolding judgedAs
 taken n x b m v em ev q = sym (ap (judgedAs n) q ∙ rw (em, ev))
 
 module _ (s : List ℕ) (n size : ℕ) (value : Slot) (p : List ℕ) (ep : p ≡ partOf s (value .start) (value .end)) (w : ℕ) (ew : w ≡ wordsFor size) where
-  pub whole-short : (at : ℕ) (r : Judged) → at ≡ value .start - 4 → length p / 4 < w → r ≡ refusedAs (ShortBitmap at)
-      → r ≡ judgedAs n (wholeReading s n size value)
-  unfolding wholeReading
-  whole-short at r ea h e = told n _ _ r e (rw (ea, ← ep, ← ew) (simp (lt-ltb _ _ h)))
+  pub nomask-short : (at : ℕ) (r : Judged) → at ≡ value .start - 4 → length p / 4 < w → r ≡ refusedAs (ShortBitmap at)
+      → r ≡ judgedAs n (nomaskReading s n size value)
+  unfolding nomaskReading
+  nomask-short at r ea h e = told n _ _ r e (rw (ea, ← ep, ← ew) (simp (lt-ltb _ _ h)))
 
   module _ (h : w ≤ length p / 4) (t : Bool) (et : t ≡ somePast (has (wordsIn p)) n size) where
-    pub whole-past : (at : ℕ) (r : Judged) → at ≡ value .start - 4 → t ≡ true → r ≡ refusedAs (PastLength at)
-        → r ≡ judgedAs n (wholeReading s n size value)
-    unfolding wholeReading
-    whole-past at r ea z e = told n _ _ r e (rw (ea, ← ep, ← ew, le-ltb _ _ h, ← et, z))
+    pub nomask-past : (at : ℕ) (r : Judged) → at ≡ value .start - 4 → t ≡ true → r ≡ refusedAs (PastLength at)
+        → r ≡ judgedAs n (nomaskReading s n size value)
+    unfolding nomaskReading
+    nomask-past at r ea z e = told n _ _ r e (rw (ea, ← ep, ← ew, le-ltb _ _ h, ← et, z))
 
-    pub whole-right : (m v : List ℕ) → t ≡ false → m ≡ wordsOf 16 (allBelow n) → v ≡ wordsOf 16 (cutAt size (has (wordsIn p)))
-        → record { judgement = Accepted; form = record { mask = m; value = v } } ≡ judgedAs n (wholeReading s n size value)
-    unfolding wholeReading maskOf valueOf cutAt
-    whole-right m v z em ev =
-        taken n _ (whole size (has (wordsIn p))) m v em ev (rw (← ep, ← ew, le-ltb _ _ h, ← et, z))
+    pub nomask-right : (m v : List ℕ) → t ≡ false → m ≡ wordsOf 16 (allBelow n) → v ≡ wordsOf 16 (cutAt size (has (wordsIn p)))
+        → record { judgement = Accepted; form = record { mask = m; value = v } } ≡ judgedAs n (nomaskReading s n size value)
+    unfolding nomaskReading maskOf valueOf cutAt
+    nomask-right m v z em ev =
+        taken n _ (nomaskBitmap size (has (wordsIn p))) m v em ev (rw (← ep, ← ew, le-ltb _ _ h, ← et, z))
 
-pub ruleset whole-laws = (whole-short, whole-past, whole-right)
+pub ruleset nomask-laws = (nomask-short, nomask-past, nomask-right)
 
 module _ (s : List ℕ) (nest n size : ℕ) (value mask : Slot) where
   pub masked-missing : (r : Judged) → not (mask .present) ≡ true → r ≡ refusedAs (MissingIn 5 nest) → r ≡ judgedAs n (maskedReading s nest n size value mask)
@@ -64,7 +64,7 @@ module _ (s : List ℕ) (nest n size : ℕ) (value mask : Slot) where
         ≡ cond (ltb (length (bitmap s value) / 4) (wordsFor size)) (refused (ShortBitmap (value .start - 4)))
         (cond (ltb (length (bitmap s mask) / 4) (wordsFor size)) (refused (ShortBitmap (mask .start - 4)))
         (cond (somePast (has (wordsIn (bitmap s mask))) n size) (refused (PastLength (mask .start - 4)))
-        (accepted (masked size (has (wordsIn (bitmap s value))) (has (wordsIn (bitmap s mask)))))))
+        (accepted (maskedBitmap size (has (wordsIn (bitmap s value))) (has (wordsIn (bitmap s mask)))))))
     unfolding maskedReading
     present = cond-false (not (mask .present)) _ _ there
 
@@ -89,7 +89,7 @@ module _ (s : List ℕ) (nest n size : ℕ) (value mask : Slot) where
               → record { judgement = Accepted; form = record { mask = m; value = v } } ≡ judgedAs n (maskedReading s nest n size value mask)
           unfolding maskOf valueOf cutAt both
           masked-right m v z em ev =
-              taken n _ (masked size (has (wordsIn p)) (has (wordsIn q))) m v em
+              taken n _ (maskedBitmap size (has (wordsIn p)) (has (wordsIn q))) m v em
               (ev ∙ wordsOf-cong 16 _ _
               (λ i l. ap (λ (x : Bool). x && has (wordsIn p) i) (ap (λ (ws : List ℕ). has ws i) em ∙ has-wordsOf 16 _ i l)
               ∙ and-assoc (ltb i size) (has (wordsIn q) i) (has (wordsIn p) i)))
@@ -110,19 +110,19 @@ module _ (s : List ℕ) (nest n : ℕ) (nomask size value mask : Slot) where
         (cond-false (not (size .present)) _ _ zs ∙ cond-true (not (value .present)) _ _ z)
 
     module _ (zv : not (value .present) ≡ false) (z : ℕ) (ez : z ≡ slotNumber s size) where
-      both-there : compactReading s nest n nomask size value mask ≡ cond (nomask .present) (wholeReading s n z value) (maskedReading s nest n z value mask)
+      both-there : compactReading s nest n nomask size value mask ≡ cond (nomask .present) (nomaskReading s n z value) (maskedReading s nest n z value mask)
       unfolding compactReading
       both-there =
           cond-false (not (size .present)) _ _ zs
           ∙ cond-false (not (value .present)) _ _ zv
-          ∙ ap (λ (x : ℕ). cond (nomask .present) (wholeReading s n x value) (maskedReading s nest n x value mask)) (sym ez)
+          ∙ ap (λ (x : ℕ). cond (nomask .present) (nomaskReading s n x value) (maskedReading s nest n x value mask)) (sym ez)
 
-      pub compact-whole : (r : Judged) → nomask .present ≡ true → r ≡ judgedAs n (wholeReading s n z value)
+      pub compact-nomask : (r : Judged) → nomask .present ≡ true → r ≡ judgedAs n (nomaskReading s n z value)
           → r ≡ judgedAs n (compactReading s nest n nomask size value mask)
-      compact-whole r y e = e ∙ sym (ap (judgedAs n) (both-there ∙ cond-true (nomask .present) _ _ y))
+      compact-nomask r y e = e ∙ sym (ap (judgedAs n) (both-there ∙ cond-true (nomask .present) _ _ y))
 
       pub compact-masked : (r : Judged) → nomask .present ≡ false → r ≡ judgedAs n (maskedReading s nest n z value mask)
           → r ≡ judgedAs n (compactReading s nest n nomask size value mask)
       compact-masked r y e = e ∙ sym (ap (judgedAs n) (both-there ∙ cond-false (nomask .present) _ _ y))
 
-pub ruleset compact-laws = (compact-no-size, compact-no-value, compact-whole, compact-masked)
+pub ruleset compact-laws = (compact-no-size, compact-no-value, compact-nomask, compact-masked)

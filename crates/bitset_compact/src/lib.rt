@@ -1,7 +1,7 @@
 // A compact bitset: SIZE, VALUE and, without NOMASK, MASK.
 ghost use mathlib.Core.Path.{_≡_};
 ghost use Rattle.bitset_form.specs.Bitset.{judgedAs};
-ghost use Rattle.bitset_compact.specs.Compact.{wholeReading, maskedReading, compactReading};
+ghost use Rattle.bitset_compact.specs.Compact.{nomaskReading, maskedReading, compactReading};
 use bits::words_for;
 use bitset_form::Form;
 use bitset_form::Judged;
@@ -21,8 +21,8 @@ use refusal::Refusal;
 use word_bytes::some_past;
 
 // Under NOMASK: VALUE alone counts.
-fn judge_whole(s: &[u8], n: usize, size: usize, value: Slot) -> Judged
-    ensures { λ r. ⌜ r ≡ judgedAs n (wholeReading (now (s .entry)) n size value) ⌝ }
+fn judge_nomask(s: &[u8], n: usize, size: usize, value: Slot) -> Judged
+    ensures { λ r. ⌜ r ≡ judgedAs n (nomaskReading (now (s .entry)) n size value) ⌝ }
 {
     let bitmap = payload(s, value.start, value.end);
     if bitmap.len() / 4 < words_for(size) {
@@ -88,7 +88,7 @@ pub fn judge_compact(
     }
     let bits = slot_number(s, size) as usize;
     if nomask.present {
-        return judge_whole(s, n, bits, value);
+        return judge_nomask(s, n, bits, value);
     }
     judge_masked(s, nest, n, bits, value, mask)
 }

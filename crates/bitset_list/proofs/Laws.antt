@@ -27,12 +27,12 @@ use Rattle.refusal.specs.Refusal.{ofFault}
 use Rattle.refusal.specs.declared.Refusal.{Refusal}
 use Rattle.bitset_form.specs.Policies.{bitsPolicy}
 use Rattle.bitset_form.specs.Bitset.{maskOf, valueOf, refusedAs, judgedAs, listedIn, underNomask}
-use Rattle.bitset_form.specs.Bitset.Bitset.{listed}
+use Rattle.bitset_form.specs.Bitset.Bitset.{maskedList}
 use Rattle.bitset_form.specs.Bitset.Reading.{refused}
 use Rattle.bitset_bit.specs.Bit.{bitReading}
 use Rattle.refusal.specs.Refusal.{onStop}
 use Rattle.bitset_list.specs.BitList.{ListReading, onBit, bitsReading, listJudged, asBitset, listReading}
-use Rattle.bitset_list.specs.BitList.ListReading.{stopped, entries}
+use Rattle.bitset_list.specs.BitList.ListReading.{listRefused, listEntries}
 use Rattle.bitset_form.specs.declared.Form.{Form}
 use Rattle.bitset_form.specs.declared.Judgement.the-variants.{Accepted, Refused}
 use Rattle.bitset_form.specs.declared.Judged.{Judged}
@@ -45,8 +45,8 @@ formAfter f [] = f
 formAfter f (e ∷ es) = formAfter (listedIn f (e .bit) (e .on)) es
 
 unfoldable pub judgedAfter : Form → ListReading → Judged
-judgedAfter f (stopped r) = refusedAs r
-judgedAfter f (entries es) = record { judgement = Accepted; form = formAfter f es }
+judgedAfter f (listRefused r) = refusedAs r
+judgedAfter f (listEntries es) = record { judgement = Accepted; form = formAfter f es }
 
 abbrev pub empty : Form
 empty = record { mask = replicate 16 0; value = replicate 16 0 }
@@ -114,8 +114,8 @@ unfolding judgedAfter listJudged
 bits-start s names from = go (bitsReading s names (attributes s from))
   where
     go : (x : ListReading) → listJudged x ≡ judgedAfter empty x
-    go (stopped r) = refl
-    go (entries es) = ap (λ (f : Form). record { judgement = Accepted; form = f }) (sym (after-all es))
+    go (listRefused r) = refl
+    go (listEntries es) = ap (λ (f : Form). record { judgement = Accepted; form = f }) (sym (after-all es))
 
 module _ (s names : List ℕ) (from : ℕ) (f : Form) (at : ℕ) (inv : BitsFrom s names from f at) (r : AttributeRead) (e : r ≡ attributeAt s at) where
   step : listJudged (bitsReading s names (attributes s from)) ≡ judgedAfter f (bitsReading s names (onRead r at (attributes s)))
@@ -154,8 +154,8 @@ module _ (s names : List ℕ) (from : ℕ) (f : Form) (at : ℕ) (inv : BitsFrom
       bits-more i on j k m y h ej ek em ey = rw (em, ey, ej, ek) (rw h at one ∙ go (bitsReading s names (attributes s n)))
         where
           go : (x : ListReading) → judgedAfter f (onBit (B.Bit i on) x) ≡ judgedAfter (listedIn f i on) x
-          go (stopped r) = refl
-          go (entries es) = refl
+          go (listRefused r) = refl
+          go (listEntries es) = refl
 
 -- the whole list
 module _ (s names : List ℕ) (nomask bits : Slot) (c : List ℕ) (ec : c ≡ partOf s 0 (bits .end))
@@ -178,23 +178,23 @@ module _ (s names : List ℕ) (nomask bits : Slot) (c : List ℕ) (ec : c ≡ pa
     whole-list : listReading s names nomask bits ≡ asBitset (nomask .present) (bitsReading c names (attributes c (bits .start)))
     whole-list = by-bits ∙ ap (λ (x : Stop). onStop x refused (asBitset (nomask .present) (bitsReading c names (attributes c (bits .start))))) q
 
-    pub list-only : (n : ℕ) (r : Judged) → n ≡ count names → nomask .present ≡ true → r ≡ underNomask n j → r ≡ judgedAs (count names) (listReading s names nomask bits)
+    pub list-nomask : (n : ℕ) (r : Judged) → n ≡ count names → nomask .present ≡ true → r ≡ underNomask n j → r ≡ judgedAs (count names) (listReading s names nomask bits)
     unfolding underNomask judgedAs listJudged maskOf valueOf
-    list-only n r en h er =
+    list-nomask n r en h er =
         er ∙ ap (underNomask n) ej ∙ go (bitsReading c names (attributes c (bits .start)))
         ∙ ap (λ (x : ℕ). judgedAs x (asBitset true (bitsReading c names (attributes c (bits .start))))) en
         ∙ sym (ap (judgedAs (count names)) (whole-list ∙ ap (λ (t : Bool). asBitset t (bitsReading c names (attributes c (bits .start)))) h))
       where
         go : (x : ListReading) → underNomask n (listJudged x) ≡ judgedAs n (asBitset true x)
-        go (stopped r) = refl
-        go (entries es) = refl
+        go (listRefused r) = refl
+        go (listEntries es) = refl
 
-    pub list-listed : nomask .present ≡ false → j ≡ judgedAs (count names) (listReading s names nomask bits)
+    pub list-masked : nomask .present ≡ false → j ≡ judgedAs (count names) (listReading s names nomask bits)
     unfolding judgedAs listJudged maskOf valueOf
-    list-listed h =
+    list-masked h =
         ej ∙ go (bitsReading c names (attributes c (bits .start)))
         ∙ sym (ap (judgedAs (count names)) (whole-list ∙ ap (λ (t : Bool). asBitset t (bitsReading c names (attributes c (bits .start)))) h))
       where
         go : (x : ListReading) → listJudged x ≡ judgedAs (count names) (asBitset false x)
-        go (stopped r) = refl
-        go (entries es) = refl
+        go (listRefused r) = refl
+        go (listEntries es) = refl

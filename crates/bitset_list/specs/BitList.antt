@@ -12,7 +12,7 @@ use Rattle.refusal.specs.Refusal.{onStop}
 use Rattle.refusal.specs.declared.Refusal.{Refusal}
 use Rattle.bitset_form.specs.Policies.{bitsPolicy}
 use Rattle.bitset_form.specs.Bitset.{Reading, refusedAs}
-use Rattle.bitset_form.specs.Bitset.Bitset.{listed, only}
+use Rattle.bitset_form.specs.Bitset.Bitset.{maskedList, nomaskList}
 use Rattle.bitset_form.specs.Bitset.Reading.{refused, accepted}
 use Rattle.bitset_form.specs.declared.Judgement.the-variants.{Accepted}
 use Rattle.bitset_form.specs.declared.Judged.{Judged}
@@ -22,32 +22,32 @@ use Rattle.bitset_bit.specs.declared.BitRead.the-variants as B
 
 -- what the BITs say, in order
 pub data ListReading : Type 0 where
-  stopped : Refusal → ListReading
-  entries : List Listed → ListReading
+  listRefused : Refusal → ListReading
+  listEntries : List Listed → ListReading
 
 -- one BIT and those after it
 abbrev pub onBit : BitRead → ListReading → ListReading
-onBit (B.Refused r) rest = stopped r
-onBit (B.Bit number on) (entries es) = entries (record { bit = number; on = on } ∷ es)
-onBit (B.Bit number on) (stopped r) = stopped r
+onBit (B.Refused r) rest = listRefused r
+onBit (B.Bit number on) (listEntries es) = listEntries (record { bit = number; on = on } ∷ es)
+onBit (B.Bit number on) (listRefused r) = listRefused r
 
 -- each BIT in turn; BITS is walked whole before, so none is broken
 unfoldable pub bitsReading : List ℕ → List ℕ → Attributes → ListReading
-bitsReading s names done = entries []
-bitsReading s names (broken at) = entries []
+bitsReading s names done = listEntries []
+bitsReading s names (broken at) = listEntries []
 bitsReading s names (attribute k b a e rest) = onBit (bitReading (partOf s 0 e) names a) (bitsReading s names rest)
 
 -- the form of the listed bits, as judge_bits answers it
 unfoldable pub listJudged : ListReading → Judged
-listJudged (stopped r) = refusedAs r
-listJudged (entries es) =
+listJudged (listRefused r) = refusedAs r
+listJudged (listEntries es) =
     record { judgement = Accepted; form = record { mask = wordsOf 16 (listMask es); value = wordsOf 16 (listValue es) } }
 
 -- a bit list, under NOMASK or not
 abbrev pub asBitset : Bool → ListReading → Reading
-asBitset nomask (stopped r) = refused r
-asBitset true (entries es) = accepted (only es)
-asBitset false (entries es) = accepted (listed es)
+asBitset nomask (listRefused r) = refused r
+asBitset true (listEntries es) = accepted (nomaskList es)
+asBitset false (listEntries es) = accepted (maskedList es)
 
 unfoldable pub listReading : List ℕ → List ℕ → Slot → Slot → Reading
 listReading s names nomask bits =

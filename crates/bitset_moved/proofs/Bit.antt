@@ -15,11 +15,11 @@ use Rattle.netlink.specs.declared.walk.Stop.the-variants.{Whole}
 use Rattle.refusal.specs.declared.Refusal.{Refusal}
 use Rattle.refusal.specs.declared.Refusal.the-variants.{PastLength, UnknownBit}
 use Rattle.bitset_form.specs.Policies.{bitPolicy}
-use Rattle.bitset_bit.specs.Bit.{byIndex, byName, identified, onLooked, partsReading, bitReading}
+use Rattle.bitset_bit.specs.Bit.{bitByIndex, bitByName, identified, onIdentityRead, bitPartsReading, bitReading}
 use Rattle.bitset_bit.specs.declared.Identity.{Identity}
 use Rattle.bitset_bit.specs.declared.Identity.the-variants.{Number, Neither}
-use Rattle.bitset_bit.specs.declared.Looked.{Looked}
-use Rattle.bitset_bit.specs.declared.Looked.the-variants as L
+use Rattle.bitset_bit.specs.declared.IdentityRead.{IdentityRead}
+use Rattle.bitset_bit.specs.declared.IdentityRead.the-variants as L
 use Rattle.bitset_bit.specs.declared.BitRead.{BitRead}
 use Rattle.bitset_bit.specs.declared.BitRead.the-variants as B
 use Rattle.bitset_moved.specs.Moved.{moved}
@@ -27,8 +27,8 @@ use Rattle.bitset_moved.proofs.Attributes.{part-moved}
 use Rattle.bitset_moved.proofs.Walk.{Shift, there, place, number-moved, stop-moved, slot-moved, on-stop}
 use Rattle.bitset_moved.proofs.Walk.Shift.{none, some}
 
-abbrev movedLooked : ℕ → Looked → Looked
-movedLooked by (L.Up identity) = L.Up identity
+abbrev movedLooked : ℕ → IdentityRead → IdentityRead
+movedLooked by (L.Read identity) = L.Read identity
 movedLooked by (L.Refused why) = L.Refused (moved by why)
 
 abbrev pub movedBit : ℕ → BitRead → BitRead
@@ -37,24 +37,24 @@ movedBit by (B.Refused why) = B.Refused (moved by why)
 
 -- a test that refuses, and one that finds
 past : (by : ℕ) (t : Bool) (why : Refusal) (x : Identity)
-    → cond t (L.Refused (moved by why)) (L.Up x) ≡ movedLooked by (cond t (L.Refused why) (L.Up x))
+    → cond t (L.Refused (moved by why)) (L.Read x) ≡ movedLooked by (cond t (L.Refused why) (L.Read x))
 past by true why x = refl
 past by false why x = refl
 
 known : (by : ℕ) (t : Bool) (why : Refusal) (x : Identity)
-    → cond t (L.Up x) (L.Refused (moved by why)) ≡ movedLooked by (cond t (L.Up x) (L.Refused why))
+    → cond t (L.Read x) (L.Refused (moved by why)) ≡ movedLooked by (cond t (L.Read x) (L.Refused why))
 known by true why x = refl
 known by false why x = refl
 
-looked-moved : (by : ℕ) (l : Looked) (at : ℕ) (on : Bool) → onLooked (movedLooked by l) (by + at) on ≡ movedBit by (onLooked l at on)
-looked-moved by (L.Up (Number number)) at on = refl
-looked-moved by (L.Up Neither) at on = refl
+looked-moved : (by : ℕ) (l : IdentityRead) (at : ℕ) (on : Bool) → onIdentityRead (movedLooked by l) (by + at) on ≡ movedBit by (onIdentityRead l at on)
+looked-moved by (L.Read (Number number)) at on = refl
+looked-moved by (L.Read Neither) at on = refl
 looked-moved by (L.Refused why) at on = refl
 
 module _ (pre s names : List ℕ) where
   identified-moved : {index index′ name name′ : Slot} → Shift (length pre) (length s) index index′ → Shift (length pre) (length s) name name′
       → identified (pre ++ s) names index′ name′ ≡ movedLooked (length pre) (identified s names index name)
-  unfolding identified byIndex byName
+  unfolding identified bitByIndex bitByName
   identified-moved (some a e l u h) name =
       rw (number-moved pre s (some a e l u h), place (length pre) a l)
       (past (length pre) (leb (count names) (slotNumber s (found a e))) (PastLength (a - 4)) (Number (slotNumber s (found a e))))
@@ -66,8 +66,8 @@ module _ (pre s names : List ℕ) where
 
   parts-moved : (at : ℕ) {index index′ name name′ on on′ : Slot} → Shift (length pre) (length s) index index′
       → Shift (length pre) (length s) name name′ → Shift (length pre) (length s) on on′
-      → partsReading (pre ++ s) names (length pre + at) index′ name′ on′ ≡ movedBit (length pre) (partsReading s names at index name on)
-  unfolding partsReading
+      → bitPartsReading (pre ++ s) names (length pre + at) index′ name′ on′ ≡ movedBit (length pre) (bitPartsReading s names at index name on)
+  unfolding bitPartsReading
   parts-moved at {index} {index′} {name} {name′} {on} {on′} i n o =
       rw (identified-moved i n, there o) (looked-moved (length pre) (identified s names index name) at (on .present))
 
@@ -78,8 +78,8 @@ module _ (pre s names : List ℕ) where
       let slot : ℕ → Slot = λ kind. getD (walked bitPolicy s from .slots) kind absent in
       let slot′ : ℕ → Slot = λ kind. getD (walked bitPolicy (pre ++ s) (length pre + from) .slots) kind absent in
       on-stop (length pre) (movedBit (length pre)) B.Refused (λ r. refl) (walked bitPolicy s from .stop) (walked bitPolicy (pre ++ s) (length pre + from) .stop)
-      (partsReading s names (from - 4) (slot 1) (slot 2) (slot 3))
-      (partsReading (pre ++ s) names (length pre + from - 4) (slot′ 1) (slot′ 2) (slot′ 3))
+      (bitPartsReading s names (from - 4) (slot 1) (slot 2) (slot 3))
+      (bitPartsReading (pre ++ s) names (length pre + from - 4) (slot′ 1) (slot′ 2) (slot′ 3))
       (stop-moved pre s bitPolicy from)
       (λ (w : walked bitPolicy s from .stop ≡ Whole).
       rw (place (length pre) from l)

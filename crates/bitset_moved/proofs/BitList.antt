@@ -18,27 +18,27 @@ use Rattle.bitset_bit.specs.Bit.{bitReading}
 use Rattle.bitset_bit.specs.declared.BitRead.{BitRead}
 use Rattle.bitset_bit.specs.declared.BitRead.the-variants as B
 use Rattle.bitset_list.specs.BitList.{ListReading, onBit, bitsReading, asBitset, listReading}
-use Rattle.bitset_list.specs.BitList.ListReading.{stopped, entries}
+use Rattle.bitset_list.specs.BitList.ListReading.{listRefused, listEntries}
 use Rattle.bitset_moved.specs.Moved.{moved, movedReading}
 use Rattle.bitset_moved.proofs.Attributes.{movedAll, front-moved, attributes-moved}
 use Rattle.bitset_moved.proofs.Walk.{Shift, there, stop-moved, on-stop}
 use Rattle.bitset_moved.proofs.Bit.{movedBit, bit-moved}
 
 abbrev movedList : ℕ → ListReading → ListReading
-movedList by (stopped why) = stopped (moved by why)
-movedList by (entries es) = entries es
+movedList by (listRefused why) = listRefused (moved by why)
+movedList by (listEntries es) = listEntries es
 
 -- one BIT and those after it; a list, under NOMASK or not
 on-bit : (by : ℕ) (x : BitRead) (y : ListReading) → onBit (movedBit by x) (movedList by y) ≡ movedList by (onBit x y)
 on-bit by (B.Refused why) y = refl
-on-bit by (B.Bit number on) (stopped why) = refl
-on-bit by (B.Bit number on) (entries es) = refl
+on-bit by (B.Bit number on) (listRefused why) = refl
+on-bit by (B.Bit number on) (listEntries es) = refl
 
 as-bitset : (by : ℕ) (nomask : Bool) (x : ListReading) → asBitset nomask (movedList by x) ≡ movedReading by (asBitset nomask x)
-as-bitset by true (stopped why) = refl
-as-bitset by false (stopped why) = refl
-as-bitset by true (entries es) = refl
-as-bitset by false (entries es) = refl
+as-bitset by true (listRefused why) = refl
+as-bitset by false (listRefused why) = refl
+as-bitset by true (listEntries es) = refl
+as-bitset by false (listEntries es) = refl
 
 module _ (pre names : List ℕ) where
   -- the BITs of a parent

@@ -15,9 +15,9 @@ use Rattle.bitset_form.specs.Bitset.{Reading}
 use Rattle.bitset_form.specs.Bitset.Reading.{refused}
 use Rattle.bitset_compact.specs.Compact.{compactReading}
 use Rattle.bitset_list.specs.BitList.{listReading}
-use Rattle.bitset.specs.Judge.{mixedAt, onMixing, partsReading, bitsetReading}
+use Rattle.bitset.specs.Judge.{mixedAt, onMixing, bitsetPartsReading, bitsetReading}
 use Rattle.bitset.specs.declared.judge.Mixing.{Mixing}
-use Rattle.bitset.specs.declared.judge.Mixing.the-variants.{Pure, At}
+use Rattle.bitset.specs.declared.judge.Mixing.the-variants.{Unmixed, At}
 use Rattle.bitset_moved.specs.Moved.{movedReading}
 use Rattle.bitset_moved.proofs.Walk.{Shift, place, stop-moved, slot-moved, on-stop}
 use Rattle.bitset_moved.proofs.Walk.Shift.{none, some}
@@ -25,12 +25,12 @@ use Rattle.bitset_moved.proofs.Compact.{compact-moved}
 use Rattle.bitset_moved.proofs.BitList.{list-moved}
 
 abbrev movedMixing : ℕ → Mixing → Mixing
-movedMixing by Pure = Pure
+movedMixing by Unmixed = Unmixed
 movedMixing by (At at) = At (by + at)
 
 on-mixing : (by : ℕ) (x : Mixing) (rest rest′ : Reading) → rest′ ≡ movedReading by rest
     → onMixing (movedMixing by x) rest′ ≡ movedReading by (onMixing x rest)
-on-mixing by Pure rest rest′ e = e
+on-mixing by Unmixed rest rest′ e = e
 on-mixing by (At at) rest rest′ e = refl
 
 -- 18: BITS with VALUE, BITS with MASK, NOMASK with MASK
@@ -60,9 +60,9 @@ module _ (pre c names : List ℕ) (nest nest′ : ℕ) (at : nest′ ≡ length 
   parts-moved : {nomask nomask′ size size′ bits bits′ value value′ mask mask′ : Slot}
       → Shift (length pre) (length c) nomask nomask′ → Shift (length pre) (length c) size size′ → Shift (length pre) (length c) bits bits′
       → Shift (length pre) (length c) value value′ → Shift (length pre) (length c) mask mask′
-      → partsReading (pre ++ c) nest′ names nomask′ size′ bits′ value′ mask′
-      ≡ movedReading (length pre) (partsReading c nest names nomask size bits value mask)
-  unfolding partsReading
+      → bitsetPartsReading (pre ++ c) nest′ names nomask′ size′ bits′ value′ mask′
+      ≡ movedReading (length pre) (bitsetPartsReading c nest names nomask size bits value mask)
+  unfolding bitsetPartsReading
   parts-moved {nomask} {nomask′} {size} {size′} {bits} {bits′} {value} {value′} {mask} {mask′} o s b v m =
       rw (mixed-moved b v m o)
       (on-mixing (length pre) (mixedAt nomask bits value mask)
@@ -78,8 +78,8 @@ module _ (pre c names : List ℕ) where
       let slot : ℕ → Slot = λ kind. getD (walked bitsetPolicy c 0 .slots) kind absent in
       let slot′ : ℕ → Slot = λ kind. getD (walked bitsetPolicy (pre ++ c) (length pre + 0) .slots) kind absent in
       on-stop (length pre) (movedReading (length pre)) refused (λ r. refl) (walked bitsetPolicy c 0 .stop) (walked bitsetPolicy (pre ++ c) (length pre + 0) .stop)
-      (partsReading c (0 - 4) names (slot 1) (slot 2) (slot 3) (slot 4) (slot 5))
-      (partsReading (pre ++ c) (length pre + 0 - 4) names (slot′ 1) (slot′ 2) (slot′ 3) (slot′ 4) (slot′ 5))
+      (bitsetPartsReading c (0 - 4) names (slot 1) (slot 2) (slot 3) (slot 4) (slot 5))
+      (bitsetPartsReading (pre ++ c) (length pre + 0 - 4) names (slot′ 1) (slot′ 2) (slot′ 3) (slot′ 4) (slot′ 5))
       (stop-moved pre c bitsetPolicy 0)
       (λ (w : walked bitsetPolicy c 0 .stop ≡ Whole).
       parts-moved pre c names (0 - 4) (length pre + 0 - 4) refl

@@ -24,7 +24,7 @@ use Rattle.refusal.specs.declared.Refusal.the-variants.{Box, Page, Datagram, Le
 use Rattle.bitset_form.specs.Bitset.{Bitset, Reading}
 use Rattle.bitset_form.specs.Bitset.Reading.{refused, accepted}
 use Rattle.bitset.specs.Judge.{bitsetReading}
-use Rattle.normal.specs.Normal.{Outcome, normalForm, onReading, normalised}
+use Rattle.normal.specs.Normal.{NormalAnswer, normalForm, readingAnswer, normalised}
 use Rattle.normal.specs.Claims.{ActAlike}
 use Rattle.normal.proofs.Demand3.{forms-decide}
 use Rattle.bitset_moved.specs.Moved.{moved, movedReading}
@@ -82,7 +82,7 @@ number-above (UnknownBit at) = omega arith
 number-above (NoBit at) = omega arith
 
 -- so the normaliser's answer is the same wherever the contents stand
-answer-kept : (by n : ℕ) (x : Reading) → onReading (movedReading by x) n ≡ onReading x n
+answer-kept : (by n : ℕ) (x : Reading) → readingAnswer (movedReading by x) n ≡ readingAnswer x n
 answer-kept by n (refused why) = ap (λ (k : ℕ). record { number = k; bytes = [] }) (number-kept by why)
 answer-kept by n (accepted b) = refl
 
@@ -115,29 +115,29 @@ module _ (m names : List ℕ) (start end : ℕ) (order : start ≤ end) (inside 
     abbrev handler : Reading
     handler = bitsetReading (partOf m 0 end) start names
 
-    abbrev normal : Outcome
+    abbrev normal : NormalAnswer
     normal = normalised (partOf m start end) names room
 
-    pub normal-is : normal ≡ onReading handler (count names)
+    pub normal-is : normal ≡ readingAnswer handler (count names)
     unfolding normalised
     normal-is =
         rw (right, le-ltb room 144 page, le-ltb 32768 (length (partOf m start end)) short, reading-same)
         (sym (answer-kept start (count names) (bitsetReading (partOf m start end) 0 names)))
 
     pub both-accept : (b : Bitset) → handler ≡ accepted b → normal ≡ record { number = 0; bytes = normalForm (count names) b }
-    both-accept b e = normal-is ∙ ap (λ (x : Reading). onReading x (count names)) e
+    both-accept b e = normal-is ∙ ap (λ (x : Reading). readingAnswer x (count names)) e
 
     pub both-refuse : (why : Refusal) → handler ≡ refused why → normal ≡ record { number = numberOf why; bytes = [] }
-    both-refuse why e = normal-is ∙ ap (λ (x : Reading). onReading x (count names)) e
+    both-refuse why e = normal-is ∙ ap (λ (x : Reading). readingAnswer x (count names)) e
 
-    number-is : {x : Reading} → handler ≡ x → normal .number ≡ onReading x (count names) .number
-    number-is e = ap (λ (o : Outcome). o .number) (normal-is ∙ ap (λ (x : Reading). onReading x (count names)) e)
+    number-is : {x : Reading} → handler ≡ x → normal .number ≡ readingAnswer x (count names) .number
+    number-is e = ap (λ (o : NormalAnswer). o .number) (normal-is ∙ ap (λ (x : Reading). readingAnswer x (count names)) e)
 
     pub accept-back : normal .number ≡ 0 → (b : Bitset) × (handler ≡ accepted b) × (normal .bytes ≡ normalForm (count names) b)
     accept-back zero = go handler refl
       where
         go : (x : Reading) → handler ≡ x → (b : Bitset) × (handler ≡ accepted b) × (normal .bytes ≡ normalForm (count names) b)
-        go (accepted b) e = (b, e, ap (λ (o : Outcome). o .bytes) (both-accept b e))
+        go (accepted b) e = (b, e, ap (λ (o : NormalAnswer). o .bytes) (both-accept b e))
         go (refused why) e = absurd (omega (arith, zero, number-is e, number-above why))
 
     pub refuse-back : 0 < normal .number → (why : Refusal) × (handler ≡ refused why) × (normal .number ≡ numberOf why) × (normal .bytes ≡ [])
@@ -145,7 +145,7 @@ module _ (m names : List ℕ) (start end : ℕ) (order : start ≤ end) (inside 
       where
         go : (x : Reading) → handler ≡ x → (why : Refusal) × (handler ≡ refused why) × (normal .number ≡ numberOf why) × (normal .bytes ≡ [])
         go (accepted b) e = absurd (omega (arith, more, number-is e))
-        go (refused why) e = (why, e, number-is e, ap (λ (o : Outcome). o .bytes) (both-refuse why e))
+        go (refused why) e = (why, e, number-is e, ap (λ (o : NormalAnswer). o .bytes) (both-refuse why e))
 
 -- two bitsets of requests, over one name list
 module _ (names : List ℕ) (right : namesRight names ≡ true) (room : ℕ) (page : 144 ≤ room)
@@ -158,7 +158,7 @@ module _ (names : List ℕ) (right : namesRight names ≡ true) (room : ℕ) (pa
   alike-exactly =
       let decide = forms-decide names right (partOf m start end) (partOf m′ start′ end′) b c (accepted-alone m names start end order inside b ok) (accepted-alone m′ names start′ end′ order′ inside′ c ok′) in
       let first : normalised (partOf m start end) names room .bytes ≡ normalForm (count names) b =
-      ap (λ (o : Outcome). o .bytes) (both-accept m names start end order inside right room page short b ok) in
+      ap (λ (o : NormalAnswer). o .bytes) (both-accept m names start end order inside right room page short b ok) in
       let second : normalised (partOf m′ start′ end′) names room .bytes ≡ normalForm (count names) c =
-      ap (λ (o : Outcome). o .bytes) (both-accept m′ names start′ end′ order′ inside′ right room page short′ c ok′) in
+      ap (λ (o : NormalAnswer). o .bytes) (both-accept m′ names start′ end′ order′ inside′ right room page short′ c ok′) in
       (λ a. first ∙ decide .0 a ∙ sym second, λ e. decide .1 (sym first ∙ e ∙ second))

@@ -12,9 +12,9 @@ use Rattle.netlink.specs.Walk.{found, slotNumber}
 use Rattle.netlink.specs.declared.walk.Slot.{Slot}
 use Rattle.refusal.specs.declared.Refusal.the-variants.{MissingIn, ShortBitmap, PastLength}
 use Rattle.bitset_form.specs.Bitset.{Bitset}
-use Rattle.bitset_form.specs.Bitset.Bitset.{masked, whole}
+use Rattle.bitset_form.specs.Bitset.Bitset.{maskedBitmap, nomaskBitmap}
 use Rattle.bitset_form.specs.Bitset.Reading.{refused, accepted}
-use Rattle.bitset_compact.specs.Compact.{wholeReading, maskedReading, compactReading}
+use Rattle.bitset_compact.specs.Compact.{nomaskReading, maskedReading, compactReading}
 use Rattle.bitset_moved.specs.Moved.{movedReading}
 use Rattle.bitset_moved.proofs.Attributes.{part-moved}
 use Rattle.bitset_moved.proofs.Walk.{Shift, place, number-moved}
@@ -37,12 +37,12 @@ both-checks by false p short′ past q b = checks by short′ past q b
 
 module _ (pre c : List ℕ) (n : ℕ) where
   whole-moved : (size a e : ℕ) → 4 ≤ a
-      → wholeReading (pre ++ c) n size (found (length pre + a) (length pre + e)) ≡ movedReading (length pre) (wholeReading c n size (found a e))
-  unfolding wholeReading
+      → nomaskReading (pre ++ c) n size (found (length pre + a) (length pre + e)) ≡ movedReading (length pre) (nomaskReading c n size (found a e))
+  unfolding nomaskReading
   whole-moved size a e l =
       rw (part-moved pre c a e, place (length pre) a l)
       (checks (length pre) (ltb (length (partOf c a e) / 4) (wordsFor size)) (somePast (has (wordsIn (partOf c a e))) n size) (a - 4)
-      (whole size (has (wordsIn (partOf c a e)))))
+      (nomaskBitmap size (has (wordsIn (partOf c a e)))))
 
   module _ (nest nest′ : ℕ) (at : nest′ ≡ length pre + nest - 4) where
     lacks : (kind : ℕ) → refused (MissingIn kind nest′) ≡ refused (MissingIn kind (length pre + nest - 4))
@@ -56,14 +56,14 @@ module _ (pre c : List ℕ) (n : ℕ) where
     masked-moved size a e l (some i j k u h) =
         rw (part-moved pre c a e, part-moved pre c i j, place (length pre) a l, place (length pre) i k)
         (both-checks (length pre) (ltb (length (partOf c a e) / 4) (wordsFor size)) (a - 4) (ltb (length (partOf c i j) / 4) (wordsFor size))
-        (somePast (has (wordsIn (partOf c i j))) n size) (i - 4) (masked size (has (wordsIn (partOf c a e))) (has (wordsIn (partOf c i j)))))
+        (somePast (has (wordsIn (partOf c i j))) n size) (i - 4) (maskedBitmap size (has (wordsIn (partOf c a e))) (has (wordsIn (partOf c i j)))))
 
     form-moved : (size a e : ℕ) {nomask nomask′ mask mask′ : Slot} → 4 ≤ a
         → Shift (length pre) (length c) nomask nomask′ → Shift (length pre) (length c) mask mask′
         → cond (nomask′ .present)
-        (wholeReading (pre ++ c) n size (found (length pre + a) (length pre + e)))
+        (nomaskReading (pre ++ c) n size (found (length pre + a) (length pre + e)))
         (maskedReading (pre ++ c) nest′ n size (found (length pre + a) (length pre + e)) mask′)
-        ≡ movedReading (length pre) (cond (nomask .present) (wholeReading c n size (found a e)) (maskedReading c nest n size (found a e) mask))
+        ≡ movedReading (length pre) (cond (nomask .present) (nomaskReading c n size (found a e)) (maskedReading c nest n size (found a e) mask))
     form-moved size a e l none m = masked-moved size a e l m
     form-moved size a e l (some i j k u h) m = whole-moved size a e l
 

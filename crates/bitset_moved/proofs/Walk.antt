@@ -12,7 +12,7 @@ use Rattle.netlink_attributes.specs.Attributes.Attributes.{done, broken, attrib
 use Rattle.netlink_attributes.specs.Claims.{Apart}
 use Rattle.netlink_attributes.proofs.Apart.{apart}
 use Rattle.netlink.specs.Policy.{ruleOf, judged}
-use Rattle.netlink.specs.Walk.{found, absent, onVerdict, firstFault, lastOf, walked, slotNumber}
+use Rattle.netlink.specs.Walk.{found, absent, onVerdict, firstFault, lastOfType, walked, slotNumber}
 use Rattle.netlink.specs.declared.policy.Rule.{Rule}
 use Rattle.netlink.specs.declared.policy.Fault.{Fault}
 use Rattle.netlink.specs.declared.policy.Fault.the-variants as F
@@ -67,8 +67,8 @@ module _ (pre c : List ℕ) where
         (fault-moved (q .5 .0) rest (q .5 .3)))
 
   last-moved : (kind at : ℕ) {x y : Slot} (xs : Attributes) → Apart c at xs → Shift (length pre) (length c) x y
-      → Shift (length pre) (length c) (lastOf kind x xs) (lastOf kind y (movedAll (length pre) xs))
-  unfolding lastOf
+      → Shift (length pre) (length c) (lastOfType kind x xs) (lastOfType kind y (movedAll (length pre) xs))
+  unfolding lastOfType
   last-moved kind at done q r = r
   last-moved kind at (broken b) q r = r
   last-moved kind at {x} {y} (attribute k b a e rest) q r =

@@ -13,7 +13,7 @@ use netlink_write::attributes::put_numbered;
 const BIT: u16 = 1;
 
 // The BIT of bit i, INDEX and then NAME where the bit has one; nothing where the words do not hold the bit.
-fn put_bit(page: &mut [u8], names: &[u8], words: &[u32], i: usize) -> usize
+fn put_listed_bit(page: &mut [u8], names: &[u8], words: &[u32], i: usize) -> usize
     requires { ⌜ (i < 512) × (52 ≤ length (now page)) ⌝ }
     ensures { λ r. ⌜ Wrote (bitIn (now (names .entry)) (has (now (words .entry))) i) (now (page .entry)) (now (page .exit)) r ⌝ }
     ensures { λ r. ⌜ r ≤ 52 ⌝ }
@@ -33,7 +33,7 @@ fn put_bits(page: &mut [u8], names: &[u8], words: &[u32], n: usize) -> usize
     let mut at = 0;
     let mut i = 0;
     while i < n {
-        at += put_bit(&mut page[at..], names, words, i);
+        at += put_listed_bit(&mut page[at..], names, words, i);
         i += 1;
     }
     at

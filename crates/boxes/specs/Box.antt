@@ -5,7 +5,7 @@ use Rattle.entries.specs.Entry.{count}
 use Rattle.roll.specs.Record.{portCount}
 use Rattle.layout.specs.declared.Set.{Set}
 use Rattle.layout.specs.declared.Sizes.{Sizes}
-use Rattle.layout.specs.Layout.{Names, namesOf, ofLists, widths, sizeOf, place, setAt}
+use Rattle.layout.specs.Layout.{Names, namesOf, ofLists, widthsOf, sizeOf, setPlace, setAt}
 
 pub record Box : Type 0 where
   pub roll : List ℕ
@@ -29,11 +29,11 @@ abbrev pub sizesIn : Box → Sizes
 sizesIn box = ofLists count (box .names)
 
 abbrev pub widthsIn : Box → Sizes
-widthsIn box = widths (sizesIn box)
+widthsIn box = widthsOf (sizesIn box)
 
 -- where a set of the port at a position begins, how many words it has, and its words
 unfoldable pub placeIn : Box → ℕ → Set → ℕ
-placeIn box position set = place (portsIn box) (widthsIn box) position set
+placeIn box position set = setPlace (portsIn box) (widthsIn box) position set
 
 unfoldable pub widthIn : Box → Set → ℕ
 widthIn box set = sizeOf (widthsIn box) set

@@ -9,11 +9,11 @@ use Rattle.basics.specs.Scan.{all}
 use Rattle.bits.specs.Set.{noneFrom}
 use Rattle.layout.specs.declared.Set.{Set}
 use Rattle.layout.specs.declared.Sizes.{Sizes}
-use Rattle.layout.specs.Layout.{sizeOf, everySet, widths, words, setAt}
+use Rattle.layout.specs.Layout.{sizeOf, everySet, widthsOf, totalWords, setAt}
 
 -- "bits from N on are 0" in a set of the port at a position
 unfoldable pub setClear : List ℕ → ℕ → Sizes → ℕ → Set → Bool
-setClear settings ports sizes position set = noneFrom (setAt settings ports (widths sizes) position set) (sizeOf sizes set)
+setClear settings ports sizes position set = noneFrom (setAt settings ports (widthsOf sizes) position set) (sizeOf sizes set)
 
 -- so in every set of a port
 unfoldable pub portClear : List ℕ → ℕ → Sizes → ℕ → Bool
@@ -21,4 +21,4 @@ portClear settings ports sizes position = everySet (setClear settings ports size
 
 -- "exactly these words", and so in every port
 unfoldable pub settingsRight : List ℕ → ℕ → Sizes → Bool
-settingsRight settings ports sizes = eqb (length settings) (words ports (widths sizes)) && all ports (portClear settings ports sizes)
+settingsRight settings ports sizes = eqb (length settings) (totalWords ports (widthsOf sizes)) && all ports (portClear settings ports sizes)

@@ -1,6 +1,6 @@
 // The rules of the box, which every call checks.
 ghost use mathlib.Core.Path.{_≡_};
-ghost use Rattle.roll.specs.Table.{Read};
+ghost use Rattle.roll.specs.Table.{TableRead};
 ghost use Rattle.boxes.specs.Box.{boxOf, stateOf};
 ghost use Rattle.boxes.specs.Rule.{boxRight};
 use crate::Call;
@@ -17,7 +17,7 @@ pub fn box_right(
     flags: &[u8],
     settings: &[u32],
 ) -> bool
-    requires { ⌜ Read (now roll) (now ports) ⌝ }
+    requires { ⌜ TableRead (now roll) (now ports) ⌝ }
     ensures { λ r. ⌜ r ≡ boxRight (boxOf (now (roll .entry)) (now (debug .entry)) (now (flags .entry))) (stateOf (now (settings .entry))) call ⌝ }
 {
     if call.family < 16 {

@@ -2,14 +2,14 @@
 ghost use mathlib.Core.Path.{_≡_};
 ghost use Prim.Native.Nat.{_≤_, _<_};
 ghost use lib.ListN.{length};
-ghost use Rattle.layout.specs.Layout.{widths as widthsOf, AtMost, words as wordsOf, setAt};
+ghost use Rattle.layout.specs.Layout.{widthsOf, AtMost, totalWords as wordsOf, setAt};
 ghost use Rattle.boxes.specs.Settings.{setClear, portClear, settingsRight};
 use layout::Set;
 use layout::Sizes;
-use layout::place;
+use layout::set_place;
 use layout::size_of;
 use layout::widths;
-use layout::words;
+use layout::total_words;
 
 // The words of a set of the port at a position.
 pub fn set_at(settings: &[u32], ports: usize, width: Sizes, position: usize, set: Set) -> &[u32]
@@ -17,7 +17,7 @@ pub fn set_at(settings: &[u32], ports: usize, width: Sizes, position: usize, set
     requires { ⌜ length (now settings) ≡ wordsOf ports width ⌝ }
     ensures { λ r. ⌜ now r ≡ setAt (now (settings .entry)) ports width position set ⌝ }
 {
-    let at = place(ports, width, position, set);
+    let at = set_place(ports, width, position, set);
     let end = at + size_of(width, set);
     &settings[at..end]
 }
@@ -49,7 +49,7 @@ pub fn settings_right(settings: &[u32], ports: usize, sizes: Sizes) -> bool
     requires { ⌜ (ports ≤ 64) × AtMost 512 sizes ⌝ }
     ensures { λ r. ⌜ r ≡ settingsRight (now (settings .entry)) ports sizes ⌝ }
 {
-    if settings.len() != words(ports, widths(sizes)) {
+    if settings.len() != total_words(ports, widths(sizes)) {
         return false;
     }
     for position in 0..ports {

@@ -13,40 +13,40 @@ use Rattle.layout.specs.Layout.{Names, listOf}
 use Rattle.roll.specs.Record.{portCount}
 use Rattle.admission.specs.declared.commands.Command.{Command}
 use Rattle.request.specs.Top.{topOf}
-use Rattle.request.specs.Aim.{aimOf}
-use Rattle.request.proofs.aim.Place.{AimIn, aim-in}
+use Rattle.request.specs.Target.{targetOf}
+use Rattle.request.proofs.target.Place.{AimIn, target-counted}
 use Rattle.request.specs.declared.top.Top.{Top}
 use Rattle.request.specs.declared.top.Top.the-variants as T
-use Rattle.request.specs.declared.aim.Aim.{Aim}
-use Rattle.request.specs.declared.aim.Aim.the-variants as A
-use Rattle.decision.specs.Decision.{onReading, ofBitset, onAim, ofHeader, onTop, decided, PortIn}
+use Rattle.request.specs.declared.target.TargetRead.{TargetRead}
+use Rattle.request.specs.declared.target.TargetRead.the-variants as A
+use Rattle.decision.specs.Decision.{readingDecision, bitsetDecision, targetDecision, headerDecision, topDecision, decided, PortIn}
 use Rattle.decision.specs.declared.Plan.{Plan}
 use Rattle.decision.specs.declared.Plan.the-variants as P
-use Rattle.decision.specs.declared.Port.{Port}
+use Rattle.decision.specs.declared.Target.{Target}
 use Rattle.decision.specs.declared.Decision.{Decision}
 
 module _ (roll : List ℕ) where
-  reading-in : (x : Reading) (n position nest : ℕ) → position < portCount roll → PortIn roll (onReading x n position nest .plan)
+  reading-in : (x : Reading) (n position nest : ℕ) → position < portCount roll → PortIn roll (readingDecision x n position nest .plan)
   unfolding PortIn
   reading-in (refused why) n position nest h = tt
   reading-in (accepted b) n position nest h = h
 
-  bitset-in : (m : List ℕ) (bitset : Slot) (names : List ℕ) (position : ℕ) → position < portCount roll → PortIn roll (ofBitset m bitset names position .plan)
-  unfolding ofBitset
+  bitset-in : (m : List ℕ) (bitset : Slot) (names : List ℕ) (position : ℕ) → position < portCount roll → PortIn roll (bitsetDecision m bitset names position .plan)
+  unfolding bitsetDecision
   bitset-in m bitset names position h = reading-in (bitsetReading (partOf m 0 (bitset .end)) (bitset .start) names) (count names) position _ h
 
-  on-aim-in : (a : Aim) (change : Bool) (set : ℕ → Decision) → AimIn roll a → ((position : ℕ) → position < portCount roll → PortIn roll (set position .plan))
-      → PortIn roll (onAim a change set .plan)
+  on-aim-in : (a : TargetRead) (change : Bool) (set : ℕ → Decision) → AimIn roll a → ((position : ℕ) → position < portCount roll → PortIn roll (set position .plan))
+      → PortIn roll (targetDecision a change set .plan)
   unfolding PortIn
   on-aim-in (A.Refused why) change set h f = tt
   on-aim-in (A.Port position flags) true set h f = f position h
   on-aim-in (A.Port position flags) false set h f = h
 
-  header-in : (m : List ℕ) (change : Bool) (names : List ℕ) (header bitset : Slot) → PortIn roll (ofHeader m change roll names header bitset .plan)
-  unfolding ofHeader
-  header-in m change names header bitset = on-aim-in (aimOf m header roll) change (ofBitset m bitset names) (aim-in roll m header) (bitset-in m bitset names)
+  header-in : (m : List ℕ) (change : Bool) (names : List ℕ) (header bitset : Slot) → PortIn roll (headerDecision m change roll names header bitset .plan)
+  unfolding headerDecision
+  header-in m change names header bitset = on-aim-in (targetOf m header roll) change (bitsetDecision m bitset names) (target-counted roll m header) (bitset-in m bitset names)
 
-  on-top-in : (t : Top) (rest : Slot → Slot → Decision) → ((header bitset : Slot) → PortIn roll (rest header bitset .plan)) → PortIn roll (onTop t rest .plan)
+  on-top-in : (t : Top) (rest : Slot → Slot → Decision) → ((header bitset : Slot) → PortIn roll (rest header bitset .plan)) → PortIn roll (topDecision t rest .plan)
   unfolding PortIn
   on-top-in (T.Refused why) rest f = tt
   on-top-in (T.Nests header bitset) rest f = f header bitset
@@ -56,11 +56,11 @@ module _ (roll : List ℕ) where
   unfolding decided
   decided-in m command names d e =
       rw e
-      (on-top-in (topOf m (command .change)) (ofHeader m (command .change) roll (listOf names (command .set)))
+      (on-top-in (topOf m (command .change)) (headerDecision m (command .change) roll (listOf names (command .set)))
       (header-in m (command .change) (listOf names (command .set))))
 
   -- the port of a GET, the port of a SET
-  pub get-in : (p : Plan) (port : Port) → PortIn roll p → p ≡ P.Get port → port .position < portCount roll
+  pub get-in : (p : Plan) (port : Target) → PortIn roll p → p ≡ P.Get port → port .position < portCount roll
   unfolding PortIn
   get-in p port h q = rw q at h
 

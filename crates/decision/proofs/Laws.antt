@@ -16,41 +16,41 @@ use Rattle.bitset.specs.Judge.{bitsetReading}
 use Rattle.layout.specs.Layout.{Names, listOf}
 use Rattle.admission.specs.declared.commands.Command.{Command}
 use Rattle.request.specs.Top.{topOf}
-use Rattle.request.specs.Aim.{aimOf}
+use Rattle.request.specs.Target.{targetOf}
 use Rattle.request.specs.declared.top.Top.{Top}
 use Rattle.request.specs.declared.top.Top.the-variants as T
-use Rattle.request.specs.declared.aim.Aim.{Aim}
-use Rattle.request.specs.declared.aim.Aim.the-variants as A
-use Rattle.decision.specs.Decision.{formless, onReading, ofBitset, onAim, ofHeader, onTop, decided}
+use Rattle.request.specs.declared.target.TargetRead.{TargetRead}
+use Rattle.request.specs.declared.target.TargetRead.the-variants as A
+use Rattle.decision.specs.Decision.{withoutForm, readingDecision, bitsetDecision, targetDecision, headerDecision, topDecision, decided}
 use Rattle.decision.specs.declared.Plan.the-variants as P
 use Rattle.decision.specs.declared.Decision.{Decision}
 
 -- the bitset
 reading-refused : (x : Reading) (n position nest : ℕ) (why : Refusal) → judgedAs n x .judgement ≡ J.Refused why
-    → formless (P.Refused why) ≡ onReading x n position nest
+    → withoutForm (P.Refused why) ≡ readingDecision x n position nest
 unfolding judgedAs
 reading-refused (refused r) n position nest why e = cc
 reading-refused (accepted b) n position nest why e = absurd (let z : _≡_ {A = ℕ} 0 1 = cc in omega arith)
 
 reading-accepted : (x : Reading) (n position nest : ℕ) → judgedAs n x .judgement ≡ J.Accepted
-    → record { plan = P.Set position nest; form = judgedAs n x .form } ≡ onReading x n position nest
+    → record { plan = P.Set position nest; form = judgedAs n x .form } ≡ readingDecision x n position nest
 unfolding judgedAs
 reading-accepted (refused r) n position nest e = absurd (let z : _≡_ {A = ℕ} 0 1 = cc in omega arith)
 reading-accepted (accepted b) n position nest e = refl
 
 module _ (m : List ℕ) (bitset : Slot) (names : List ℕ) (position : ℕ) (p : List ℕ) (ep : p ≡ partOf m 0 (bitset .end)) (j : Judged)
     (ej : j ≡ judgedAs (count names) (bitsetReading p (bitset .start) names)) where
-  by-reading : ofBitset m bitset names position ≡ onReading (bitsetReading p (bitset .start) names) (count names) position (bitset .start - 4)
-  unfolding ofBitset
+  by-reading : bitsetDecision m bitset names position ≡ readingDecision (bitsetReading p (bitset .start) names) (count names) position (bitset .start - 4)
+  unfolding bitsetDecision
   by-reading = rw (← ep)
 
-  pub bitset-refused : (why : Refusal) (d : Decision) → j .judgement ≡ J.Refused why → d ≡ formless (P.Refused why) → d ≡ ofBitset m bitset names position
+  pub bitset-refused : (why : Refusal) (d : Decision) → j .judgement ≡ J.Refused why → d ≡ withoutForm (P.Refused why) → d ≡ bitsetDecision m bitset names position
   bitset-refused why d q e =
       e ∙ reading-refused (bitsetReading p (bitset .start) names) (count names) position (bitset .start - 4) why (ap (λ (x : Judged). x .judgement) (sym ej) ∙ q)
       ∙ sym by-reading
 
   pub bitset-accepted : (nest : ℕ) → j .judgement ≡ J.Accepted → nest ≡ bitset .start - 4
-      → record { plan = P.Set position nest; form = j .form } ≡ ofBitset m bitset names position
+      → record { plan = P.Set position nest; form = j .form } ≡ bitsetDecision m bitset names position
   bitset-accepted nest q en =
       cc (en, ej)
       ∙ reading-accepted (bitsetReading p (bitset .start) names) (count names) position (bitset .start - 4) (ap (λ (x : Judged). x .judgement) (sym ej) ∙ q)
@@ -59,31 +59,31 @@ module _ (m : List ℕ) (bitset : Slot) (names : List ℕ) (position : ℕ) (p :
 pub ruleset bitset-laws = (bitset-refused, bitset-accepted)
 
 -- the header level
-module _ (m : List ℕ) (change : Bool) (roll names : List ℕ) (header bitset : Slot) (a : Aim) (ea : a ≡ aimOf m header roll) (d : Decision) where
-  pub header-refused : (why : Refusal) → a ≡ A.Refused why → d ≡ formless (P.Refused why) → d ≡ ofHeader m change roll names header bitset
-  unfolding ofHeader
+module _ (m : List ℕ) (change : Bool) (roll names : List ℕ) (header bitset : Slot) (a : TargetRead) (ea : a ≡ targetOf m header roll) (d : Decision) where
+  pub header-refused : (why : Refusal) → a ≡ A.Refused why → d ≡ withoutForm (P.Refused why) → d ≡ headerDecision m change roll names header bitset
+  unfolding headerDecision
   header-refused why q e = e ∙ sym (rw (← ea, q))
 
   module _ (position flags : ℕ) (q : a ≡ A.Port position flags) where
-    pub header-set : change ≡ true → d ≡ ofBitset m bitset names position → d ≡ ofHeader m change roll names header bitset
-    unfolding ofHeader
+    pub header-set : change ≡ true → d ≡ bitsetDecision m bitset names position → d ≡ headerDecision m change roll names header bitset
+    unfolding headerDecision
     header-set c e = e ∙ sym (rw (← ea, q, c))
 
-    pub header-get : change ≡ false → d ≡ formless (P.Get (record { position = position; flags = flags }))
-        → d ≡ ofHeader m change roll names header bitset
-    unfolding ofHeader
+    pub header-get : change ≡ false → d ≡ withoutForm (P.Get (record { position = position; flags = flags }))
+        → d ≡ headerDecision m change roll names header bitset
+    unfolding headerDecision
     header-get c e = e ∙ sym (rw (← ea, q, c))
 
 pub ruleset header-laws = (header-refused, header-set, header-get)
 
 -- the top level
 module _ (m : List ℕ) (command : Command) (roll : List ℕ) (names : Names) (t : Top) (et : t ≡ topOf m (command .change)) (d : Decision) where
-  pub decide-refused : (why : Refusal) → t ≡ T.Refused why → d ≡ formless (P.Refused why) → d ≡ decided m command roll names
+  pub decide-refused : (why : Refusal) → t ≡ T.Refused why → d ≡ withoutForm (P.Refused why) → d ≡ decided m command roll names
   unfolding decided
   decide-refused why q e = e ∙ sym (rw (← et, q))
 
   pub decide-nests : (header bitset : Slot) (list : List ℕ) → t ≡ T.Nests header bitset → list ≡ listOf names (command .set)
-      → d ≡ ofHeader m (command .change) roll list header bitset → d ≡ decided m command roll names
+      → d ≡ headerDecision m (command .change) roll list header bitset → d ≡ decided m command roll names
   unfolding decided
   decide-nests header bitset list q en e = e ∙ sym (rw (← et, q, ← en))
 

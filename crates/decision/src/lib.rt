@@ -2,9 +2,9 @@
 ghost use mathlib.Core.Path.{_≡_};
 ghost use Rattle.layout.specs.Layout.{namesOf};
 ghost use Rattle.roll.specs.Table.{Tabled};
-ghost use Rattle.decision.specs.Decision.{formless, ofBitset, ofHeader, decided};
+ghost use Rattle.decision.specs.Decision.{withoutForm, bitsetDecision, headerDecision, decided};
 use admission::commands::Command;
-use bitset::judge::judge;
+use bitset::judge::judge_bitset;
 use bitset_form::Form;
 use bitset_form::Judgement;
 use layout::names_of;
@@ -12,20 +12,20 @@ use netlink::walk::Slot;
 use netlink_attributes::payload;
 use netlink_attributes::place;
 use refusal::Refusal;
-use request::aim::Aim;
-use request::aim::read_aim;
+use request::target::TargetRead;
+use request::target::read_target;
 use request::top::Top;
 use request::top::read_top;
 
 // The port that a request names: which it is, and the flags of the request's header.
-pub struct Port {
+pub struct Target {
     pub position: usize,
     pub flags: u32,
 }
 
 pub enum Plan {
     Refused(Refusal),
-    Get(Port),
+    Get(Target),
     // The port whose set takes the form, and where the bitset stands in the request.
     Set { position: usize, bitset: usize },
 }
@@ -37,8 +37,8 @@ pub struct Decision {
 }
 
 // A plan that changes nothing.
-fn formless(plan: Plan) -> Decision
-    ensures { λ r. ⌜ r ≡ formless plan ⌝ }
+fn without_form(plan: Plan) -> Decision
+    ensures { λ r. ⌜ r ≡ withoutForm plan ⌝ }
 {
     Decision {
         plan,
@@ -51,14 +51,14 @@ fn formless(plan: Plan) -> Decision
 
 // The bitset of a SET. It is walked in the message cut at the nest's end, so that every place counts from the request's start.
 fn decide_bitset(m: &[u8], bitset: Slot, names: &[u8], position: usize) -> Decision
-    ensures { λ r. ⌜ r ≡ ofBitset (now (m .entry)) bitset (now (names .entry)) position ⌝ }
+    ensures { λ r. ⌜ r ≡ bitsetDecision (now (m .entry)) bitset (now (names .entry)) position ⌝ }
 {
     let start = bitset.start;
     let end = bitset.end;
-    let judged = judge(payload(m, 0, end), start, names);
+    let judged = judge_bitset(payload(m, 0, end), start, names);
     let judgement = judged.judgement;
     if let Judgement::Refused(why) = judgement {
-        return formless(Plan::Refused(why));
+        return without_form(Plan::Refused(why));
     }
     let form = judged.form;
     Decision {
@@ -81,17 +81,17 @@ fn decide_header(
     names: &[u8],
 ) -> Decision
     requires { ⌜ Tabled (now roll) (now ports) ⌝ }
-    ensures { λ r. ⌜ r ≡ ofHeader (now (m .entry)) change (now (roll .entry)) (now (names .entry)) header bitset ⌝ }
+    ensures { λ r. ⌜ r ≡ headerDecision (now (m .entry)) change (now (roll .entry)) (now (names .entry)) header bitset ⌝ }
 {
-    match read_aim(m, header, roll, ports) {
-        Aim::Refused(why) => {
-            return formless(Plan::Refused(why));
+    match read_target(m, header, roll, ports) {
+        TargetRead::Refused(why) => {
+            return without_form(Plan::Refused(why));
         }
-        Aim::Port { position, flags } => {
+        TargetRead::Port { position, flags } => {
             if change {
                 return decide_bitset(m, bitset, names, position);
             }
-            return formless(Plan::Get(Port { position, flags }));
+            return without_form(Plan::Get(Target { position, flags }));
         }
     }
 }
@@ -111,7 +111,7 @@ pub fn decide<'a>(
     let set = command.set;
     match read_top(m, command.change) {
         Top::Refused(why) => {
-            return formless(Plan::Refused(why));
+            return without_form(Plan::Refused(why));
         }
         Top::Nests { header, bitset } => {
             let names = names_of(set, debug, flags);

@@ -16,20 +16,20 @@ use Rattle.refusal.specs.declared.Refusal.the-variants.{MissingIn, ShortBitmap,
 use Rattle.bitset_form.specs.Policies.{bitsetPolicy, bitsPolicy, bitPolicy}
 use Rattle.bitset_form.specs.Bitset.{Reading}
 use Rattle.bitset_form.specs.Bitset.Reading.{refused, accepted}
-use Rattle.bitset_compact.specs.Compact.{wholeReading, maskedReading, compactReading}
-use Rattle.bitset_bit.specs.Bit.{byIndex, byName, identified, onLooked, partsReading, bitReading}
+use Rattle.bitset_compact.specs.Compact.{nomaskReading, maskedReading, compactReading}
+use Rattle.bitset_bit.specs.Bit.{bitByIndex, bitByName, identified, onIdentityRead, bitPartsReading, bitReading}
 use Rattle.refusal.specs.Refusal.{onStop}
 use Rattle.bitset_list.specs.BitList.{ListReading, onBit, bitsReading, asBitset, listReading}
-use Rattle.bitset_list.specs.BitList.ListReading.{stopped, entries}
+use Rattle.bitset_list.specs.BitList.ListReading.{listRefused, listEntries}
 use Rattle.bitset.specs.Judge as J
 use Rattle.bitset.specs.declared.judge.Mixing.{Mixing}
 use Rattle.bitset_bit.specs.declared.Identity.the-variants.{Number, Neither}
-use Rattle.bitset_bit.specs.declared.Looked.{Looked}
-use Rattle.bitset_bit.specs.declared.Looked.the-variants as L
+use Rattle.bitset_bit.specs.declared.IdentityRead.{IdentityRead}
+use Rattle.bitset_bit.specs.declared.IdentityRead.the-variants as L
 use Rattle.bitset_bit.specs.declared.BitRead.the-variants as B
 use Rattle.response.specs.declared.Kind.{Kind}
 use Rattle.response.specs.declared.Kind.the-variants.{Done, Refused}
-use Rattle.demands.specs.Check.{Check, refuseIf, first}
+use Rattle.demands.specs.Check.{Check, refuseIf, firstKind}
 use Rattle.demands.specs.Bitset.{mixedChecks, tooShort, pastEnd, compactChecks, partChecks, bitChecks, eachBit, listChecks, formChecks, bitsetChecks}
 use Rattle.demands.proofs.First.{step, walk-step, pass, fault, no-more, first-append}
 
@@ -39,33 +39,33 @@ kindOf (refused why) = Refused why
 kindOf (accepted b) = Done
 
 -- a test that refuses
-check : (t : Bool) (why : Refusal) (x : Reading) (checks : List Check) → kindOf x ≡ first Done checks
-    → kindOf (cond t (refused why) x) ≡ first Done (refuseIf t why ∷ checks)
+check : (t : Bool) (why : Refusal) (x : Reading) (checks : List Check) → kindOf x ≡ firstKind Done checks
+    → kindOf (cond t (refused why) x) ≡ firstKind Done (refuseIf t why ∷ checks)
 check t why x checks e = step kindOf Done t why (refused why) x checks refl e
 
 -- a compact bitset, under NOMASK or not
 module _ (s : List ℕ) (nest n : ℕ) (nomask size value mask : Slot) where
   form-first : (t : Bool)
-      → kindOf (cond t (wholeReading s n (slotNumber s size) value) (maskedReading s nest n (slotNumber s size) value mask))
-      ≡ first Done
+      → kindOf (cond t (nomaskReading s n (slotNumber s size) value) (maskedReading s nest n (slotNumber s size) value mask))
+      ≡ firstKind Done
       (refuseIf (not t && not (mask .present)) (MissingIn 5 nest)
       ∷ refuseIf (tooShort s (slotNumber s size) value) (ShortBitmap (value .start - 4))
       ∷ refuseIf (not t && tooShort s (slotNumber s size) mask) (ShortBitmap (mask .start - 4))
       ∷ refuseIf (not t && pastEnd s n (slotNumber s size) mask) (PastLength (mask .start - 4))
       ∷ refuseIf (t && pastEnd s n (slotNumber s size) value) (PastLength (value .start - 4))
       ∷ [])
-  unfolding wholeReading maskedReading tooShort pastEnd
+  unfolding nomaskReading maskedReading tooShort pastEnd
   form-first true = pass _ _ _ _ (check _ _ _ _ (pass _ _ _ _ (pass _ _ _ _ (check _ _ _ _ (no-more Done)))))
   form-first false = check _ _ _ _ (check _ _ _ _ (check _ _ _ _ (check _ _ _ _ (pass _ _ _ _ (no-more Done)))))
 
-  compact-first : kindOf (compactReading s nest n nomask size value mask) ≡ first Done (compactChecks s nest n nomask size value mask)
+  compact-first : kindOf (compactReading s nest n nomask size value mask) ≡ firstKind Done (compactChecks s nest n nomask size value mask)
   unfolding compactReading compactChecks
   compact-first = check _ _ _ _ (check _ _ _ _ (form-first (nomask .present)))
 
 -- 18, then the form
 module _ (nomask bits value mask : Slot) (rest : Reading) (checks : List Check) where
-  mixed-first : kindOf rest ≡ first Done checks
-      → kindOf (J.onMixing (J.mixedAt nomask bits value mask) rest) ≡ first Done (mixedChecks nomask bits value mask ++ checks)
+  mixed-first : kindOf rest ≡ firstKind Done checks
+      → kindOf (J.onMixing (J.mixedAt nomask bits value mask) rest) ≡ firstKind Done (mixedChecks nomask bits value mask ++ checks)
   unfolding J.mixedAt mixedChecks
   mixed-first e =
       step kind Done _ _ _ _ _ refl (step kind Done _ _ _ _ _ refl (step kind Done _ _ _ _ _ refl e))
@@ -75,12 +75,12 @@ module _ (nomask bits value mask : Slot) (rest : Reading) (checks : List Check) 
 
 -- the kind that the BITs of a list come to
 abbrev listKind : ListReading → Kind
-listKind (stopped why) = Refused why
-listKind (entries es) = Done
+listKind (listRefused why) = Refused why
+listKind (listEntries es) = Done
 
 bit-passes : (number : ℕ) (on : Bool) (rest : ListReading) → listKind (onBit (B.Bit number on) rest) ≡ listKind rest
-bit-passes number on (stopped why) = refl
-bit-passes number on (entries es) = refl
+bit-passes number on (listRefused why) = refl
+bit-passes number on (listEntries es) = refl
 
 -- one BIT, before the others
 module _ (s names : List ℕ) (rest : ListReading) where
@@ -88,22 +88,22 @@ module _ (s names : List ℕ) (rest : ListReading) where
   last = listKind rest
 
   module _ (at : ℕ) (on : Bool) where
-    abbrev looked : Looked → Kind
-    looked l = listKind (onBit (onLooked l at on) rest)
+    abbrev looked : IdentityRead → Kind
+    looked l = listKind (onBit (onIdentityRead l at on) rest)
 
-    found-first : (t : Bool) (bit place : ℕ) (checks : List Check) → last ≡ first last checks
-        → looked (cond t (L.Up (Number bit)) (L.Refused (UnknownBit place))) ≡ first last (refuseIf (not t) (UnknownBit place) ∷ checks)
+    found-first : (t : Bool) (bit place : ℕ) (checks : List Check) → last ≡ firstKind last checks
+        → looked (cond t (L.Read (Number bit)) (L.Refused (UnknownBit place))) ≡ firstKind last (refuseIf (not t) (UnknownBit place) ∷ checks)
     found-first true bit place checks e = pass last _ _ _ (bit-passes bit on rest ∙ e)
     found-first false bit place checks e = fault last _ _
 
     parts-first : (index name : Slot) (t u : Bool)
-        → looked (cond t (byIndex s (count names) index) (cond u (byName s names name) (L.Up Neither)))
-        ≡ first last
+        → looked (cond t (bitByIndex s (count names) index) (cond u (bitByName s names name) (L.Read Neither)))
+        ≡ firstKind last
         (refuseIf (t && leb (count names) (slotNumber s index)) (PastLength (index .start - 4))
         ∷ refuseIf (not t && (u && not (lookup names (partOf s (name .start) (name .end)) .found))) (UnknownBit (name .start - 4))
         ∷ refuseIf (not t && not u) (NoBit at)
         ∷ [])
-    unfolding byIndex byName
+    unfolding bitByIndex bitByName
     parts-first index name true u =
         step looked last _ _ _ _ _ refl (pass last _ _ _ (pass last _ _ _ (bit-passes (slotNumber s index) on rest ∙ no-more last)))
     parts-first index name false true =
@@ -111,34 +111,34 @@ module _ (s names : List ℕ) (rest : ListReading) where
         pass last _ _ _ (found-first (l .found) (l .bit) (name .start - 4) _ (pass last _ _ _ (no-more last)))
     parts-first index name false false = pass last _ _ _ (pass last _ _ _ (fault last _ _))
 
-  bit-first : (from : ℕ) → listKind (onBit (bitReading s names from) rest) ≡ first last (bitChecks s names from)
-  unfolding bitReading partsReading identified bitChecks partChecks
+  bit-first : (from : ℕ) → listKind (onBit (bitReading s names from) rest) ≡ firstKind last (bitChecks s names from)
+  unfolding bitReading bitPartsReading identified bitChecks partChecks
   bit-first from =
       let slots = walked bitPolicy s from .slots in
       let index = getD slots 1 absent in
       let name = getD slots 2 absent in
       let on = getD slots 3 absent in
       walk-step (λ r. listKind (onBit r rest)) last (walked bitPolicy s from .stop)
-      (λ stop. onStop stop B.Refused (partsReading s names (from - 4) index name on)) _ (λ fault at. refl)
+      (λ stop. onStop stop B.Refused (bitPartsReading s names (from - 4) index name on)) _ (λ fault at. refl)
       (parts-first (from - 4) (on .present) index name (index .present) (name .present))
 
-each-first : (s names : List ℕ) (xs : Attributes) → listKind (bitsReading s names xs) ≡ first Done (eachBit s names xs)
+each-first : (s names : List ℕ) (xs : Attributes) → listKind (bitsReading s names xs) ≡ firstKind Done (eachBit s names xs)
 unfolding bitsReading eachBit
 each-first s names done = no-more Done
 each-first s names (broken at) = no-more Done
 each-first s names (attribute k b a e rest) =
     bit-first (partOf s 0 e) names (bitsReading s names rest) a
-    ∙ ap (λ (last : Kind). first last (bitChecks (partOf s 0 e) names a)) (each-first s names rest)
+    ∙ ap (λ (last : Kind). firstKind last (bitChecks (partOf s 0 e) names a)) (each-first s names rest)
     ∙ sym (first-append Done (bitChecks (partOf s 0 e) names a) (eachBit s names rest))
 
 -- a bit list
 as-kind : (nomask : Bool) (x : ListReading) → kindOf (asBitset nomask x) ≡ listKind x
-as-kind true (stopped why) = refl
-as-kind false (stopped why) = refl
-as-kind true (entries es) = refl
-as-kind false (entries es) = refl
+as-kind true (listRefused why) = refl
+as-kind false (listRefused why) = refl
+as-kind true (listEntries es) = refl
+as-kind false (listEntries es) = refl
 
-list-first : (s names : List ℕ) (nomask bits : Slot) → kindOf (listReading s names nomask bits) ≡ first Done (listChecks s names bits)
+list-first : (s names : List ℕ) (nomask bits : Slot) → kindOf (listReading s names nomask bits) ≡ firstKind Done (listChecks s names bits)
 unfolding listReading listChecks
 list-first s names nomask bits =
     let p = partOf s 0 (bits .end) in
@@ -149,12 +149,12 @@ list-first s names nomask bits =
 -- a bitset
 either-first : (s : List ℕ) (nest : ℕ) (names : List ℕ) (nomask size bits value mask : Slot) (t : Bool)
     → kindOf (cond t (listReading s names nomask bits) (compactReading s nest (count names) nomask size value mask))
-    ≡ first Done (cond t (listChecks s names bits) (compactChecks s nest (count names) nomask size value mask))
+    ≡ firstKind Done (cond t (listChecks s names bits) (compactChecks s nest (count names) nomask size value mask))
 either-first s nest names nomask size bits value mask true = list-first s names nomask bits
 either-first s nest names nomask size bits value mask false = compact-first s nest (count names) nomask size value mask
 
-pub bitset-first : (s : List ℕ) (from : ℕ) (names : List ℕ) → kindOf (J.bitsetReading s from names) ≡ first Done (bitsetChecks s from names)
-unfolding J.bitsetReading J.partsReading bitsetChecks formChecks
+pub bitset-first : (s : List ℕ) (from : ℕ) (names : List ℕ) → kindOf (J.bitsetReading s from names) ≡ firstKind Done (bitsetChecks s from names)
+unfolding J.bitsetReading J.bitsetPartsReading bitsetChecks formChecks
 bitset-first s from names =
     let slots = walked bitsetPolicy s from .slots in
     let nomask = getD slots 1 absent in
@@ -162,6 +162,6 @@ bitset-first s from names =
     let bits = getD slots 3 absent in
     let value = getD slots 4 absent in
     let mask = getD slots 5 absent in
-    walk-step kindOf Done (walked bitsetPolicy s from .stop) (λ stop. onStop stop refused (J.partsReading s (from - 4) names nomask size bits value mask)) _
+    walk-step kindOf Done (walked bitsetPolicy s from .stop) (λ stop. onStop stop refused (J.bitsetPartsReading s (from - 4) names nomask size bits value mask)) _
     (λ fault at. refl)
     (mixed-first nomask bits value mask _ _ (either-first s (from - 4) names nomask size bits value mask (bits .present)))

@@ -19,10 +19,10 @@ use Rattle.refusal.specs.declared.Refusal.the-variants as R
 use Rattle.boxes.specs.Box.{Box, State}
 use Rattle.boxes.specs.declared.Call.{Call}
 use Rattle.boxes.specs.Rule.{boxRight}
-use Rattle.handler.specs.Call.{stays, onMessage, messageOutcome, positionOutcome, outcome}
+use Rattle.handler.specs.Call.{refusedInPlace, onMessage, messageOutcome, positionOutcome, outcome}
 use Rattle.demands.specs.Call.{messageOf}
 use Rattle.demands.specs.CallCase.{CallCase}
-use Rattle.demands.specs.CallCase.CallCase.{over, stayed, answered}
+use Rattle.demands.specs.CallCase.CallCase.{ended, notRead, messageAnswered}
 use Rattle.demands.proofs.Request.{message-first}
 use Rattle.demands.proofs.Message.{message-case}
 
@@ -51,7 +51,7 @@ module _ (box : Box) (state : State) (call : Call) (datagram : List ℕ) where
   message right lo hi =
       let m = messageOf datagram position in
       let h = messageHeader datagram position in
-      answered next right (omega arith) (omega arith) (long lo hi)
+      messageAnswered next right (omega arith) (omega arith) (long lo hi)
       (message-first box state m h next call) (message-case box state m h next call)
 
   pub call-case : (room : ℕ) → CallCase box state call datagram (outcome box state call datagram room)
@@ -63,9 +63,9 @@ module _ (box : Box) (state : State) (call : Call) (datagram : List ℕ) where
       go : (right page long past end cut low high : Bool) → boxRight box state call ≡ right → ltb stated 16 ≡ low
           → ltb (length datagram) (position + stated) ≡ high
           → CallCase box state call datagram
-          (cond (not right) (stays R.Box call state)
-          (cond page (stays R.Page call state)
-          (cond long (stays R.Datagram call state)
+          (cond (not right) (refusedInPlace R.Box call state)
+          (cond page (refusedInPlace R.Page call state)
+          (cond long (refusedInPlace R.Datagram call state)
           (onMessage
           (cond past Outside
           (cond end AtEnd
@@ -73,13 +73,13 @@ module _ (box : Box) (state : State) (call : Call) (datagram : List ℕ) where
           (cond (low || high) Misstated (Message (messageHeader datagram position) (position + stated) next)))))
           call state
           (λ h end next. messageOutcome box state call (partOf datagram position end) h next)))))
-      go false page long past end cut low high er el eh = stayed R.Box (omega arith) refl
-      go true true long past end cut low high er el eh = stayed R.Page (omega arith) refl
-      go true false true past end cut low high er el eh = stayed R.Datagram (omega arith) refl
-      go true false false true end cut low high er el eh = stayed R.Datagram (omega arith) refl
-      go true false false false true cut low high er el eh = over refl
-      go true false false false false true low high er el eh = stayed R.Datagram (omega arith) refl
-      go true false false false false false true high er el eh = stayed R.Length (omega arith) refl
-      go true false false false false false false true er el eh = stayed R.Length (omega arith) refl
+      go false page long past end cut low high er el eh = notRead R.Box (omega arith) refl
+      go true true long past end cut low high er el eh = notRead R.Page (omega arith) refl
+      go true false true past end cut low high er el eh = notRead R.Datagram (omega arith) refl
+      go true false false true end cut low high er el eh = notRead R.Datagram (omega arith) refl
+      go true false false false true cut low high er el eh = ended refl
+      go true false false false false true low high er el eh = notRead R.Datagram (omega arith) refl
+      go true false false false false false true high er el eh = notRead R.Length (omega arith) refl
+      go true false false false false false false true er el eh = notRead R.Length (omega arith) refl
       go true false false false false false false false er el eh =
           message er (ltb-false stated 16 el) (ltb-false (length datagram) (position + stated) eh)

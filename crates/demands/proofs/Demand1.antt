@@ -21,15 +21,15 @@ use Rattle.refusal.specs.declared.Refusal.{Refusal}
 use Rattle.boxes.specs.Box.{Box, State}
 use Rattle.boxes.specs.declared.Call.{Call}
 use Rattle.response.specs.Answer.{Outcome}
-use Rattle.handler.specs.Call.{outcome, isOver}
+use Rattle.handler.specs.Call.{outcome, endsRun}
 use Rattle.handler.proofs.call.Moves as M
 use Rattle.response.specs.declared.Kind.the-variants.{End, Skipped, Done, Refused}
 use Rattle.demands.specs.Answer.{refusalBytes}
 use Rattle.demands.specs.Call.{messageOf}
-use Rattle.demands.specs.Message.MessageCase.{skipped, refused, got, set}
+use Rattle.demands.specs.Message.MessageCase.{messageSkipped, messageRefused, getDone, setDone}
 use Rattle.demands.specs.CallCase.{CallCase}
-use Rattle.demands.specs.CallCase.CallCase.{over, stayed, answered}
-use Rattle.demands.specs.Run.{from, endsWithin}
+use Rattle.demands.specs.CallCase.CallCase.{ended, notRead, messageAnswered}
+use Rattle.demands.specs.Run.{atPosition, endsWithin}
 use Rattle.demands.proofs.First.{first-refused}
 use Rattle.demands.proofs.Late.{message-number}
 use Rattle.demands.proofs.CallCase.{call-case}
@@ -66,75 +66,75 @@ module _ (box : Box) (state : State) (call : Call) (datagram : List ℕ) (room :
   abbrev m : List ℕ
   m = messageOf datagram position
 
-  said : {p : Outcome State} → o ≡ p → p .said .kind ≡ o .said .kind
-  said e = sym (ap (λ (x : Outcome State). x .said .kind) e)
+  response : {p : Outcome State} → o ≡ p → p .response .kind ≡ o .response .kind
+  response e = sym (ap (λ (x : Outcome State). x .response .kind) e)
 
   kept : {p : Outcome State} → o ≡ p → o .state ≡ p .state
   kept e = ap (λ (x : Outcome State). x .state) e
 
-  bytes : {p : Outcome State} → o ≡ p → o .said .bytes ≡ p .said .bytes
-  bytes e = ap (λ (x : Outcome State). x .said .bytes) e
+  bytes : {p : Outcome State} → o ≡ p → o .response .bytes ≡ p .response .bytes
+  bytes e = ap (λ (x : Outcome State). x .response .bytes) e
 
-  next : {p : Outcome State} → o ≡ p → o .said .next ≡ p .said .next
-  next e = ap (λ (x : Outcome State). x .said .next) e
+  next : {p : Outcome State} → o ≡ p → o .response .next ≡ p .response .next
+  next e = ap (λ (x : Outcome State). x .response .next) e
 
   -- a refusal
-  module _ (why : Refusal) (told : o .said .kind ≡ Refused why) where
-    pub refused-keeps : (o .state ≡ state) × (o .said .bytes ≡ refusalBytes m why)
+  module _ (why : Refusal) (told : o .response .kind ≡ Refused why) where
+    pub refused-keeps : (o .state ≡ state) × (o .response .bytes ≡ refusalBytes m why)
     refused-keeps = by (call-case box state call datagram room)
       where
-        by : CallCase box state call datagram o → (o .state ≡ state) × (o .said .bytes ≡ refusalBytes m why)
-        by (over e) = absurd (end-not why (said e ∙ told))
-        by (stayed w l e) =
-            let same = same-why w why (said e ∙ told) in
+        by : CallCase box state call datagram o → (o .state ≡ state) × (o .response .bytes ≡ refusalBytes m why)
+        by (ended e) = absurd (end-not why (response e ∙ told))
+        by (notRead w l e) =
+            let same = same-why w why (response e ∙ told) in
             (kept e, bytes e ∙ quiet-bytes m why (rw (← same) l))
-        by (answered n right lo hi long first (skipped e)) = absurd (skipped-not why (said e ∙ told))
-        by (answered n right lo hi long first (got d g e)) = absurd (done-not why (said e ∙ told))
-        by (answered n right lo hi long first (set d g b c e)) = absurd (done-not why (said e ∙ told))
-        by (answered n right lo hi long first (refused w e)) =
-            let same = same-why w why (said e ∙ told) in
+        by (messageAnswered n right lo hi long first (messageSkipped e)) = absurd (skipped-not why (response e ∙ told))
+        by (messageAnswered n right lo hi long first (getDone d g e)) = absurd (done-not why (response e ∙ told))
+        by (messageAnswered n right lo hi long first (setDone d g b c e)) = absurd (done-not why (response e ∙ told))
+        by (messageAnswered n right lo hi long first (messageRefused w e)) =
+            let same = same-why w why (response e ∙ told) in
             let late = message-number box call m (messageHeader datagram position) why (first-refused why _ (sym first ∙ told)) in
             (kept e, bytes e ∙ rw same (error-bytes m why late))
 
   -- the end, and a skipped message
-  pub idle-keeps : (o .said .kind ≡ End) ⊎ (o .said .kind ≡ Skipped) → (o .state ≡ state) × (o .said .bytes ≡ [])
-  idle-keeps told = by (call-case box state call datagram room) told
+  pub skipped-keeps : (o .response .kind ≡ End) ⊎ (o .response .kind ≡ Skipped) → (o .state ≡ state) × (o .response .bytes ≡ [])
+  skipped-keeps told = by (call-case box state call datagram room) told
     where
-      not-done : (o .said .kind ≡ End) ⊎ (o .said .kind ≡ Skipped) → Done ≡ o .said .kind → ⊥
+      not-done : (o .response .kind ≡ End) ⊎ (o .response .kind ≡ Skipped) → Done ≡ o .response .kind → ⊥
       not-done (inl t) e = let q = e ∙ t in let z : _≡_ {A = ℕ} 0 1 = cc in omega arith
       not-done (inr t) e = let q = e ∙ t in let z : _≡_ {A = ℕ} 0 1 = cc in omega arith
 
-      not-refused : (w : Refusal) → (o .said .kind ≡ End) ⊎ (o .said .kind ≡ Skipped) → Refused w ≡ o .said .kind → ⊥
+      not-refused : (w : Refusal) → (o .response .kind ≡ End) ⊎ (o .response .kind ≡ Skipped) → Refused w ≡ o .response .kind → ⊥
       not-refused w (inl t) e = end-not w (sym (e ∙ t))
       not-refused w (inr t) e = skipped-not w (sym (e ∙ t))
 
-      by : CallCase box state call datagram o → (o .said .kind ≡ End) ⊎ (o .said .kind ≡ Skipped)
-          → (o .state ≡ state) × (o .said .bytes ≡ [])
-      by (over e) t = (kept e, bytes e)
-      by (stayed w l e) t = absurd (not-refused w t (said e))
-      by (answered n right lo hi long first (skipped e)) t = (kept e, bytes e)
-      by (answered n right lo hi long first (got d g e)) t = absurd (not-done t (said e))
-      by (answered n right lo hi long first (set d g b c e)) t = absurd (not-done t (said e))
-      by (answered n right lo hi long first (refused w e)) t = absurd (not-refused w t (said e))
+      by : CallCase box state call datagram o → (o .response .kind ≡ End) ⊎ (o .response .kind ≡ Skipped)
+          → (o .state ≡ state) × (o .response .bytes ≡ [])
+      by (ended e) t = (kept e, bytes e)
+      by (notRead w l e) t = absurd (not-refused w t (response e))
+      by (messageAnswered n right lo hi long first (messageSkipped e)) t = (kept e, bytes e)
+      by (messageAnswered n right lo hi long first (getDone d g e)) t = absurd (not-done t (response e))
+      by (messageAnswered n right lo hi long first (setDone d g b c e)) t = absurd (not-done t (response e))
+      by (messageAnswered n right lo hi long first (messageRefused w e)) t = absurd (not-refused w t (response e))
 
   -- the position
-  over-clash : {p : Outcome State} → o ≡ p → isOver (p .said .kind) ≡ false → isOver (o .said .kind) ≡ true → ⊥
-  over-clash e f t = clash (ap isOver (said e) ∙ t) f
+  over-clash : {p : Outcome State} → o ≡ p → endsRun (p .response .kind) ≡ false → endsRun (o .response .kind) ≡ true → ⊥
+  over-clash e f t = clash (ap endsRun (response e) ∙ t) f
 
-  pub over-stays : isOver (o .said .kind) ≡ true → o .said .next ≡ position
-  over-stays is = by (call-case box state call datagram room)
+  pub last-in-place : endsRun (o .response .kind) ≡ true → o .response .next ≡ position
+  last-in-place is = by (call-case box state call datagram room)
     where
-      by : CallCase box state call datagram o → o .said .next ≡ position
-      by (over e) = next e
-      by (stayed w l e) = next e
-      by (answered n right lo hi long first (skipped e)) = absurd (over-clash e refl is)
-      by (answered n right lo hi long first (got d g e)) = absurd (over-clash e refl is)
-      by (answered n right lo hi long first (set d g b c e)) = absurd (over-clash e refl is)
-      by (answered n right lo hi long first (refused w e)) =
-          let late = message-number box call m (messageHeader datagram position) w (first-refused w _ (sym first ∙ sym (said e))) in
+      by : CallCase box state call datagram o → o .response .next ≡ position
+      by (ended e) = next e
+      by (notRead w l e) = next e
+      by (messageAnswered n right lo hi long first (messageSkipped e)) = absurd (over-clash e refl is)
+      by (messageAnswered n right lo hi long first (getDone d g e)) = absurd (over-clash e refl is)
+      by (messageAnswered n right lo hi long first (setDone d g b c e)) = absurd (over-clash e refl is)
+      by (messageAnswered n right lo hi long first (messageRefused w e)) =
+          let late = message-number box call m (messageHeader datagram position) w (first-refused w _ (sym first ∙ sym (response e))) in
           absurd (over-clash e (le-ltb (numberOf w) 5 late) is)
 
-  pub moves : isOver (o .said .kind) ≡ false → (position + 16 ≤ o .said .next) × (o .said .next ≤ length datagram)
+  pub moves : endsRun (o .response .kind) ≡ false → (position + 16 ≤ o .response .next) × (o .response .next ≤ length datagram)
   moves = M.moves box state call datagram room
 
 -- calls one after the other
@@ -147,19 +147,19 @@ module _ (box : Box) (datagram : List ℕ) (room : ℕ) where
 
   -- the first call, then the others where it moved on
   first-call : (calls : ℕ) (state : State) (call : Call)
-      → (call .position + 16 ≤ made state call .said .next → made state call .said .next ≤ length datagram
-      → run calls (made state call .state) (from call (made state call .said .next)) ≡ true)
+      → (call .position + 16 ≤ made state call .response .next → made state call .response .next ≤ length datagram
+      → run calls (made state call .state) (atPosition call (made state call .response .next)) ≡ true)
       → run (suc calls) state call ≡ true
   unfolding endsWithin
-  first-call calls state call others = go (isOver (made state call .said .kind)) refl
+  first-call calls state call others = go (endsRun (made state call .response .kind)) refl
     where
-      go : (t : Bool) → isOver (made state call .said .kind) ≡ t → t || run calls (made state call .state) (from call (made state call .said .next)) ≡ true
+      go : (t : Bool) → endsRun (made state call .response .kind) ≡ t → t || run calls (made state call .state) (atPosition call (made state call .response .next)) ≡ true
       go true e = refl
       go false e = let on = moves box state call datagram room e in others (on .0) (on .1)
 
   ends-by : (calls : ℕ) (state : State) (call : Call) → call .position ≤ length datagram → length datagram < call .position + calls * 16 → run calls state call ≡ true
   ends-by zero state call p l = absurd (omega arith)
-  ends-by (suc calls) state call p l = first-call calls state call (λ lo hi. ends-by calls _ (from call _) hi (omega arith))
+  ends-by (suc calls) state call p l = first-call calls state call (λ lo hi. ends-by calls _ (atPosition call _) hi (omega arith))
 
   pub run-ends : (state : State) (call : Call) → endsWithin (suc (length datagram)) box state call datagram room ≡ true
-  run-ends state call = first-call (length datagram) state call (λ lo hi. ends-by (length datagram) _ (from call _) hi (omega arith))
+  run-ends state call = first-call (length datagram) state call (λ lo hi. ends-by (length datagram) _ (atPosition call _) hi (omega arith))

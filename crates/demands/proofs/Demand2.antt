@@ -31,25 +31,25 @@ use Rattle.roll.specs.Record.{portCount, indexOf, nameOf}
 use Rattle.boxes.specs.Box.{Box, State, portsIn, sizesIn, widthsIn, setOf}
 use Rattle.boxes.specs.declared.Call.{Call}
 use Rattle.boxes.specs.Rule.{boxRight}
-use Rattle.layout.specs.Layout.{listOf, sizeOf, place, setAt}
+use Rattle.layout.specs.Layout.{listOf, sizeOf, setPlace, setAt}
 use Rattle.layout.specs.declared.Set.{Set}
 use Rattle.layout.proofs.Laws.{lists-of, sizes-of, place-inside, set-length}
 use Rattle.boxes.proofs.rule.Meaning.{Right, box-means}
 use Rattle.read_back.proofs.Reply.{reply-attributes, reply-back}
 use Rattle.admission.specs.Commands.{commandOf}
-use Rattle.request.proofs.aim.Place.{aimed-in}
+use Rattle.request.proofs.target.Place.{target-inside}
 use Rattle.response.specs.Answer.{Outcome, ackBytes}
-use Rattle.obey.specs.Obey.{shown}
+use Rattle.execute.specs.Execute.{replyAndAck}
 use Rattle.handler.specs.Call.{outcome}
 use Rattle.reply.specs.Message.{headingOf}
-use Rattle.obey.specs.Obey.{gotten}
+use Rattle.execute.specs.Execute.{getBytes}
 use Rattle.response.specs.declared.Kind.the-variants.{Done}
 use Rattle.demands.specs.Answer.{Counted}
 use Rattle.demands.specs.Call.{messageOf}
 use Rattle.demands.specs.CallCase.{CallCase}
-use Rattle.demands.specs.CallCase.CallCase.{over, stayed, answered}
-use Rattle.demands.specs.Message.{Named, askedOf, Carries}
-use Rattle.demands.specs.Message.MessageCase.{skipped, refused, got, set}
+use Rattle.demands.specs.CallCase.CallCase.{ended, notRead, messageAnswered}
+use Rattle.demands.specs.Message.{Named, requestOf, Carries}
+use Rattle.demands.specs.Message.MessageCase.{messageSkipped, messageRefused, getDone, setDone}
 use Rattle.demands.specs.Done.{DoneSet, DoneGet, replyTo}
 use Rattle.demands.specs.Request.{isSet}
 use Rattle.demands.proofs.Count.{none-counted, error-counted, ack-counted, reply-counted}
@@ -60,7 +60,7 @@ use Rattle.demands.proofs.Port.{port-short}
 -- what is named is a port of the roll
 module _ (roll m : List ℕ) (n : Named roll m) where
   here : n .port .position < portCount roll
-  here = aimed-in roll m (n .header) _ (n .port .position) (n .port .flags) refl (n .found)
+  here = target-inside roll m (n .header) _ (n .port .position) (n .port .flags) refl (n .found)
 
   named-set : isSet (commandOf (byteAt m 16)) ≡ n .command .change
   unfolding isSet
@@ -68,35 +68,35 @@ module _ (roll m : List ℕ) (n : Named roll m) where
 
 -- the stored set of a right box: its names, its words, its bits
 module _ (box : Box) (state : State) (call : Call) (right : boxRight box state call ≡ true) (position : ℕ) (inside : position < portsIn box)
-    (set : Set) where
+    (setDone : Set) where
   abbrev stored : List ℕ
-  stored = setOf box state position set
+  stored = setOf box state position setDone
 
   rules : Right box state call
   rules = box-means box state call right
 
-  names-right : namesRight (listOf (box .names) set) ≡ true
-  names-right = rules .names-right set
+  names-right : namesRight (listOf (box .names) setDone) ≡ true
+  names-right = rules .names-right setDone
 
-  stored-long : length stored ≡ wordsFor (sizeOf (sizesIn box) set)
+  stored-long : length stored ≡ wordsFor (sizeOf (sizesIn box) setDone)
   unfolding setOf
   stored-long =
-      set-length (portsIn box) (widthsIn box) position set inside (state .words) (rules .settings .exact)
-      ∙ sizes-of wordsFor (sizesIn box) set
+      set-length (portsIn box) (widthsIn box) position setDone inside (state .words) (rules .settings .exact)
+      ∙ sizes-of wordsFor (sizesIn box) setDone
 
-  stored-below : Below (sizeOf (sizesIn box) set) (has stored)
+  stored-below : Below (sizeOf (sizesIn box) setDone) (has stored)
   unfolding setOf
   stored-below =
-      none-below stored (sizeOf (sizesIn box) set)
-      (rules .settings .clear position inside set)
+      none-below stored (sizeOf (sizesIn box) setDone)
+      (rules .settings .clear position inside setDone)
 
   stored-small : Small (state .words) → Small stored
   unfolding setOf setAt
   stored-small small j l =
-      let at = place (portsIn box) (widthsIn box) position set in
-      let w = sizeOf (widthsIn box) set in
-      let long : length stored ≡ w = set-length (portsIn box) (widthsIn box) position set inside (state .words) (rules .settings .exact) in
-      let room = place-inside (portsIn box) (widthsIn box) position set inside in
+      let at = setPlace (portsIn box) (widthsIn box) position setDone in
+      let w = sizeOf (widthsIn box) setDone in
+      let long : length stored ≡ w = set-length (portsIn box) (widthsIn box) position setDone inside (state .words) (rules .settings .exact) in
+      let room = place-inside (portsIn box) (widthsIn box) position setDone inside in
       let all = rules .settings .exact in
       let e : getD stored j 0 ≡ getD (state .words) (at + j) 0 = getD-take w (drop at (state .words)) j 0 (omega arith) ∙ getD-drop at (state .words) j 0 in
       rw e (small (at + j) (omega arith))
@@ -114,11 +114,11 @@ module _ (box : Box) (state : State) (call : Call) (datagram : List ℕ) (room :
   abbrev h : MessageHeader
   h = messageHeader datagram position
 
-  kind-is : {p : Outcome State} → o ≡ p → p .said .kind ≡ o .said .kind
-  kind-is e = sym (ap (λ (x : Outcome State). x .said .kind) e)
+  kind-is : {p : Outcome State} → o ≡ p → p .response .kind ≡ o .response .kind
+  kind-is e = sym (ap (λ (x : Outcome State). x .response .kind) e)
 
-  bytes-are : {p : Outcome State} → o ≡ p → o .said .bytes ≡ p .said .bytes
-  bytes-are e = ap (λ (x : Outcome State). x .said .bytes) e
+  bytes-are : {p : Outcome State} → o ≡ p → o .response .bytes ≡ p .response .bytes
+  bytes-are e = ap (λ (x : Outcome State). x .response .bytes) e
 
   -- a SET
   module _ (right : boxRight box state call ≡ true) (n : Named (box .roll) m) (change : n .command .change ≡ true) (b : Bitset)
@@ -127,7 +127,7 @@ module _ (box : Box) (state : State) (call : Call) (datagram : List ℕ) (room :
     fits = rw (← lists-of count (box .names) (n .command .set)) at (accepted-fits _ _ (listOf (box .names) (n .command .set)) b carried)
 
     did-set : {p : Outcome State} → p .state ≡ after box state call right (n .port .position) (here (box .roll) m n) (n .command .set) b fits
-        → p .said .bytes ≡ ackBytes m h → DoneSet box state call m h p
+        → p .response .bytes ≡ ackBytes m h → DoneSet box state call m h p
     did-set ew eb =
         record {
           named = n;
@@ -155,21 +155,21 @@ module _ (box : Box) (state : State) (call : Call) (datagram : List ℕ) (room :
     short : nulAt name-of < 16
     short = port-short (box .roll) (n .port .position) (rules box state call right (n .port .position) (here (box .roll) m n) (n .command .set) .roll-right) (here (box .roll) m n)
 
-    got-bytes : (next : ℕ) → gotten box state m (askedOf h next (n .command)) (n .port) ≡ replyTo box state m h n ++ ackBytes m h
-    unfolding gotten shown
+    got-bytes : (next : ℕ) → getBytes box state m (requestOf h next (n .command)) (n .port) ≡ replyTo box state m h n ++ ackBytes m h
+    unfolding getBytes replyAndAck
     got-bytes next = refl
 
     did-get : (next : ℕ) {p : Outcome State} → Small (state .words) → n .command .change ≡ false → p .state ≡ state
-        → p .said .bytes ≡ gotten box state m (askedOf h next (n .command)) (n .port) → DoneGet box state m h p
+        → p .response .bytes ≡ getBytes box state m (requestOf h next (n .command)) (n .port) → DoneGet box state m h p
     did-get next small change ew eb =
-        let set = n .command .set in
+        let setDone = n .command .set in
         let x = indexOf (box .roll) (n .port .position) in
         let compact = eqb (n .port .flags % 2) 1 in
-        let names = listOf (box .names) set in
+        let names = listOf (box .names) setDone in
         let inside = here (box .roll) m n in
-        let named = names-right box state call right (n .port .position) inside set in
-        let long = stored-long box state call right (n .port .position) inside set in
-        let parts = reply-attributes (headingOf h (n .command .reply)) x name-of compact names words-of bits-of named (sym (lists-of count (box .names) set)) long short in
+        let named = names-right box state call right (n .port .position) inside setDone in
+        let long = stored-long box state call right (n .port .position) inside setDone in
+        let parts = reply-attributes (headingOf h (n .command .reply)) x name-of compact names words-of bits-of named (sym (lists-of count (box .names) setDone)) long short in
         let at : 24 + length (numbered 1 x name-of) - 4 ≡ 20 + length (numbered 1 x name-of) = omega arith in
         record {
           named = n;
@@ -179,46 +179,46 @@ module _ (box : Box) (state : State) (call : Call) (datagram : List ℕ) (room :
           contents = 24 + length (numbered 1 x name-of);
           parts = rw at parts;
           reads-back =
-              reply-back (headingOf h (n .command .reply)) x name-of compact names words-of bits-of named (sym (lists-of count (box .names) set)) long
-              (stored-small box state call right (n .port .position) inside set small)
-              (stored-below box state call right (n .port .position) inside set);
+              reply-back (headingOf h (n .command .reply)) x name-of compact names words-of bits-of named (sym (lists-of count (box .names) setDone)) long
+              (stored-small box state call right (n .port .position) inside setDone small)
+              (stored-below box state call right (n .port .position) inside setDone);
         }
 
-    get-counted : (next : ℕ) → 16 ≤ length m → Counted (gotten box state m (askedOf h next (n .command)) (n .port))
+    get-counted : (next : ℕ) → 16 ≤ length m → Counted (getBytes box state m (requestOf h next (n .command)) (n .port))
     get-counted next long =
-        let set = n .command .set in
+        let setDone = n .command .set in
         let inside = here (box .roll) m n in
         let ack = ack-counted m h long in
         rw (got-bytes next)
-        (reply-counted (headingOf h (n .command .reply)) (indexOf (box .roll) (n .port .position)) name-of (eqb (n .port .flags % 2) 1) (listOf (box .names) set) words-of bits-of short
-        (names-right box state call right (n .port .position) inside set) (sym (lists-of count (box .names) set))
-        (stored-long box state call right (n .port .position) inside set) (ackBytes m h) (ack .0) (ack .1))
+        (reply-counted (headingOf h (n .command .reply)) (indexOf (box .roll) (n .port .position)) name-of (eqb (n .port .flags % 2) 1) (listOf (box .names) setDone) words-of bits-of short
+        (names-right box state call right (n .port .position) inside setDone) (sym (lists-of count (box .names) setDone))
+        (stored-long box state call right (n .port .position) inside setDone) (ackBytes m h) (ack .0) (ack .1))
 
   -- the theorems
   abbrev is-set : Bool
   is-set = isSet (commandOf (byteAt m 16))
 
-  pub effect : o .said .kind ≡ Done → is-set ≡ true → DoneSet box state call m h o
-  effect told asked = by (call-case box state call datagram room)
+  pub effect : o .response .kind ≡ Done → is-set ≡ true → DoneSet box state call m h o
+  effect told request = by (call-case box state call datagram room)
     where
       by : CallCase box state call datagram o → DoneSet box state call m h o
-      by (over e) = absurd (let q = kind-is e ∙ told in let z : _≡_ {A = ℕ} 0 1 = cc in omega arith)
-      by (stayed w l e) = absurd (let q = kind-is e ∙ told in let z : _≡_ {A = ℕ} 0 1 = cc in omega arith)
-      by (answered next right lo hi long first (skipped e)) = absurd (let q = kind-is e ∙ told in let z : _≡_ {A = ℕ} 0 1 = cc in omega arith)
-      by (answered next right lo hi long first (refused w e)) = absurd (let q = kind-is e ∙ told in let z : _≡_ {A = ℕ} 0 1 = cc in omega arith)
-      by (answered next right lo hi long first (got n g e)) = absurd (clash asked (named-set (box .roll) m n ∙ g))
-      by (answered next right lo hi long first (set n g b c e)) = rw e (did-set right n g b c refl refl)
+      by (ended e) = absurd (let q = kind-is e ∙ told in let z : _≡_ {A = ℕ} 0 1 = cc in omega arith)
+      by (notRead w l e) = absurd (let q = kind-is e ∙ told in let z : _≡_ {A = ℕ} 0 1 = cc in omega arith)
+      by (messageAnswered next right lo hi long first (messageSkipped e)) = absurd (let q = kind-is e ∙ told in let z : _≡_ {A = ℕ} 0 1 = cc in omega arith)
+      by (messageAnswered next right lo hi long first (messageRefused w e)) = absurd (let q = kind-is e ∙ told in let z : _≡_ {A = ℕ} 0 1 = cc in omega arith)
+      by (messageAnswered next right lo hi long first (getDone n g e)) = absurd (clash request (named-set (box .roll) m n ∙ g))
+      by (messageAnswered next right lo hi long first (setDone n g b c e)) = rw e (did-set right n g b c refl refl)
 
-  pub read-back : Small (state .words) → o .said .kind ≡ Done → is-set ≡ false → DoneGet box state m h o
-  read-back small told asked = by (call-case box state call datagram room)
+  pub read-back : Small (state .words) → o .response .kind ≡ Done → is-set ≡ false → DoneGet box state m h o
+  read-back small told request = by (call-case box state call datagram room)
     where
       by : CallCase box state call datagram o → DoneGet box state m h o
-      by (over e) = absurd (let q = kind-is e ∙ told in let z : _≡_ {A = ℕ} 0 1 = cc in omega arith)
-      by (stayed w l e) = absurd (let q = kind-is e ∙ told in let z : _≡_ {A = ℕ} 0 1 = cc in omega arith)
-      by (answered next right lo hi long first (skipped e)) = absurd (let q = kind-is e ∙ told in let z : _≡_ {A = ℕ} 0 1 = cc in omega arith)
-      by (answered next right lo hi long first (refused w e)) = absurd (let q = kind-is e ∙ told in let z : _≡_ {A = ℕ} 0 1 = cc in omega arith)
-      by (answered next right lo hi long first (got n g e)) = rw e (did-get right n next small g refl refl)
-      by (answered next right lo hi long first (set n g b c e)) = absurd (clash (named-set (box .roll) m n ∙ g) asked)
+      by (ended e) = absurd (let q = kind-is e ∙ told in let z : _≡_ {A = ℕ} 0 1 = cc in omega arith)
+      by (notRead w l e) = absurd (let q = kind-is e ∙ told in let z : _≡_ {A = ℕ} 0 1 = cc in omega arith)
+      by (messageAnswered next right lo hi long first (messageSkipped e)) = absurd (let q = kind-is e ∙ told in let z : _≡_ {A = ℕ} 0 1 = cc in omega arith)
+      by (messageAnswered next right lo hi long first (messageRefused w e)) = absurd (let q = kind-is e ∙ told in let z : _≡_ {A = ℕ} 0 1 = cc in omega arith)
+      by (messageAnswered next right lo hi long first (getDone n g e)) = rw e (did-get right n next small g refl refl)
+      by (messageAnswered next right lo hi long first (setDone n g b c e)) = absurd (clash (named-set (box .roll) m n ∙ g) request)
 
   pub box-kept : boxRight box state call ≡ true → boxRight box (o .state) call ≡ true
   box-kept kept = by (call-case box state call datagram room)
@@ -227,21 +227,21 @@ module _ (box : Box) (state : State) (call : Call) (datagram : List ℕ) (room :
       same e q = rw (ap (λ (x : Outcome State). x .state) e ∙ q) kept
 
       by : CallCase box state call datagram o → boxRight box (o .state) call ≡ true
-      by (over e) = same e refl
-      by (stayed w l e) = same e refl
-      by (answered next right lo hi long first (skipped e)) = same e refl
-      by (answered next right lo hi long first (refused w e)) = same e refl
-      by (answered next right lo hi long first (got n g e)) = same e refl
-      by (answered next right lo hi long first (set n g b c e)) =
+      by (ended e) = same e refl
+      by (notRead w l e) = same e refl
+      by (messageAnswered next right lo hi long first (messageSkipped e)) = same e refl
+      by (messageAnswered next right lo hi long first (messageRefused w e)) = same e refl
+      by (messageAnswered next right lo hi long first (getDone n g e)) = same e refl
+      by (messageAnswered next right lo hi long first (setDone n g b c e)) =
           rw e (set-right box state call right (n .port .position) (here (box .roll) m n) (n .command .set) b (fits right n g b c))
 
-  pub count-told : Counted (o .said .bytes)
+  pub count-told : Counted (o .response .bytes)
   count-told = by (call-case box state call datagram room)
     where
-      by : CallCase box state call datagram o → Counted (o .said .bytes)
-      by (over e) = rw (bytes-are e) none-counted
-      by (stayed w l e) = rw (bytes-are e) none-counted
-      by (answered next right lo hi long first (skipped e)) = rw (bytes-are e) none-counted
-      by (answered next right lo hi long first (refused w e)) = rw (bytes-are e) (error-counted m long (errnoOf w) (detailOf w))
-      by (answered next right lo hi long first (got n g e)) = rw (bytes-are e) (get-counted right n next long)
-      by (answered next right lo hi long first (set n g b c e)) = rw (bytes-are e) (ack-counted m h long .0)
+      by : CallCase box state call datagram o → Counted (o .response .bytes)
+      by (ended e) = rw (bytes-are e) none-counted
+      by (notRead w l e) = rw (bytes-are e) none-counted
+      by (messageAnswered next right lo hi long first (messageSkipped e)) = rw (bytes-are e) none-counted
+      by (messageAnswered next right lo hi long first (messageRefused w e)) = rw (bytes-are e) (error-counted m long (errnoOf w) (detailOf w))
+      by (messageAnswered next right lo hi long first (getDone n g e)) = rw (bytes-are e) (get-counted right n next long)
+      by (messageAnswered next right lo hi long first (setDone n g b c e)) = rw (bytes-are e) (ack-counted m h long .0)

@@ -23,7 +23,7 @@ use Rattle.layout.proofs.Kept.{splice-below, splice-above, change-own, change-o
 use Rattle.boxes.proofs.rule.Meaning.{Right, box-means, box-keeps}
 use Rattle.boxes.proofs.settings.Laws as S
 use Rattle.boxes.proofs.settings.Change.{change-right}
-use Rattle.obey.specs.Obey.{withSet}
+use Rattle.execute.specs.Execute.{withSet}
 
 -- an accepted bitset makes a set below N of a set below N
 effect-below : (n : ℕ) (b : Bitset) → Fits n b → (s : ℕ → Bool) → Below n s → Below n (effect b s)

@@ -21,10 +21,10 @@ use Rattle.boxes.specs.Box.{Box, State}
 use Rattle.boxes.specs.declared.Call.{Call}
 use Rattle.boxes.specs.Rule.{boxRight}
 use Rattle.response.specs.Answer.{Outcome}
-use Rattle.handler.specs.Call.{stays, onMessage, messageOutcome, positionOutcome, outcome}
+use Rattle.handler.specs.Call.{refusedInPlace, onMessage, messageOutcome, positionOutcome, outcome}
 use Rattle.response.specs.declared.Kind.{Kind}
 use Rattle.response.specs.declared.Kind.the-variants.{Done, Refused}
-use Rattle.demands.specs.Check.{Check, refuseIf, first, AllPass, FirstIs}
+use Rattle.demands.specs.Check.{Check, refuseIf, firstKind, AllPass, FirstIs}
 use Rattle.demands.specs.Check.Check.{ends}
 use Rattle.demands.specs.Request.{messageChecks}
 use Rattle.demands.specs.Call.{messageOf, endIf, callChecks}
@@ -52,7 +52,7 @@ module _ (box : Box) (state : State) (call : Call) (datagram : List ℕ) (room :
   message = Message (messageHeader datagram position) (position + u32At datagram position) (min (position + roundUp4 (u32At datagram position)) (length datagram))
 
   read-first : read-kind (messageAt datagram position)
-      ≡ first Done
+      ≡ firstKind Done
       (refuseIf (ltb (length datagram) position) R.Datagram
       ∷ endIf datagram position
       ∷ refuseIf (ltb (length datagram) (position + 16)) R.Datagram
@@ -69,18 +69,18 @@ module _ (box : Box) (state : State) (call : Call) (datagram : List ℕ) (room :
       (step read-kind Done wrong R.Length Misstated message _ refl
       (message-first box state (partOf datagram position (position + u32At datagram position)) (messageHeader datagram position) _ call))))
 
-  pub exact : answered .said .kind ≡ first Done checks
+  pub exact : answered .response .kind ≡ firstKind Done checks
   unfolding outcome positionOutcome callChecks
   exact =
       let rest = called (messageAt datagram position) in
       let long = ltb 32768 (length datagram) in
-      step kind Done (not (boxRight box state call)) R.Box (stays R.Box call state) _ _ refl
-      (step kind Done (ltb room 32768) R.Page (stays R.Page call state) (cond long (stays R.Datagram call state) rest) _ refl
-      (step kind Done long R.Datagram (stays R.Datagram call state) rest _ refl read-first))
+      step kind Done (not (boxRight box state call)) R.Box (refusedInPlace R.Box call state) _ _ refl
+      (step kind Done (ltb room 32768) R.Page (refusedInPlace R.Page call state) (cond long (refusedInPlace R.Datagram call state) rest) _ refl
+      (step kind Done long R.Datagram (refusedInPlace R.Datagram call state) rest _ refl read-first))
 
-  pub done-exactly : (answered .said .kind ≡ Done → AllPass checks) × (AllPass checks → answered .said .kind ≡ Done)
+  pub done-exactly : (answered .response .kind ≡ Done → AllPass checks) × (AllPass checks → answered .response .kind ≡ Done)
   done-exactly = (λ e. first-done checks (sym exact ∙ e), λ a. exact ∙ done-first a)
 
   pub refused-exactly : (why : Refusal)
-      → (answered .said .kind ≡ Refused why → FirstIs why checks) × (FirstIs why checks → answered .said .kind ≡ Refused why)
+      → (answered .response .kind ≡ Refused why → FirstIs why checks) × (FirstIs why checks → answered .response .kind ≡ Refused why)
   refused-exactly why = (λ e. first-refused why checks (sym exact ∙ e), λ f. exact ∙ refused-first why f)

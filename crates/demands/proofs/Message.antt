@@ -12,82 +12,82 @@ use Rattle.netlink_headers.specs.declared.headers.MessageHeader.{MessageHeader}
 use Rattle.netlink.specs.declared.walk.Slot.{Slot}
 use Rattle.refusal.specs.declared.Refusal.the-variants as R
 use Rattle.bitset_form.specs.Bitset.{Reading}
-use Rattle.bitset_form.specs.Bitset.Reading.{refused as turned-down, accepted}
+use Rattle.bitset_form.specs.Bitset.Reading.{refused, accepted}
 use Rattle.bitset.specs.Judge.{bitsetReading}
 use Rattle.layout.specs.Layout.{listOf}
 use Rattle.boxes.specs.Box.{Box, State}
 use Rattle.boxes.specs.declared.Call.{Call}
-use Rattle.admission.specs.Admission.{barred, permitted, onCommand, admitted}
-use Rattle.request.specs.Aim.{aimOf}
+use Rattle.admission.specs.Admission.{notPermitted, permitted, onCommand, admitted}
+use Rattle.request.specs.Target.{targetOf}
 use Rattle.admission.specs.Commands.{commandOf}
 use Rattle.request.specs.Top.{topOf}
 use Rattle.admission.specs.declared.Admission.{Admission}
 use Rattle.admission.specs.declared.Admission.the-variants as A
-use Rattle.request.specs.declared.aim.Aim.{Aim}
-use Rattle.request.specs.declared.aim.Aim.the-variants as P
+use Rattle.request.specs.declared.target.TargetRead.{TargetRead}
+use Rattle.request.specs.declared.target.TargetRead.the-variants as P
 use Rattle.admission.specs.declared.commands.Command.{Command}
 use Rattle.admission.specs.declared.commands.CommandRead.{CommandRead}
 use Rattle.admission.specs.declared.commands.CommandRead.the-variants.{Listed, Unlisted}
 use Rattle.request.specs.declared.top.Top.{Top}
 use Rattle.request.specs.declared.top.Top.the-variants as T
-use Rattle.response.specs.Answer.{Outcome, speech, done, leaves}
-use Rattle.obey.specs.Obey.{gotten, onReading, setOutcome, deed, onAim, aimed, onTop, obeyed}
+use Rattle.response.specs.Answer.{Outcome, responseOf, done, unchanged}
+use Rattle.execute.specs.Execute.{getBytes, readingOutcome, setOutcome, portOutcome, targetOutcome, headerOutcome, topOutcome, requestOutcome}
 use Rattle.handler.specs.Call.{onAdmission, messageOutcome}
-use Rattle.demands.specs.Message.{Named, askedOf, MessageCase}
-use Rattle.demands.specs.Message.MessageCase.{skipped, refused, got, set}
+use Rattle.demands.specs.Message.{Named, requestOf, MessageCase}
+use Rattle.demands.specs.Message.MessageCase.{messageSkipped, messageRefused, getDone, setDone}
 
 -- a command that is admitted is listed
-go-listed : (m : List ℕ) (h : MessageHeader) (family : ℕ) (admin : Bool) (command : Command) → admitted m h family admin ≡ A.Go command
+go-listed : (m : List ℕ) (h : MessageHeader) (family : ℕ) (admin : Bool) (command : Command) → admitted m h family admin ≡ A.Admitted command
     → commandOf (byteAt m 16) ≡ Listed command
 unfolding admitted permitted
 go-listed m h family admin command e =
     by (ltb (h .kind) 16 || eqb (h .flags % 2) 0) (not (eqb (h .kind) family)) (ltb (length m) 20) (commandOf (byteAt m 16)) e
   where
-    admits : (a b : Bool) (c : Command) → cond a (A.Refused R.Dump) (cond b (A.Refused R.Permission) (A.Go c)) ≡ A.Go command → c ≡ command
+    admits : (a b : Bool) (c : Command) → cond a (A.Refused R.Dump) (cond b (A.Refused R.Permission) (A.Admitted c)) ≡ A.Admitted command → c ≡ command
     admits true b c e = absurd (let z : _≡_ {A = ℕ} 0 1 = cc in omega arith)
     admits false true c e = absurd (let z : _≡_ {A = ℕ} 0 1 = cc in omega arith)
     admits false false c e = cc
 
     by : (a b c : Bool) (x : CommandRead)
-        → cond a A.Skipped (cond b (A.Refused R.Family) (cond c (A.Refused R.Short) (onCommand x (permitted h admin)))) ≡ A.Go command → x ≡ Listed command
+        → cond a A.Skipped (cond b (A.Refused R.Family) (cond c (A.Refused R.Short) (onCommand x (permitted h admin)))) ≡ A.Admitted command → x ≡ Listed command
     by true b c x e = absurd (let z : _≡_ {A = ℕ} 0 1 = cc in omega arith)
     by false true c x e = absurd (let z : _≡_ {A = ℕ} 0 1 = cc in omega arith)
     by false false true x e = absurd (let z : _≡_ {A = ℕ} 0 1 = cc in omega arith)
     by false false false Unlisted e = absurd (let z : _≡_ {A = ℕ} 0 1 = cc in omega arith)
-    by false false false (Listed c) e = ap Listed (admits (eqb (h .flags / 256 % 4) 3) (barred c admin) c e)
+    by false false false (Listed c) e = ap Listed (admits (eqb (h .flags / 256 % 4) 3) (notPermitted c admin) c e)
 
 module _ (box : Box) (state : State) (m : List ℕ) (h : MessageHeader) (next : ℕ) where
   module _ (n : Named (box .roll) m) where
-    set-case : n .command .change ≡ true → MessageCase box state m h next (setOutcome box state m (askedOf h next (n .command)) (n .bitset) (n .port .position))
+    set-case : n .command .change ≡ true → MessageCase box state m h next (setOutcome box state m (requestOf h next (n .command)) (n .bitset) (n .port .position))
     unfolding setOutcome
     set-case change = go (bitsetReading (partOf m 0 (n .bitset .end)) (n .bitset .start) (listOf (box .names) (n .command .set))) refl
       where
         go : (x : Reading) → bitsetReading (partOf m 0 (n .bitset .end)) (n .bitset .start) (listOf (box .names) (n .command .set)) ≡ x
-            → MessageCase box state m h next (onReading x box state m (askedOf h next (n .command)) (n .port .position))
-        go (turned-down why) e = refused why refl
-        go (accepted b) e = set n change b e refl
+            → MessageCase box state m h next (readingOutcome x box state m (requestOf h next (n .command)) (n .port .position))
+        go (refused why) e = messageRefused why refl
+        go (accepted b) e = setDone n change b e refl
 
-    deed-case : MessageCase box state m h next (deed box state m (askedOf h next (n .command)) (n .bitset) (n .port))
-    unfolding deed
+    deed-case : MessageCase box state m h next (portOutcome box state m (requestOf h next (n .command)) (n .bitset) (n .port))
+    unfolding portOutcome
     deed-case = go (n .command .change) refl
       where
         shown : Outcome State
-        shown = leaves (speech done next (gotten box state m (askedOf h next (n .command)) (n .port))) state
+        shown = unchanged (responseOf done next (getBytes box state m (requestOf h next (n .command)) (n .port))) state
 
         go : (t : Bool) → n .command .change ≡ t
-            → MessageCase box state m h next (cond t (setOutcome box state m (askedOf h next (n .command)) (n .bitset) (n .port .position)) shown)
+            → MessageCase box state m h next (cond t (setOutcome box state m (requestOf h next (n .command)) (n .bitset) (n .port .position)) shown)
         go true e = set-case e
-        go false e = got n e refl
+        go false e = getDone n e refl
 
   module _ (command : Command) (listed : commandOf (byteAt m 16) ≡ Listed command) where
     aimed-case : (header bitset : Slot) → topOf m (command .change) ≡ T.Nests header bitset
-        → MessageCase box state m h next (aimed box state m (askedOf h next command) header bitset)
-    unfolding aimed
-    aimed-case header bitset nests = go (aimOf m header (box .roll)) refl
+        → MessageCase box state m h next (headerOutcome box state m (requestOf h next command) header bitset)
+    unfolding headerOutcome
+    aimed-case header bitset nests = go (targetOf m header (box .roll)) refl
       where
-        go : (a : Aim) → aimOf m header (box .roll) ≡ a → MessageCase box state m h next (onAim a state m (askedOf h next command) (deed box state m (askedOf h next command) bitset))
-        go (P.Refused why) e = refused why refl
-        go (P.Port position asked) e =
+        go : (a : TargetRead) → targetOf m header (box .roll) ≡ a → MessageCase box state m h next (targetOutcome a state m (requestOf h next command) (portOutcome box state m (requestOf h next command) bitset))
+        go (P.Refused why) e = messageRefused why refl
+        go (P.Port position request) e =
             deed-case
             (record {
               command = command;
@@ -95,16 +95,16 @@ module _ (box : Box) (state : State) (m : List ℕ) (h : MessageHeader) (next : 
               header = header;
               bitset = bitset;
               nests = nests;
-              port = record { position = position; flags = asked };
+              port = record { position = position; flags = request };
               found = e;
             })
 
-    obeyed-case : MessageCase box state m h next (obeyed box state m (askedOf h next command))
-    unfolding obeyed
+    obeyed-case : MessageCase box state m h next (requestOutcome box state m (requestOf h next command))
+    unfolding requestOutcome
     obeyed-case = go (topOf m (command .change)) refl
       where
-        go : (t : Top) → topOf m (command .change) ≡ t → MessageCase box state m h next (onTop t state m (askedOf h next command) (aimed box state m (askedOf h next command)))
-        go (T.Refused why) e = refused why refl
+        go : (t : Top) → topOf m (command .change) ≡ t → MessageCase box state m h next (topOutcome t state m (requestOf h next command) (headerOutcome box state m (requestOf h next command)))
+        go (T.Refused why) e = messageRefused why refl
         go (T.Nests header bitset) e = aimed-case header bitset e
 
   pub message-case : (call : Call) → MessageCase box state m h next (messageOutcome box state call m h next)
@@ -113,6 +113,6 @@ module _ (box : Box) (state : State) (m : List ℕ) (h : MessageHeader) (next : 
     where
       go : (a : Admission) → admitted m h (call .family) (eqb (call .admin) 1) ≡ a
           → MessageCase box state m h next (onAdmission a box state m h next)
-      go A.Skipped e = skipped refl
-      go (A.Refused why) e = refused why refl
-      go (A.Go command) e = obeyed-case command (go-listed m h (call .family) (eqb (call .admin) 1) command e)
+      go A.Skipped e = messageSkipped refl
+      go (A.Refused why) e = messageRefused why refl
+      go (A.Admitted command) e = obeyed-case command (go-listed m h (call .family) (eqb (call .admin) 1) command e)

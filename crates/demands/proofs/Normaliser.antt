@@ -43,19 +43,19 @@ use Rattle.request.specs.Policies.{topPolicy}
 use Rattle.request.specs.Top.{nestsOf, topOf}
 use Rattle.request.specs.declared.top.Top.{Top}
 use Rattle.request.specs.declared.top.Top.the-variants as T
-use Rattle.request.specs.declared.aim.Aim.{Aim}
-use Rattle.response.specs.Answer.{Outcome, speech, done, leaves}
+use Rattle.request.specs.declared.target.TargetRead.{TargetRead}
+use Rattle.response.specs.Answer.{Outcome, responseOf, done, unchanged}
 use Rattle.response.specs.declared.Kind.the-variants.{Done}
-use Rattle.obey.specs.declared.Asked.{Asked}
-use Rattle.obey.specs.Obey.{gotten, onReading, setOutcome, deed, onAim, aimed, onTop, obeyed}
-use Rattle.handler.specs.Call.{stays, onAdmission, messageOutcome, positionOutcome, outcome, isOver}
+use Rattle.execute.specs.declared.Request.{Request}
+use Rattle.execute.specs.Execute.{getBytes, readingOutcome, setOutcome, portOutcome, targetOutcome, headerOutcome, topOutcome, requestOutcome}
+use Rattle.handler.specs.Call.{refusedInPlace, onAdmission, messageOutcome, positionOutcome, outcome, endsRun}
 use Rattle.demands.specs.Call.{messageOf}
 use Rattle.demands.specs.CallCase.{CallCase}
-use Rattle.demands.specs.CallCase.CallCase.{over, stayed, answered}
-use Rattle.demands.specs.Message.{Named, askedOf}
+use Rattle.demands.specs.CallCase.CallCase.{ended, notRead, messageAnswered}
+use Rattle.demands.specs.Message.{Named, requestOf}
 use Rattle.demands.specs.Done.{DoneSet}
-use Rattle.demands.specs.Normaliser.{namesFor, normalOf, Alike}
-use Rattle.demands.specs.Normaliser.Alike.{both-done, both-refused}
+use Rattle.demands.specs.Normaliser.{namesFor, normaliserAnswer, AnsweredAlike}
+use Rattle.demands.specs.Normaliser.AnsweredAlike.{both-done, both-refused}
 use Rattle.demands.proofs.Bitset.{kindOf}
 use Rattle.demands.proofs.Request.{kind, message-first}
 use Rattle.demands.proofs.CallCase.{call-case}
@@ -111,16 +111,16 @@ module _ (box : Box) (state : State) (call : Call) (datagram : List ℕ) (room :
   h = messageHeader datagram position
 
   -- neither the end nor 1 to 4
-  module _ (going : isOver (o .said .kind) ≡ false) where
+  module _ (going : endsRun (o .response .kind) ≡ false) where
     within : length datagram ≤ 32768
     unfolding outcome
     within = go (not (boxRight box state call)) (ltb room 32768) (ltb 32768 (length datagram)) refl going
       where
         go : (a b c : Bool) → ltb 32768 (length datagram) ≡ c
-            → isOver
-            (cond a (stays R.Box call state)
-            (cond b (stays R.Page call state)
-            (cond c (stays R.Datagram call state) (positionOutcome box state call datagram))) .said .kind)
+            → endsRun
+            (cond a (refusedInPlace R.Box call state)
+            (cond b (refusedInPlace R.Page call state)
+            (cond c (refusedInPlace R.Datagram call state) (positionOutcome box state call datagram))) .response .kind)
             ≡ false
             → length datagram ≤ 32768
         go true b c e q = absurd (clash refl q)
@@ -138,44 +138,44 @@ module _ (box : Box) (state : State) (call : Call) (datagram : List ℕ) (room :
     right = by (call-case box state call datagram room)
       where
         by : CallCase box state call datagram o → boxRight box state call ≡ true
-        by (over e) = absurd (clash (ap (λ (x : Outcome State). isOver (x .said .kind)) e) going)
-        by (stayed w l e) = absurd (clash (ap (λ (x : Outcome State). isOver (x .said .kind)) e ∙ lt-ltb (numberOf w) 5 (omega arith)) going)
-        by (answered next right lo hi long first c) = right
+        by (ended e) = absurd (clash (ap (λ (x : Outcome State). endsRun (x .response .kind)) e) going)
+        by (notRead w l e) = absurd (clash (ap (λ (x : Outcome State). endsRun (x .response .kind)) e ∙ lt-ltb (numberOf w) 5 (omega arith)) going)
+        by (messageAnswered next right lo hi long first c) = right
 
     module _ (n : Named (box .roll) m) where
       abbrev reading : Reading
       reading = bitsetReading (partOf m 0 (n .bitset .end)) (n .bitset .start) (namesFor box m n)
 
       -- a SET that is admitted, names a port and so comes to its bitset
-      module _ (change : n .command .change ≡ true) (admit : admitted m h (call .family) (eqb (call .admin) 1) ≡ A.Go (n .command)) where
+      module _ (change : n .command .change ≡ true) (admit : admitted m h (call .family) (eqb (call .admin) 1) ≡ A.Admitted (n .command)) where
         deed-kind : (next : ℕ) → kind (messageOutcome box state call m h next) ≡ kindOf reading
-        unfolding messageOutcome obeyed aimed deed setOutcome
+        unfolding messageOutcome requestOutcome headerOutcome portOutcome setOutcome
         deed-kind next =
             ap (λ (a : Admission). kind (onAdmission a box state m h next)) admit
-            ∙ ap (λ (t : Top). kind (onTop t state m asked (aimed box state m asked))) (n .nests)
-            ∙ ap (λ (a : Aim). kind (onAim a state m asked (deed box state m asked (n .bitset)))) (n .found)
-            ∙ ap (λ (t : Bool). kind (cond t (setOutcome box state m asked (n .bitset) (n .port .position)) shown)) change
+            ∙ ap (λ (t : Top). kind (topOutcome t state m request (headerOutcome box state m request))) (n .nests)
+            ∙ ap (λ (a : TargetRead). kind (targetOutcome a state m request (portOutcome box state m request (n .bitset)))) (n .found)
+            ∙ ap (λ (t : Bool). kind (cond t (setOutcome box state m request (n .bitset) (n .port .position)) shown)) change
             ∙ read-kind reading
           where
-            asked : Asked
-            asked = askedOf h next (n .command)
+            request : Request
+            request = requestOf h next (n .command)
 
             shown : Outcome State
-            shown = leaves (speech done next (gotten box state m asked (n .port))) state
+            shown = unchanged (responseOf done next (getBytes box state m request (n .port))) state
 
-            read-kind : (r : Reading) → kind (onReading r box state m asked (n .port .position)) ≡ kindOf r
+            read-kind : (r : Reading) → kind (readingOutcome r box state m request (n .port .position)) ≡ kindOf r
             read-kind (refused why) = refl
             read-kind (accepted b) = refl
 
-        kind-is : o .said .kind ≡ kindOf reading
+        kind-is : o .response .kind ≡ kindOf reading
         kind-is = by (call-case box state call datagram room)
           where
-            by : CallCase box state call datagram o → o .said .kind ≡ kindOf reading
-            by (over e) = absurd (clash (ap (λ (x : Outcome State). isOver (x .said .kind)) e) going)
-            by (stayed w l e) = absurd (clash (ap (λ (x : Outcome State). isOver (x .said .kind)) e ∙ lt-ltb (numberOf w) 5 (omega arith)) going)
-            by (answered next right lo hi long first c) = first ∙ sym (message-first box state m h next call) ∙ deed-kind next
+            by : CallCase box state call datagram o → o .response .kind ≡ kindOf reading
+            by (ended e) = absurd (clash (ap (λ (x : Outcome State). endsRun (x .response .kind)) e) going)
+            by (notRead w l e) = absurd (clash (ap (λ (x : Outcome State). endsRun (x .response .kind)) e ∙ lt-ltb (numberOf w) 5 (omega arith)) going)
+            by (messageAnswered next right lo hi long first c) = first ∙ sym (message-first box state m h next call) ∙ deed-kind next
 
-        pub set-alike : (page : ℕ) → 144 ≤ page → Alike box m n page (o .said .kind)
+        pub set-alike : (page : ℕ) → 144 ≤ page → AnsweredAlike box m n page (o .response .kind)
         set-alike page wide = go reading refl
           where
             names : namesRight (namesFor box m n) ≡ true
@@ -187,7 +187,7 @@ module _ (box : Box) (state : State) (call : Call) (datagram : List ℕ) (room :
             short : length (partOf m (n .bitset .start) (n .bitset .end)) ≤ 32768
             short = payload-short (n .bitset .start) (n .bitset .end)
 
-            go : (r : Reading) → reading ≡ r → Alike box m n page (o .said .kind)
+            go : (r : Reading) → reading ≡ r → AnsweredAlike box m n page (o .response .kind)
             go (accepted b) e =
                 both-done b (kind-is ∙ ap kindOf e) e
                 (both-accept m (namesFor box m n) (n .bitset .start) (n .bitset .end) (at .0) (at .1) names page wide short b e)
@@ -195,12 +195,12 @@ module _ (box : Box) (state : State) (call : Call) (datagram : List ℕ) (room :
                 both-refused why (kind-is ∙ ap kindOf e)
                 (both-refuse m (namesFor box m n) (n .bitset .start) (n .bitset .end) (at .0) (at .1) names page wide short why e)
 
-  pub done-normal : o .said .kind ≡ Done → (d : DoneSet box state call m h o) (page : ℕ) → 144 ≤ page
-      → normalOf box m (d .named) page
+  pub done-normal : o .response .kind ≡ Done → (d : DoneSet box state call m h o) (page : ℕ) → 144 ≤ page
+      → normaliserAnswer box m (d .named) page
       ≡ record { number = 0; bytes = normalForm (count (namesFor box m (d .named))) (d .bits) }
   done-normal told d page wide =
       let n = d .named in
       let i = bitset-inside (box .roll) m n in
       both-accept m (namesFor box m n) (n .bitset .start) (n .bitset .end) (i .0) (i .1)
       (box-means box (o .state) call (d .right) .names-right (n .command .set)) page wide
-      (payload-short (ap isOver told) (n .bitset .start) (n .bitset .end)) (d .bits) (d .carries)
+      (payload-short (ap endsRun told) (n .bitset .start) (n .bitset .end)) (d .bits) (d .carries)

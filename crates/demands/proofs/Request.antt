@@ -15,19 +15,19 @@ use Rattle.refusal.specs.declared.Refusal.the-variants as R
 use Rattle.bitset_form.specs.Bitset.{Reading}
 use Rattle.bitset_form.specs.Bitset.Reading.{refused, accepted}
 use Rattle.bitset.specs.Judge.{bitsetReading}
-use Rattle.roll.specs.Find.{byIndex, byName}
+use Rattle.roll.specs.Find.{foundByIndex, foundByName}
 use Rattle.roll.specs.declared.find.Found.{Found}
 use Rattle.roll.specs.declared.find.Found.the-variants as F
 use Rattle.layout.specs.Layout.{listOf}
 use Rattle.boxes.specs.Box.{Box, State}
 use Rattle.boxes.specs.declared.Call.{Call}
 use Rattle.layout.specs.declared.Set.{Set}
-use Rattle.admission.specs.Admission.{barred, permitted, onCommand, admitted}
-use Rattle.request.specs.Aim.{withFlags, onHeader, aimOf}
+use Rattle.admission.specs.Admission.{notPermitted, permitted, onCommand, admitted}
+use Rattle.request.specs.Target.{withFlags, onHeader, targetOf}
 use Rattle.admission.specs.Commands.{commandOf}
 use Rattle.request.specs.Header.{flagsJudged, partsOf, headerOf}
 use Rattle.request.specs.Policies.{topPolicy, headerPolicy}
-use Rattle.request.specs.Target.{onFound, otherName, portByIndex, portByName, targetOf}
+use Rattle.request.specs.Port.{onFound, otherName, portByIndex, portByName, portOf}
 use Rattle.refusal.specs.Refusal.{onStop}
 use Rattle.request.specs.Top.{nestsOf, topOf}
 use Rattle.admission.specs.declared.Admission.{Admission}
@@ -37,19 +37,19 @@ use Rattle.admission.specs.declared.commands.CommandRead.{CommandRead}
 use Rattle.admission.specs.declared.commands.CommandRead.the-variants.{Listed, Unlisted}
 use Rattle.request.specs.declared.header.Header.{Header}
 use Rattle.request.specs.declared.header.Header.the-variants as H
-use Rattle.request.specs.declared.target.Target.{Target}
-use Rattle.request.specs.declared.target.Target.the-variants as P
+use Rattle.request.specs.declared.port.PortRead.{PortRead}
+use Rattle.request.specs.declared.port.PortRead.the-variants as P
 use Rattle.request.specs.declared.top.Top.{Top}
 use Rattle.request.specs.declared.top.Top.the-variants as T
-use Rattle.response.specs.Answer.{Outcome, speech, done, leaves}
-use Rattle.decision.specs.declared.Port.{Port}
-use Rattle.obey.specs.declared.Asked.{Asked}
-use Rattle.demands.specs.Message.{askedOf}
-use Rattle.obey.specs.Obey.{gotten, onReading, setOutcome, deed, onAim, aimed, onTop, obeyed}
+use Rattle.response.specs.Answer.{Outcome, responseOf, done, unchanged}
+use Rattle.decision.specs.declared.Target.{Target}
+use Rattle.execute.specs.declared.Request.{Request}
+use Rattle.demands.specs.Message.{requestOf}
+use Rattle.execute.specs.Execute.{getBytes, readingOutcome, setOutcome, portOutcome, targetOutcome, headerOutcome, topOutcome, requestOutcome}
 use Rattle.handler.specs.Call.{onAdmission, messageOutcome}
 use Rattle.response.specs.declared.Kind.{Kind}
 use Rattle.response.specs.declared.Kind.the-variants.{Done, Refused}
-use Rattle.demands.specs.Check.{Check, refuseIf, first}
+use Rattle.demands.specs.Check.{Check, refuseIf, firstKind}
 use Rattle.demands.specs.Check.Check.{skips}
 use Rattle.demands.specs.Bitset.{bitsetChecks}
 use Rattle.demands.specs.Request.{unlisted, isSet, setIn, noPort, namedOtherwise, skipIf, admissionChecks, topChecks, portChecks, headerChecks, levelChecks, commandChecks, messageChecks}
@@ -57,36 +57,36 @@ use Rattle.demands.proofs.First.{step, stop-step, walk-step, pass, faul
 use Rattle.demands.proofs.Bitset.{kindOf, bitset-first}
 
 abbrev pub kind : Outcome State → Kind
-kind o = o .said .kind
+kind o = o .response .kind
 
 module _ (box : Box) (state : State) (m : List ℕ) (h : MessageHeader) (next : ℕ) where
-  reading-kind : (r : Reading) (asked : Asked) (position : ℕ) → kind (onReading r box state m asked position) ≡ kindOf r
-  reading-kind (refused why) asked position = refl
-  reading-kind (accepted b) asked position = refl
+  reading-kind : (r : Reading) (request : Request) (position : ℕ) → kind (readingOutcome r box state m request position) ≡ kindOf r
+  reading-kind (refused why) request position = refl
+  reading-kind (accepted b) request position = refl
 
   -- the checks after the header level: in a SET those of the bitset
   abbrev after : Bool → Set → Slot → List Check
   after change set bitset = cond change (bitsetChecks (partOf m 0 (bitset .end)) (bitset .start) (listOf (box .names) set)) []
 
   module _ (command : Command) (bitset : Slot) where
-    abbrev request : Asked
-    request = askedOf h next command
+    abbrev request : Request
+    request = requestOf h next command
 
     set-first : (position : ℕ)
         → kind (setOutcome box state m request bitset position)
-        ≡ first Done (bitsetChecks (partOf m 0 (bitset .end)) (bitset .start) (listOf (box .names) (command .set)))
+        ≡ firstKind Done (bitsetChecks (partOf m 0 (bitset .end)) (bitset .start) (listOf (box .names) (command .set)))
     unfolding setOutcome
     set-first position =
         let s = partOf m 0 (bitset .end) in
         let names = listOf (box .names) (command .set) in
         reading-kind (bitsetReading s (bitset .start) names) request position ∙ bitset-first s (bitset .start) names
 
-    deed-first : (port : Port) → kind (deed box state m request bitset port) ≡ first Done (after (command .change) (command .set) bitset)
-    unfolding deed
-    deed-first port = go (command .change) (leaves (speech done next (gotten box state m request port)) state) refl
+    port-outcome-first : (port : Target) → kind (portOutcome box state m request bitset port) ≡ firstKind Done (after (command .change) (command .set) bitset)
+    unfolding portOutcome
+    port-outcome-first port = go (command .change) (unchanged (responseOf done next (getBytes box state m request port)) state) refl
       where
         go : (t : Bool) (got : Outcome State) → kind got ≡ Done
-            → kind (cond t (setOutcome box state m request bitset (port .position)) got) ≡ first Done (after t (command .set) bitset)
+            → kind (cond t (setOutcome box state m request bitset (port .position)) got) ≡ firstKind Done (after t (command .set) bitset)
         go true got e = set-first (port .position)
         go false got e = e ∙ no-more Done
 
@@ -94,13 +94,13 @@ module _ (box : Box) (state : State) (m : List ℕ) (h : MessageHeader) (next : 
     rest = after (command .change) (command .set) bitset
 
     -- 16 and 17
-    module _ (header index name : Slot) (asked : ℕ) where
-      abbrev targeted : Target → Kind
-      targeted target = kind (onAim (withFlags target asked) state m request (deed box state m request bitset))
+    module _ (header index name : Slot) (flags : ℕ) where
+      abbrev targeted : PortRead → Kind
+      targeted target = kind (targetOutcome (withFlags target flags) state m request (portOutcome box state m request bitset))
 
-      port-first : (p : ℕ) → targeted (P.Port p) ≡ first Done rest
+      port-first : (p : ℕ) → targeted (P.Port p) ≡ firstKind Done rest
       unfolding withFlags
-      port-first p = deed-first (record { position = p; flags = asked })
+      port-first p = port-outcome-first (record { position = p; flags = flags })
 
       refused-by : (why : Refusal) → targeted (P.Refused why) ≡ Refused why
       unfolding withFlags
@@ -110,7 +110,7 @@ module _ (box : Box) (state : State) (m : List ℕ) (h : MessageHeader) (next : 
           → targeted
           (onFound found (P.Refused (R.UnknownPort (index .start - 4)))
           (λ k. cond (otherName m name (box .roll) k) (P.Refused (R.OtherName (header .start - 4))) (P.Port k)))
-          ≡ first Done
+          ≡ firstKind Done
           (refuseIf (noPort found) (R.UnknownPort (index .start - 4))
           ∷ refuseIf false (R.UnknownPort (name .start - 4))
           ∷ refuseIf (namedOtherwise m name (box .roll) found) (R.OtherName (header .start - 4))
@@ -122,61 +122,61 @@ module _ (box : Box) (state : State) (m : List ℕ) (h : MessageHeader) (next : 
 
       name-first : (found : Found)
           → targeted (onFound found (P.Refused (R.UnknownPort (name .start - 4))) P.Port)
-          ≡ first Done (refuseIf (noPort found) (R.UnknownPort (name .start - 4)) ∷ refuseIf false (R.OtherName (header .start - 4)) ∷ rest)
+          ≡ firstKind Done (refuseIf (noPort found) (R.UnknownPort (name .start - 4)) ∷ refuseIf false (R.OtherName (header .start - 4)) ∷ rest)
       unfolding noPort
       name-first F.Nothing = refused-by _ ∙ fault Done _ _
       name-first (F.At k) = pass Done _ _ _ (pass Done _ _ _ (port-first k))
 
       target-first : (t : Bool)
           → targeted (cond t (portByIndex m header index name (box .roll)) (portByName m name (box .roll)))
-          ≡ first Done
-          (refuseIf (t && noPort (byIndex (box .roll) (slotNumber m index))) (R.UnknownPort (index .start - 4))
-          ∷ refuseIf (not t && noPort (byName (box .roll) (partOf m (name .start) (name .end)))) (R.UnknownPort (name .start - 4))
-          ∷ refuseIf (t && namedOtherwise m name (box .roll) (byIndex (box .roll) (slotNumber m index))) (R.OtherName (header .start - 4))
+          ≡ firstKind Done
+          (refuseIf (t && noPort (foundByIndex (box .roll) (slotNumber m index))) (R.UnknownPort (index .start - 4))
+          ∷ refuseIf (not t && noPort (foundByName (box .roll) (partOf m (name .start) (name .end)))) (R.UnknownPort (name .start - 4))
+          ∷ refuseIf (t && namedOtherwise m name (box .roll) (foundByIndex (box .roll) (slotNumber m index))) (R.OtherName (header .start - 4))
           ∷ rest)
       unfolding portByIndex portByName
-      target-first true = index-first (byIndex (box .roll) (slotNumber m index))
-      target-first false = pass Done _ _ _ (name-first (byName (box .roll) (partOf m (name .start) (name .end))))
+      target-first true = index-first (foundByIndex (box .roll) (slotNumber m index))
+      target-first false = pass Done _ _ _ (name-first (foundByName (box .roll) (partOf m (name .start) (name .end))))
 
     -- the header level
-    aimed-first : (header : Slot) → kind (aimed box state m request header bitset) ≡ first Done (headerChecks m (box .roll) header ++ rest)
-    unfolding aimed aimOf headerOf partsOf flagsJudged targetOf headerChecks portChecks
-    aimed-first header =
+    header-first : (header : Slot) → kind (headerOutcome box state m request header bitset) ≡ firstKind Done (headerChecks m (box .roll) header ++ rest)
+    unfolding headerOutcome targetOf headerOf partsOf flagsJudged portOf headerChecks portChecks
+    header-first header =
         let p = partOf m 0 (header .end) in
         let slots = walked headerPolicy p (header .start) .slots in
         let index = getD slots 1 absent in
         let name = getD slots 2 absent in
-        let asked = getD slots 3 absent in
-        walk-step headed Done (walked headerPolicy p (header .start) .stop) (λ stop. onStop stop H.Refused (partsOf m (header .start - 4) index name asked)) _
+        let flags = getD slots 3 absent in
+        walk-step headed Done (walked headerPolicy p (header .start) .stop) (λ stop. onStop stop H.Refused (partsOf m (header .start - 4) index name flags)) _
         (λ fault at. refl)
         (step headed Done _ _ _ _ _ refl
         (step headed Done _ _ _ _ _ refl
-        (target-first header index name (slotNumber m asked) (index .present))))
+        (target-first header index name (slotNumber m flags) (index .present))))
       where
         headed : Header → Kind
         headed hd =
             kind
-            (onAim (onHeader hd (λ index name asked. withFlags (targetOf m header index name (box .roll)) asked)) state m request
-            (deed box state m request bitset))
+            (targetOutcome (onHeader hd (λ index name flags. withFlags (portOf m header index name (box .roll)) flags)) state m request
+            (portOutcome box state m request bitset))
 
   -- the top level
   level-first : (command : Command)
-      → kind (obeyed box state m (askedOf h next command))
-      ≡ first Done
+      → kind (requestOutcome box state m (requestOf h next command))
+      ≡ firstKind Done
       (levelChecks box m (command .change) (command .set)
       (getD (walked (topPolicy (command .change)) m 20 .slots) 1 absent)
       (getD (walked (topPolicy (command .change)) m 20 .slots) 2 absent))
-  unfolding obeyed topOf nestsOf levelChecks topChecks
+  unfolding requestOutcome topOf nestsOf levelChecks topChecks
   level-first command =
       let slots = walked (topPolicy (command .change)) m 20 .slots in
       let header = getD slots 1 absent in
       let bitset = getD slots 2 absent in
       walk-step topped Done (walked (topPolicy (command .change)) m 20 .stop) (λ stop. onStop stop T.Refused (nestsOf (command .change) header bitset)) _
       (λ fault at. refl)
-      (step topped Done _ _ _ _ _ refl (step topped Done _ _ _ _ _ refl (aimed-first command bitset header)))
+      (step topped Done _ _ _ _ _ refl (step topped Done _ _ _ _ _ refl (header-first command bitset header)))
     where
       topped : Top → Kind
-      topped top = kind (onTop top state m (askedOf h next command) (aimed box state m (askedOf h next command)))
+      topped top = kind (topOutcome top state m (requestOf h next command) (headerOutcome box state m (requestOf h next command)))
 
   -- skipped, and 5 to 9
   module _ (call : Call) where
@@ -185,18 +185,18 @@ module _ (box : Box) (state : State) (m : List ℕ) (h : MessageHeader) (next : 
 
     permitted-first : (command : Command)
         → admission (permitted h (eqb (call .admin) 1) command)
-        ≡ first Done
+        ≡ firstKind Done
         (refuseIf (eqb (h .flags / 256 % 4) 3) R.Dump
         ∷ refuseIf (command .change && not (eqb (call .admin) 1)) R.Permission
         ∷ levelChecks box m (command .change) (command .set)
         (getD (walked (topPolicy (command .change)) m 20 .slots) 1 absent)
         (getD (walked (topPolicy (command .change)) m 20 .slots) 2 absent))
-    unfolding permitted barred
+    unfolding permitted notPermitted
     permitted-first command = step admission Done _ _ _ _ _ refl (step admission Done _ _ _ _ _ refl (level-first command))
 
     command-first : (c : CommandRead)
         → admission (onCommand c (permitted h (eqb (call .admin) 1)))
-        ≡ first Done
+        ≡ firstKind Done
         (refuseIf (unlisted c) R.Command
         ∷ refuseIf (eqb (h .flags / 256 % 4) 3) R.Dump
         ∷ refuseIf (isSet c && not (eqb (call .admin) 1)) R.Permission
@@ -207,7 +207,7 @@ module _ (box : Box) (state : State) (m : List ℕ) (h : MessageHeader) (next : 
     command-first Unlisted = fault Done _ _
     command-first (Listed command) = pass Done _ _ _ (permitted-first command)
 
-    admitted-first : admission (admitted m h (call .family) (eqb (call .admin) 1)) ≡ first Done (commandChecks box call m h (commandOf (byteAt m 16)))
+    admitted-first : admission (admitted m h (call .family) (eqb (call .admin) 1)) ≡ firstKind Done (commandChecks box call m h (commandOf (byteAt m 16)))
     unfolding admitted commandChecks admissionChecks skipIf
     admitted-first =
         let skipped = ltb (h .kind) 16 || eqb (h .flags % 2) 0 in
@@ -218,6 +218,6 @@ module _ (box : Box) (state : State) (m : List ℕ) (h : MessageHeader) (next : 
         (step admission Done other R.Family (A.Refused R.Family) (cond short (A.Refused R.Short) rest) _ refl
         (step admission Done short R.Short (A.Refused R.Short) rest _ refl (command-first (commandOf (byteAt m 16)))))
 
-    pub message-first : kind (messageOutcome box state call m h next) ≡ first Done (messageChecks box call m h)
+    pub message-first : kind (messageOutcome box state call m h next) ≡ firstKind Done (messageChecks box call m h)
     unfolding messageOutcome messageChecks
     message-first = admitted-first

@@ -25,12 +25,12 @@ walks Whole = passes
 walks (At fault at) = refuses (ofFault fault at)
 
 -- the kind that the first check tells that does not pass, else the kind given
-unfoldable pub first : Kind → List Check → Kind
-first kind [] = kind
-first kind (passes ∷ checks) = first kind checks
-first kind (refuses why ∷ checks) = Refused why
-first kind (ends ∷ checks) = End
-first kind (skips ∷ checks) = Skipped
+unfoldable pub firstKind : Kind → List Check → Kind
+firstKind kind [] = kind
+firstKind kind (passes ∷ checks) = firstKind kind checks
+firstKind kind (refuses why ∷ checks) = Refused why
+firstKind kind (ends ∷ checks) = End
+firstKind kind (skips ∷ checks) = Skipped
 
 -- no check refuses, ends or skips
 pub data AllPass : List Check → Type 0 where

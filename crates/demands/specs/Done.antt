@@ -41,7 +41,7 @@ pub record DoneSet (box : Box) (state : State) (call : Call) (m : List ℕ) (h :
       ⊎ (placeIn box (named .port .position) (named .command .set) + widthIn box (named .command .set) ≤ k)
       → getD (o .state .words) k 0 ≡ getD (state .words) k 0
   pub right : boxRight box (o .state) call ≡ true
-  pub bytes : o .said .bytes ≡ ackBytes m h
+  pub bytes : o .response .bytes ≡ ackBytes m h
 
 -- the reply to a GET: the named set of the named port, compact with header flag 1
 abbrev pub replyTo : (box : Box) → State → (m : List ℕ) → MessageHeader → Named (box .roll) m → List ℕ
@@ -55,7 +55,7 @@ pub record DoneGet (box : Box) (state : State) (m : List ℕ) (h : MessageHeader
   pub named : Named (box .roll) m
   pub is-get : named .command .change ≡ false
   pub keeps : o .state ≡ state
-  pub bytes : o .said .bytes ≡ replyTo box state m h named ++ ackBytes m h
+  pub bytes : o .response .bytes ≡ replyTo box state m h named ++ ackBytes m h
   pub contents : ℕ
   pub parts : attributes (replyTo box state m h named) 20
       ≡ attribute 1 2 24 (contents - 4) (attribute 2 2 contents (length (replyTo box state m h named)) done)

@@ -7,7 +7,7 @@ use Rattle.netlink_attributes.specs.Attributes.{partOf}
 use Rattle.refusal.specs.Refusal.{numberOf}
 use Rattle.refusal.specs.declared.Refusal.{Refusal}
 use Rattle.bitset_form.specs.Bitset.{Bitset}
-use Rattle.normal.specs.Normal.{Outcome, normalForm, normalised}
+use Rattle.normal.specs.Normal.{NormalAnswer, normalForm, normalised}
 use Rattle.layout.specs.Layout.{listOf}
 use Rattle.boxes.specs.Box.{Box}
 use Rattle.response.specs.declared.Kind.{Kind}
@@ -19,14 +19,14 @@ abbrev pub namesFor : (box : Box) (m : List ℕ) → Named (box .roll) m → Lis
 namesFor box m n = listOf (box .names) (n .command .set)
 
 -- the normaliser's answer on the payload of the request's bitset, into a page of so many bytes
-abbrev pub normalOf : (box : Box) (m : List ℕ) → Named (box .roll) m → ℕ → Outcome
-normalOf box m n page = normalised (partOf m (n .bitset .start) (n .bitset .end)) (namesFor box m n) page
+abbrev pub normaliserAnswer : (box : Box) (m : List ℕ) → Named (box .roll) m → ℕ → NormalAnswer
+normaliserAnswer box m n page = normalised (partOf m (n .bitset .start) (n .bitset .end)) (namesFor box m n) page
 
 -- the handler's kind and the normaliser's answer: done, and 0 with the normal form of the bitset that is carried out; or refused, and the
 -- same number with nothing written
-pub data Alike (box : Box) (m : List ℕ) (n : Named (box .roll) m) (page : ℕ) (kind : Kind) : Type 0 where
+pub data AnsweredAlike (box : Box) (m : List ℕ) (n : Named (box .roll) m) (page : ℕ) (kind : Kind) : Type 0 where
   both-done : (b : Bitset) → kind ≡ Done → Carries box m n b
-      → normalOf box m n page ≡ record { number = 0; bytes = normalForm (count (namesFor box m n)) b }
-      → Alike box m n page kind
-  both-refused : (why : Refusal) → kind ≡ Refused why → normalOf box m n page ≡ record { number = numberOf why; bytes = [] }
-      → Alike box m n page kind
+      → normaliserAnswer box m n page ≡ record { number = 0; bytes = normalForm (count (namesFor box m n)) b }
+      → AnsweredAlike box m n page kind
+  both-refused : (why : Refusal) → kind ≡ Refused why → normaliserAnswer box m n page ≡ record { number = numberOf why; bytes = [] }
+      → AnsweredAlike box m n page kind

@@ -11,7 +11,7 @@ use Rattle.netlink.specs.Walk.{absent, walked, slotNumber}
 use Rattle.netlink_headers.specs.declared.headers.MessageHeader.{MessageHeader}
 use Rattle.netlink.specs.declared.walk.Slot.{Slot}
 use Rattle.refusal.specs.declared.Refusal.the-variants as R
-use Rattle.roll.specs.Find.{byIndex, byName}
+use Rattle.roll.specs.Find.{foundByIndex, foundByName}
 use Rattle.roll.specs.declared.find.Found.{Found}
 use Rattle.roll.specs.declared.find.Found.the-variants as F
 use Rattle.layout.specs.Layout.{listOf}
@@ -21,7 +21,7 @@ use Rattle.layout.specs.declared.Set.{Set}
 use Rattle.layout.specs.declared.Set.the-variants.{Debug}
 use Rattle.admission.specs.Commands.{commandOf}
 use Rattle.request.specs.Policies.{topPolicy, headerPolicy}
-use Rattle.request.specs.Target.{otherName}
+use Rattle.request.specs.Port.{otherName}
 use Rattle.admission.specs.declared.commands.Command.{Command}
 use Rattle.admission.specs.declared.commands.CommandRead.{CommandRead}
 use Rattle.admission.specs.declared.commands.CommandRead.the-variants.{Listed, Unlisted}
@@ -82,9 +82,9 @@ unfoldable pub portChecks : List ℕ → List ℕ → Slot → Slot → Slot →
 portChecks m roll header index name flags =
     refuseIf (not (index .present || name .present)) (R.NoPort (header .start - 4))
     ∷ refuseIf (ltb 3 (slotNumber m flags)) (R.HeaderFlag (flags .start - 4))
-    ∷ refuseIf (index .present && noPort (byIndex roll (slotNumber m index))) (R.UnknownPort (index .start - 4))
-    ∷ refuseIf (not (index .present) && noPort (byName roll (partOf m (name .start) (name .end)))) (R.UnknownPort (name .start - 4))
-    ∷ refuseIf (index .present && namedOtherwise m name roll (byIndex roll (slotNumber m index))) (R.OtherName (header .start - 4))
+    ∷ refuseIf (index .present && noPort (foundByIndex roll (slotNumber m index))) (R.UnknownPort (index .start - 4))
+    ∷ refuseIf (not (index .present) && noPort (foundByName roll (partOf m (name .start) (name .end)))) (R.UnknownPort (name .start - 4))
+    ∷ refuseIf (index .present && namedOtherwise m name roll (foundByIndex roll (slotNumber m index))) (R.OtherName (header .start - 4))
     ∷ []
 
 -- the header level: 10 to 12, then 14 to 17

@@ -5,15 +5,15 @@ use mathlib.Core.List.{List}
 use mathlib.Core.Bool.{Bool, false, _||_}
 use Rattle.boxes.specs.Box.{Box, State}
 use Rattle.boxes.specs.declared.Call.{Call}
-use Rattle.handler.specs.Call.{outcome, isOver}
+use Rattle.handler.specs.Call.{outcome, endsRun}
 
 -- the same call at another position
-abbrev pub from : Call → ℕ → Call
-from call position = record { family = call .family; admin = call .admin; position = position }
+abbrev pub atPosition : Call → ℕ → Call
+atPosition call position = record { family = call .family; admin = call .admin; position = position }
 
 -- a run of at most so many calls comes to the end or to a refusal by 1 to 4
 unfoldable pub endsWithin : ℕ → Box → State → Call → List ℕ → ℕ → Bool
 endsWithin zero box state call datagram room = false
 endsWithin (suc calls) box state call datagram room =
-    isOver (outcome box state call datagram room .said .kind)
-    || endsWithin calls box (outcome box state call datagram room .state) (from call (outcome box state call datagram room .said .next)) datagram room
+    endsRun (outcome box state call datagram room .response .kind)
+    || endsWithin calls box (outcome box state call datagram room .state) (atPosition call (outcome box state call datagram room .response .next)) datagram room

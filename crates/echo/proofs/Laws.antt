@@ -32,22 +32,22 @@ use Rattle.netlink_write.specs.Attributes.{numbered}
 use Rattle.netlink_error.specs.Error.{errorMessage}
 use Rattle.netlink_error.specs.declared.Detail.{Detail}
 use Rattle.netlink_error.specs.declared.Detail.the-variants.{Nothing, Offset, MissTop, MissIn}
-use Rattle.echo.specs.Echo.{policy, onStop, numberReading, nestReading, topReading, onGeneric, requestReading, reply, answerBytes, answered}
-use Rattle.echo.specs.declared.Asked.{Asked}
-use Rattle.echo.specs.declared.Asked.the-variants.{Number, Refused}
+use Rattle.echo.specs.Echo.{policy, refusedAtStop, numberReading, nestReading, topReading, onGeneric, requestReading, numberReply, answerBytes, answerWritten}
+use Rattle.echo.specs.declared.RequestRead.{RequestRead}
+use Rattle.echo.specs.declared.RequestRead.the-variants.{Number, Refused}
 
 module _ (request : List ℕ) (nest : Slot) (c : List ℕ) (ec : c ≡ partOf request 0 (nest .end)) (p : List Rule) (ep : p ≡ policy R.Number)
     (w : Walked) (ew : w ≡ walked p c (nest .start)) where
-  in-nest : nestReading request nest ≡ onStop (w .stop) (numberReading c (nest .start - 4) (getD (w .slots) 1 absent))
+  in-nest : nestReading request nest ≡ refusedAtStop (w .stop) (numberReading c (nest .start - 4) (getD (w .slots) 1 absent))
   unfolding nestReading
-  in-nest = rw (← ec) (sym (ap (λ (x : Walked). onStop (x .stop) (numberReading c (nest .start - 4) (getD (x .slots) 1 absent))) (ew ∙ ap (λ (x : List Rule). walked x c (nest .start)) ep)))
+  in-nest = rw (← ec) (sym (ap (λ (x : Walked). refusedAtStop (x .stop) (numberReading c (nest .start - 4) (getD (x .slots) 1 absent))) (ew ∙ ap (λ (x : List Rule). walked x c (nest .start)) ep)))
 
   pub nest-fault : (f : Fault) (at : ℕ) → w .stop ≡ At f at → Refused 22 (Offset at) ≡ nestReading request nest
-  nest-fault f at q = sym (in-nest ∙ ap (λ (x : Stop). onStop x (numberReading c (nest .start - 4) (getD (w .slots) 1 absent))) q)
+  nest-fault f at q = sym (in-nest ∙ ap (λ (x : Stop). refusedAtStop x (numberReading c (nest .start - 4) (getD (w .slots) 1 absent))) q)
 
   module _ (q : w .stop ≡ Whole) where
     whole-nest : nestReading request nest ≡ numberReading c (nest .start - 4) (getD (w .slots) 1 absent)
-    whole-nest = in-nest ∙ ap (λ (x : Stop). onStop x (numberReading c (nest .start - 4) (getD (w .slots) 1 absent))) q
+    whole-nest = in-nest ∙ ap (λ (x : Stop). refusedAtStop x (numberReading c (nest .start - 4) (getD (w .slots) 1 absent))) q
 
     pub nest-missing : (at : ℕ) → at ≡ nest .start - 4 → not (getD (w .slots) 1 absent .present) ≡ true → Refused 22 (MissIn 1 at) ≡ nestReading request nest
     unfolding numberReading
@@ -68,24 +68,24 @@ module _ (request : List ℕ) (g : GenericHeaderRead) (eg : g ≡ genericHeaderA
     request-command n = sym (ap (onGeneric request) (sym eg ∙ q) ∙ rw (ne-eqb (h .command) 1 n))
 
     module _ (one : h .command ≡ 1) (p : List Rule) (ep : p ≡ policy R.Nest) (w : Walked) (ew : w ≡ walked p request 20) where
-      top : requestReading request ≡ onStop (w .stop) (topReading request (getD (w .slots) 1 absent))
+      top : requestReading request ≡ refusedAtStop (w .stop) (topReading request (getD (w .slots) 1 absent))
       unfolding requestReading onGeneric
       top =
           ap (onGeneric request) (sym eg ∙ q) ∙ rw (eq-eqb (h .command) 1 one)
-          (sym (ap (λ (x : Walked). onStop (x .stop) (topReading request (getD (x .slots) 1 absent))) (ew ∙ ap (λ (x : List Rule). walked x request 20) ep)))
+          (sym (ap (λ (x : Walked). refusedAtStop (x .stop) (topReading request (getD (x .slots) 1 absent))) (ew ∙ ap (λ (x : List Rule). walked x request 20) ep)))
 
       pub request-fault : (f : Fault) (at : ℕ) → w .stop ≡ At f at → Refused 22 (Offset at) ≡ requestReading request
-      request-fault f at z = sym (top ∙ ap (λ (x : Stop). onStop x (topReading request (getD (w .slots) 1 absent))) z)
+      request-fault f at z = sym (top ∙ ap (λ (x : Stop). refusedAtStop x (topReading request (getD (w .slots) 1 absent))) z)
 
       module _ (z : w .stop ≡ Whole) where
         whole-top : requestReading request ≡ topReading request (getD (w .slots) 1 absent)
-        whole-top = top ∙ ap (λ (x : Stop). onStop x (topReading request (getD (w .slots) 1 absent))) z
+        whole-top = top ∙ ap (λ (x : Stop). refusedAtStop x (topReading request (getD (w .slots) 1 absent))) z
 
         pub request-missing : not (getD (w .slots) 1 absent .present) ≡ true → Refused 22 (MissTop 1) ≡ requestReading request
         unfolding topReading
         request-missing m = sym (whole-top ∙ rw m)
 
-        pub request-nest : (r : Asked) → not (getD (w .slots) 1 absent .present) ≡ false → r ≡ nestReading request (getD (w .slots) 1 absent)
+        pub request-nest : (r : RequestRead) → not (getD (w .slots) 1 absent .present) ≡ false → r ≡ nestReading request (getD (w .slots) 1 absent)
             → r ≡ requestReading request
         unfolding topReading
         request-nest r m e = e ∙ sym (whole-top ∙ rw m)
@@ -97,8 +97,8 @@ pub reply-wrote : (P : List ℕ) (h : MessageHeader) (x n : ℕ) (A B C : List �
     → A ≡ put P (messageHeaderBytes (record { length = 32; kind = h .kind; flags = 0; sequence = h .sequence; port = h .port }))
     → B ≡ put (take (length A - 16) (drop 16 A)) (genericHeaderBytes (record { command = 1; version = 1; reserved = 0 }))
     → Wrote (numbered 1 x []) (take (length (putMid 16 (length A - 16) A B) - 20) (drop 20 (putMid 16 (length A - 16) A B))) C n
-    → Wrote (reply h x) P (putMid 20 (length (putMid 16 (length A - 16) A B) - 20) (putMid 16 (length A - 16) A B) C) (n + 20)
-unfolding reply messageHeaderBytes genericHeaderBytes
+    → Wrote (numberReply h x) P (putMid 20 (length (putMid 16 (length A - 16) A B) - 20) (putMid 16 (length A - 16) A B) C) (n + 20)
+unfolding numberReply messageHeaderBytes genericHeaderBytes
 reply-wrote P h x n A B C room a b w =
     let head = messageHeaderBytes (record { length = 32; kind = h .kind; flags = 0; sequence = h .sequence; port = h .port }) in
     let generic = genericHeaderBytes (record { command = 1; version = 1; reserved = 0 }) in
@@ -109,23 +109,23 @@ reply-wrote P h x n A B C room a b w =
     }
 
 module _ (request before : List ℕ) where
-  pub answered-room : length before < 52 → Wrote (answered request (length before)) before before 0
-  unfolding answered
+  pub answered-room : length before < 52 → Wrote (answerWritten request (length before)) before before 0
+  unfolding answerWritten
   answered-room h = rw (lt-ltb _ _ h) (record { count = refl; page = sym (put-nil before) })
 
   module _ (h : 52 ≤ length before) (m : MessageHeaderRead) (em : m ≡ messageHeaderAt request 0) where
-    pub answered-short : m ≡ M.Short → Wrote (answered request (length before)) before before 0
-    unfolding answered
+    pub answered-short : m ≡ M.Short → Wrote (answerWritten request (length before)) before before 0
+    unfolding answerWritten
     answered-short q = rw (le-ltb _ _ h, ← em, q) (record { count = refl; page = sym (put-nil before) })
 
-    module _ (d : MessageHeader) (q : m ≡ M.Header d) (a : Asked) (ea : a ≡ requestReading request) (after : List ℕ) (r : ℕ) where
-      pub answered-number : (x : ℕ) → a ≡ Number x → Wrote (reply d x) before after r → Wrote (answered request (length before)) before after r
-      unfolding answered answerBytes
+    module _ (d : MessageHeader) (q : m ≡ M.Header d) (a : RequestRead) (ea : a ≡ requestReading request) (after : List ℕ) (r : ℕ) where
+      pub answered-number : (x : ℕ) → a ≡ Number x → Wrote (numberReply d x) before after r → Wrote (answerWritten request (length before)) before after r
+      unfolding answerWritten answerBytes
       answered-number x z w = rw (le-ltb _ _ h, ← em, q, ← ea, z) w
 
       pub answered-refused : (errno : ℕ) (e : Detail) → a ≡ Refused errno e → Wrote (errorMessage request errno e) before after r
-          → Wrote (answered request (length before)) before after r
-      unfolding answered answerBytes
+          → Wrote (answerWritten request (length before)) before after r
+      unfolding answerWritten answerBytes
       answered-refused errno e z w = rw (le-ltb _ _ h, ← em, q, ← ea, z) w
 
     pub answered-fits : (d : MessageHeader) → m ≡ M.Header d → 16 ≤ length request

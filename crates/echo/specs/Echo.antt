@@ -21,59 +21,59 @@ use Rattle.netlink_write.specs.Headers.{messageHeaderBytes, genericHeaderBytes}
 use Rattle.netlink_write.specs.Attributes.{numbered}
 use Rattle.netlink_error.specs.Error.{errorMessage}
 use Rattle.netlink_error.specs.declared.Detail.the-variants.{Nothing, Offset, MissTop, MissIn}
-use Rattle.echo.specs.declared.Asked.{Asked}
-use Rattle.echo.specs.declared.Asked.the-variants.{Number, Refused}
+use Rattle.echo.specs.declared.RequestRead.{RequestRead}
+use Rattle.echo.specs.declared.RequestRead.the-variants.{Number, Refused}
 
 -- type 1 alone, by this rule
 abbrev pub policy : Rule → List Rule
 policy first = R.Unlisted ∷ first ∷ R.Unlisted ∷ R.Unlisted ∷ R.Unlisted ∷ R.Unlisted ∷ R.Unlisted ∷ R.Unlisted ∷ []
 
 -- a walk that stops: errno 22 and the place of the attribute
-abbrev pub onStop : Stop → Asked → Asked
-onStop Whole rest = rest
-onStop (At fault at) rest = Refused 22 (Offset at)
+abbrev pub refusedAtStop : Stop → RequestRead → RequestRead
+refusedAtStop Whole rest = rest
+refusedAtStop (At fault at) rest = Refused 22 (Offset at)
 
 -- the header nest is walked in the request cut at the nest's end; its number is required
-unfoldable pub numberReading : List ℕ → ℕ → Slot → Asked
+unfoldable pub numberReading : List ℕ → ℕ → Slot → RequestRead
 numberReading contents at number = cond (not (number .present)) (Refused 22 (MissIn 1 at)) (Number (slotNumber contents number))
 
-unfoldable pub nestReading : List ℕ → Slot → Asked
+unfoldable pub nestReading : List ℕ → Slot → RequestRead
 nestReading request nest =
-    onStop (walked (policy R.Number) (partOf request 0 (nest .end)) (nest .start) .stop)
+    refusedAtStop (walked (policy R.Number) (partOf request 0 (nest .end)) (nest .start) .stop)
     (numberReading (partOf request 0 (nest .end)) (nest .start - 4)
     (getD (walked (policy R.Number) (partOf request 0 (nest .end)) (nest .start) .slots) 1 absent))
 
 -- the top level is walked whole; the header nest is required
-unfoldable pub topReading : List ℕ → Slot → Asked
+unfoldable pub topReading : List ℕ → Slot → RequestRead
 topReading request nest = cond (not (nest .present)) (Refused 22 (MissTop 1)) (nestReading request nest)
 
-unfoldable pub onGeneric : List ℕ → GenericHeaderRead → Asked
+unfoldable pub onGeneric : List ℕ → GenericHeaderRead → RequestRead
 onGeneric request G.Short = Refused 22 Nothing
 onGeneric request (G.Header h) =
     cond (eqb (h .command) 1)
-    (onStop (walked (policy R.Nest) request 20 .stop) (topReading request (getD (walked (policy R.Nest) request 20 .slots) 1 absent)))
+    (refusedAtStop (walked (policy R.Nest) request 20 .stop) (topReading request (getD (walked (policy R.Nest) request 20 .slots) 1 absent)))
     (Refused 95 Nothing)
 
-unfoldable pub requestReading : List ℕ → Asked
+unfoldable pub requestReading : List ℕ → RequestRead
 requestReading request = onGeneric request (genericHeaderAt request 16)
 
 -- 32 bytes: header, generic header, a nest with the number
-unfoldable pub reply : MessageHeader → ℕ → List ℕ
-reply h number =
+unfoldable pub numberReply : MessageHeader → ℕ → List ℕ
+numberReply h number =
     messageHeaderBytes (record { length = 32; kind = h .kind; flags = 0; sequence = h .sequence; port = h .port })
     ++ (genericHeaderBytes (record { command = 1; version = 1; reserved = 0 }) ++ numbered 1 number [])
 
-abbrev pub onAsked : Asked → List ℕ → MessageHeader → List ℕ
-onAsked (Number number) request h = reply h number
-onAsked (Refused errno detail) request h = errorMessage request errno detail
+abbrev pub readAnswer : RequestRead → List ℕ → MessageHeader → List ℕ
+readAnswer (Number number) request h = numberReply h number
+readAnswer (Refused errno detail) request h = errorMessage request errno detail
 
 unfoldable pub answerBytes : List ℕ → MessageHeader → List ℕ
-answerBytes request h = onAsked (requestReading request) request h
+answerBytes request h = readAnswer (requestReading request) request h
 
-abbrev pub onHeader : MessageHeaderRead → List ℕ → List ℕ
-onHeader M.Short request = []
-onHeader (M.Header h) request = answerBytes request h
+abbrev pub headerAnswer : MessageHeaderRead → List ℕ → List ℕ
+headerAnswer M.Short request = []
+headerAnswer (M.Header h) request = answerBytes request h
 
 -- what is written: nothing where the page has no room for any answer, or where not even a message header is there
-unfoldable pub answered : List ℕ → ℕ → List ℕ
-answered request room = cond (ltb room 52) [] (onHeader (messageHeaderAt request 0) request)
+unfoldable pub answerWritten : List ℕ → ℕ → List ℕ
+answerWritten request room = cond (ltb room 52) [] (headerAnswer (messageHeaderAt request 0) request)

@@ -3,7 +3,7 @@ ghost use mathlib.Core.Path.{_≡_};
 ghost use Prim.Native.Nat.{_≤_};
 ghost use lib.ListN.{length};
 ghost use Rattle.page.specs.Page.{Wrote};
-ghost use Rattle.echo.specs.Echo.{policy, nestReading, requestReading, reply, answered};
+ghost use Rattle.echo.specs.Echo.{policy, nestReading, requestReading, numberReply, answerWritten};
 use netlink::policy::Rule;
 use netlink::walk::Slot;
 use netlink::walk::Stop;
@@ -22,7 +22,7 @@ use netlink_write::headers::put_generic_header;
 use netlink_write::headers::put_message_header;
 
 // What a request asks: the number, or why it is refused.
-pub enum Asked {
+pub enum RequestRead {
     Number(u32),
     Refused(u32, Detail),
 }
@@ -36,47 +36,47 @@ fn policy(first: Rule) -> [Rule; 8]
 }
 
 // Reads the header nest. A place in it counts from the request's start, since the nest is walked in the request cut at its end.
-fn read_nest(request: &[u8], nest: Slot) -> Asked
+fn read_nest(request: &[u8], nest: Slot) -> RequestRead
     ensures { λ r. ⌜ r ≡ nestReading (now (request .entry)) nest ⌝ }
 {
     let contents = payload(request, 0, nest.end);
     let walked = walk(policy(Rule::Number), contents, nest.start);
     let stop = walked.stop;
     if let Stop::At { fault: _, at } = stop {
-        return Asked::Refused(22, Detail::Offset(at));
+        return RequestRead::Refused(22, Detail::Offset(at));
     }
     let number = walked.slots[1];
     if !number.present {
-        return Asked::Refused(22, Detail::MissIn(1, place(nest.start)));
+        return RequestRead::Refused(22, Detail::MissIn(1, place(nest.start)));
     }
-    Asked::Number(slot_number(contents, number))
+    RequestRead::Number(slot_number(contents, number))
 }
 
-fn read_request(request: &[u8]) -> Asked
+fn read_request(request: &[u8]) -> RequestRead
     ensures { λ r. ⌜ r ≡ requestReading (now (request .entry)) ⌝ }
 {
     let GenericHeaderRead::Header(generic) = GenericHeader::read(request, 16) else {
-        return Asked::Refused(22, Detail::Nothing);
+        return RequestRead::Refused(22, Detail::Nothing);
     };
     if generic.command != 1 {
-        return Asked::Refused(95, Detail::Nothing);
+        return RequestRead::Refused(95, Detail::Nothing);
     }
     let walked = walk(policy(Rule::Nest), request, 20);
     let stop = walked.stop;
     if let Stop::At { fault: _, at } = stop {
-        return Asked::Refused(22, Detail::Offset(at));
+        return RequestRead::Refused(22, Detail::Offset(at));
     }
     let nest = walked.slots[1];
     if !nest.present {
-        return Asked::Refused(22, Detail::MissTop(1));
+        return RequestRead::Refused(22, Detail::MissTop(1));
     }
     read_nest(request, nest)
 }
 
 // The reply: 32 bytes.
-fn put_reply(page: &mut [u8], h: MessageHeader, number: u32) -> usize
+fn put_number_reply(page: &mut [u8], h: MessageHeader, number: u32) -> usize
     requires { ⌜ 52 ≤ length (now page) ⌝ }
-    ensures { λ r. ⌜ Wrote (reply h number) (now (page .entry)) (now (page .exit)) r ⌝ }
+    ensures { λ r. ⌜ Wrote (numberReply h number) (now (page .entry)) (now (page .exit)) r ⌝ }
 {
     put_message_header(
         page,
@@ -101,7 +101,7 @@ fn put_reply(page: &mut [u8], h: MessageHeader, number: u32) -> usize
 
 // Answers a request, one message of a datagram. With fewer than 16 bytes of it, or a page below 52, nothing is written.
 pub fn answer(request: &[u8], page: &mut [u8]) -> usize
-    ensures { λ r. ⌜ Wrote (answered (now (request .entry)) (length (now (page .entry)))) (now (page .entry)) (now (page .exit)) r ⌝ }
+    ensures { λ r. ⌜ Wrote (answerWritten (now (request .entry)) (length (now (page .entry)))) (now (page .entry)) (now (page .exit)) r ⌝ }
 {
     if page.len() < 52 {
         return 0;
@@ -110,7 +110,7 @@ pub fn answer(request: &[u8], page: &mut [u8]) -> usize
         return 0;
     };
     match read_request(request) {
-        Asked::Number(number) => put_reply(page, header, number),
-        Asked::Refused(errno, detail) => put_error(page, request, errno, detail),
+        RequestRead::Number(number) => put_number_reply(page, header, number),
+        RequestRead::Refused(errno, detail) => put_error(page, request, errno, detail),
     }
 }

@@ -15,8 +15,8 @@ use Rattle.basics.specs.Scan.{all}
 use Rattle.basics.proofs.Order.{lt-or-ge}
 use Rattle.basics.proofs.Scan.{all-none, all-more, all-fails, all-done, all-of}
 use Rattle.basics.proofs.Truth.{false-of}
-use Rattle.entries.specs.Entry.{count, entryAt, same, differs, entryNew, distinct}
-use Rattle.entries.specs.Chain.{folded, spread, hashOf, lastOf, HeadRight, NextRight, Indexed}
+use Rattle.entries.specs.Entry.{count, entryAt, sameEntry, differs, entryNew, entriesDistinct}
+use Rattle.entries.specs.Chain.{folded, spread, hashOf, lastOfHash, HeadRight, LinksRight, Indexed}
 use Rattle.entries.proofs.Entries.{entry-length, entry-first, entry-eight, same-bytes, same-eight, same-equal}
 
 -- the hash as the code computes it
@@ -49,7 +49,7 @@ module _ (list : List ℕ) (i : ℕ) (h : i < count list) where
       ex er
 
 -- the same names have the same hash
-pub hash-same : (a b : List ℕ) → same a b ≡ true → hashOf a ≡ hashOf b
+pub hash-same : (a b : List ℕ) → sameEntry a b ≡ true → hashOf a ≡ hashOf b
 unfolding hashOf
 hash-same a b s =
     ap₂ (λ (t : Bool) (x : ℕ). cond t 1024 (spread x)) (ap (λ (x : ℕ). eqb x 0) (same-bytes a b 0 s (omega arith)))
@@ -64,13 +64,13 @@ differ-hash : (list : List ℕ) (i k : ℕ) → i < count list → k < count lis
 unfolding differs
 differ-hash list i k hi hk n =
     rw
-    (false-of (same (entryAt list i) (entryAt list k))
+    (false-of (sameEntry (entryAt list i) (entryAt list k))
     (λ e. n (ap hashOf (sym (same-equal (entryAt list i) (entryAt list k) (entry-length list i hi) (entry-length list k hk) e)))))
 
 module _ (list : List ℕ) (h : ℕ) where
   -- none of the hash from the last one to the bound
-  pub last-none : (i k : ℕ) → lastOf list h i ≤ k → k < i → hashOf (entryAt list k) ≡ h → ⊥
-  unfolding lastOf
+  pub last-none : (i k : ℕ) → lastOfHash list h i ≤ k → k < i → hashOf (entryAt list k) ≡ h → ⊥
+  unfolding lastOfHash
   last-none zero k l u e = omega arith
   last-none (suc i) k l u e =
       ⊎-elim (λ (q : k < i). last-none i k (below (eqb (hashOf (entryAt list i)) h) l) q e) (λ (q : i ≤ k). here q) (lt-or-ge k i)
@@ -81,46 +81,46 @@ module _ (list : List ℕ) (h : ℕ) where
           let l2 : suc i ≤ k = rw (eq-eqb (hashOf (entryAt list i)) h (ap (λ (x : ℕ). hashOf (entryAt list x)) ki ∙ e)) at l in
           omega arith
 
-      below : (b : Bool) → cond b (suc i) (lastOf list h i) ≤ k → lastOf list h i ≤ k
+      below : (b : Bool) → cond b (suc i) (lastOfHash list h i) ≤ k → lastOfHash list h i ≤ k
       below true m = absurd (omega arith)
       below false m = m
 
-  pub last-le : (i : ℕ) → lastOf list h i ≤ i
-  unfolding lastOf
+  pub last-le : (i : ℕ) → lastOfHash list h i ≤ i
+  unfolding lastOfHash
   last-le zero = omega arith
   last-le (suc i) = go (eqb (hashOf (entryAt list i)) h) (last-le i)
     where
-      go : (b : Bool) → lastOf list h i ≤ i → cond b (suc i) (lastOf list h i) ≤ suc i
+      go : (b : Bool) → lastOfHash list h i ≤ i → cond b (suc i) (lastOfHash list h i) ≤ suc i
       go true q = omega arith
       go false q = omega arith
 
   -- the last one is its own last one, and has the hash
-  pub last-fix : (i : ℕ) → lastOf list h (lastOf list h i) ≡ lastOf list h i
-  unfolding lastOf
+  pub last-fix : (i : ℕ) → lastOfHash list h (lastOfHash list h i) ≡ lastOfHash list h i
+  unfolding lastOfHash
   last-fix zero = refl
   last-fix (suc i) = go (eqb (hashOf (entryAt list i)) h) refl (last-fix i)
     where
-      go : (b : Bool) → eqb (hashOf (entryAt list i)) h ≡ b → lastOf list h (lastOf list h i) ≡ lastOf list h i
-          → lastOf list h (cond b (suc i) (lastOf list h i)) ≡ cond b (suc i) (lastOf list h i)
+      go : (b : Bool) → eqb (hashOf (entryAt list i)) h ≡ b → lastOfHash list h (lastOfHash list h i) ≡ lastOfHash list h i
+          → lastOfHash list h (cond b (suc i) (lastOfHash list h i)) ≡ cond b (suc i) (lastOfHash list h i)
       go true e q = rw e
       go false e q = q
 
-  pub last-hash : (j : ℕ) → lastOf list h (suc j) ≡ suc j → hashOf (entryAt list j) ≡ h
-  unfolding lastOf
+  pub last-hash : (j : ℕ) → lastOfHash list h (suc j) ≡ suc j → hashOf (entryAt list j) ≡ h
+  unfolding lastOfHash
   last-hash j e = go (eqb (hashOf (entryAt list j)) h) refl e
     where
-      go : (b : Bool) → eqb (hashOf (entryAt list j)) h ≡ b → cond b (suc j) (lastOf list h j) ≡ suc j → hashOf (entryAt list j) ≡ h
+      go : (b : Bool) → eqb (hashOf (entryAt list j)) h ≡ b → cond b (suc j) (lastOfHash list h j) ≡ suc j → hashOf (entryAt list j) ≡ h
       go true q r = eqb-true _ _ q
       go false q r = absurd (let l = last-le j in omega arith)
 
 -- the walk along entry i's chain stands at p: every entry from p on differs
 pub record Walk (list : List ℕ) (i p : ℕ) : Type 0 where
   pub inside : p ≤ i
-  pub own : lastOf list (hashOf (entryAt list i)) p ≡ p
+  pub own : lastOfHash list (hashOf (entryAt list i)) p ≡ p
   pub differ : (k : ℕ) → p ≤ k → k < i → differs list i k ≡ true
 
 module _ (list : List ℕ) (i : ℕ) (hi : i < count list) where
-  pub walk-start : (p : ℕ) → p ≡ lastOf list (hashOf (entryAt list i)) i → Walk list i p
+  pub walk-start : (p : ℕ) → p ≡ lastOfHash list (hashOf (entryAt list i)) i → Walk list i p
   walk-start p e = record {
     inside = omega (arith, last-le list (hashOf (entryAt list i)) i);
     own = rw e (last-fix list (hashOf (entryAt list i)) i);
@@ -130,11 +130,11 @@ module _ (list : List ℕ) (i : ℕ) (hi : i < count list) where
   pub walk-end : (p : ℕ) → Walk list i p → p ≡ 0 → true ≡ all i (differs list i)
   walk-end p w e = sym (all-of (differs list i) i (λ k l. w .differ k (omega arith) l))
 
-  pub walk-same : (j : ℕ) (b : Bool) → j < i → b ≡ same (entryAt list i) (entryAt list j) → b ≡ true → false ≡ all i (differs list i)
+  pub walk-same : (j : ℕ) (b : Bool) → j < i → b ≡ sameEntry (entryAt list i) (entryAt list j) → b ≡ true → false ≡ all i (differs list i)
   unfolding differs
   walk-same j b l e q = sym (all-fails (differs list i) i j l (rw (← e, q)))
 
-  module _ (p j q : ℕ) (next : List ℕ) (w : Walk list i p) (np : p ≡ 0 → ⊥) (ej : j ≡ p - 1) (eq : q ≡ getD next j 0) (nr : NextRight list next i) where
+  module _ (p j q : ℕ) (links : List ℕ) (w : Walk list i p) (np : p ≡ 0 → ⊥) (ej : j ≡ p - 1) (eq : q ≡ getD links j 0) (nr : LinksRight list links i) where
     suc-j : p ≡ suc j
     suc-j = positive p np ej
       where
@@ -142,24 +142,24 @@ module _ (list : List ℕ) (i : ℕ) (hi : i < count list) where
         positive zero n e = absurd (n refl)
         positive (suc p) n e = omega arith
 
-    next-is : q ≡ lastOf list (hashOf (entryAt list i)) j
-    next-is =
+    link-is : q ≡ lastOfHash list (hashOf (entryAt list i)) j
+    link-is =
         eq ∙ nr j (let s = suc-j in let l = w .inside in omega arith)
-        ∙ ap (λ (x : ℕ). lastOf list x j) (last-hash list (hashOf (entryAt list i)) j (rw suc-j at w .own))
+        ∙ ap (λ (x : ℕ). lastOfHash list x j) (last-hash list (hashOf (entryAt list i)) j (rw suc-j at w .own))
 
     pub walk-less : q < p
-    walk-less = let s = suc-j in let n = next-is in let l = last-le list (hashOf (entryAt list i)) j in omega arith
+    walk-less = let s = suc-j in let n = link-is in let l = last-le list (hashOf (entryAt list i)) j in omega arith
 
-    pub walk-next : (b : Bool) → b ≡ same (entryAt list i) (entryAt list j) → b ≡ false → Walk list i q
+    pub walk-next : (b : Bool) → b ≡ sameEntry (entryAt list i) (entryAt list j) → b ≡ false → Walk list i q
     unfolding differs
     walk-next b e f = record {
       inside = let l = walk-less in let m = w .inside in omega arith;
-      own = rw next-is (last-fix list (hashOf (entryAt list i)) j);
+      own = rw link-is (last-fix list (hashOf (entryAt list i)) j);
       differ = λ k l u. ⊎-elim (λ (h : k < j). low k l u h) (λ (h : j ≤ k). high k u h) (lt-or-ge k j);
     }
       where
         low : (k : ℕ) → q ≤ k → k < i → k < j → differs list i k ≡ true
-        low k l u h = differ-hash list i k hi (omega arith) (last-none list (hashOf (entryAt list i)) j k (let n = next-is in omega arith) h)
+        low k l u h = differ-hash list i k hi (omega arith) (last-none list (hashOf (entryAt list i)) j k (let n = link-is in omega arith) h)
 
         high : (k : ℕ) → k < i → j ≤ k → differs list i k ≡ true
         high k u h =
@@ -170,75 +170,75 @@ module _ (list : List ℕ) (i : ℕ) (hi : i < count list) where
 
 -- one entry more in each table
 module _ (list : List ℕ) (i h start : ℕ) (eh : h ≡ hashOf (entryAt list i)) where
-  next-more : (next : List ℕ) → NextRight list next i → i < length next → start ≡ lastOf list h i → NextRight list (set next i start) (i + 1)
-  next-more next nr l es j u =
+  links-more : (links : List ℕ) → LinksRight list links i → i < length links → start ≡ lastOfHash list h i → LinksRight list (set links i start) (i + 1)
+  links-more links nr l es j u =
       ⊎-elim
-      (λ (q : j < i). getD-set-other next i j start 0 (λ (e : j ≡ i). omega arith) ∙ nr j q)
+      (λ (q : j < i). getD-set-other links i j start 0 (λ (e : j ≡ i). omega arith) ∙ nr j q)
       (λ (q : i ≤ j). here (omega arith))
       (lt-or-ge j i)
     where
-      here : j ≡ i → getD (set next i start) j 0 ≡ lastOf list (hashOf (entryAt list j)) j
-      here e = rw e (getD-set-same next i start 0 l ∙ es ∙ ap (λ (x : ℕ). lastOf list x i) eh)
+      here : j ≡ i → getD (set links i start) j 0 ≡ lastOfHash list (hashOf (entryAt list j)) j
+      here e = rw e (getD-set-same links i start 0 l ∙ es ∙ ap (λ (x : ℕ). lastOfHash list x i) eh)
 
   head-more : (head : List ℕ) → HeadRight list head i → length head ≡ 1025 → HeadRight list (set head h (i + 1)) (i + 1)
-  unfolding lastOf
+  unfolding lastOfHash
   head-more head hr l x u = rw (add-one i) (go (eqb (hashOf (entryAt list i)) x) refl)
     where
-      go : (b : Bool) → eqb (hashOf (entryAt list i)) x ≡ b → getD (set head h (suc i)) x 0 ≡ cond b (suc i) (lastOf list x i)
+      go : (b : Bool) → eqb (hashOf (entryAt list i)) x ≡ b → getD (set head h (suc i)) x 0 ≡ cond b (suc i) (lastOfHash list x i)
       go true e = let hx : x ≡ h = sym (eqb-true _ _ e) ∙ sym eh in rw hx (getD-set-same head h (suc i) 0 (omega arith))
       go false e = getD-set-other head h x (suc i) 0 (λ (q : x ≡ h). eqb-false _ _ e (sym (q ∙ eh))) ∙ hr x u
 
 pub head-zero : (list : List ℕ) → HeadRight list (replicate 1025 0) 0
-unfolding lastOf
+unfolding lastOfHash
 head-zero list h l = getD-replicate 1025 h 0 0 l
 
 -- the tables hold the chains of the entries below i, all of which are new
-pub record Linked (list head next : List ℕ) (i : ℕ) : Type 0 where
+pub record Linked (list head links : List ℕ) (i : ℕ) : Type 0 where
   pub heads : HeadRight list head i
-  pub nexts : NextRight list next i
+  pub linked : LinksRight list links i
   pub new : all i (entryNew list) ≡ true
   pub head-length : length head ≡ 1025
-  pub next-length : length next ≡ 512
+  pub links-length : length links ≡ 512
 
-pub linked-start : (list head next : List ℕ) → HeadRight list head 0 → length head ≡ 1025 → length next ≡ 512 → Linked list head next 0
-linked-start list head next h l k = record {
+pub linked-start : (list head links : List ℕ) → HeadRight list head 0 → length head ≡ 1025 → length links ≡ 512 → Linked list head links 0
+linked-start list head links h l k = record {
   heads = h;
-  nexts = λ j u. absurd (omega arith);
+  linked = λ j u. absurd (omega arith);
   new = all-none (entryNew list);
   head-length = l;
-  next-length = k;
+  links-length = k;
 }
 
 -- where the chain of entry i starts
-pub linked-place : (list head next : List ℕ) (i h : ℕ) → Linked list head next i → h ≡ hashOf (entryAt list i) → h < 1025
-    → getD head h 0 ≡ lastOf list (hashOf (entryAt list i)) i
-linked-place list head next i h l e u = l .heads h u ∙ ap (λ (x : ℕ). lastOf list x i) e
+pub linked-place : (list head links : List ℕ) (i h : ℕ) → Linked list head links i → h ≡ hashOf (entryAt list i) → h < 1025
+    → getD head h 0 ≡ lastOfHash list (hashOf (entryAt list i)) i
+linked-place list head links i h l e u = l .heads h u ∙ ap (λ (x : ℕ). lastOfHash list x i) e
 
-pub linked-more : (list head next : List ℕ) (i h : ℕ) (b : Bool) → Linked list head next i → i < 512 → h ≡ hashOf (entryAt list i) → h < 1025
-    → b ≡ entryNew list i → not b ≡ false → Linked list (set head h (i + 1)) (set next i (getD head h 0)) (i + 1)
-linked-more list head next i h b l u e v eb z = record {
+pub linked-more : (list head links : List ℕ) (i h : ℕ) (b : Bool) → Linked list head links i → i < 512 → h ≡ hashOf (entryAt list i) → h < 1025
+    → b ≡ entryNew list i → not b ≡ false → Linked list (set head h (i + 1)) (set links i (getD head h 0)) (i + 1)
+linked-more list head links i h b l u e v eb z = record {
   heads = head-more list i h (getD head h 0) e head (l .heads) (l .head-length);
-  nexts = next-more list i h (getD head h 0) e next (l .nexts) (let k = l .next-length in omega arith) (l .heads h v);
+  linked = links-more list i h (getD head h 0) e links (l .linked) (let k = l .links-length in omega arith) (l .heads h v);
   new = all-more (entryNew list) i (l .new) (sym eb ∙ not-false b z);
   head-length = length-set head h (i + 1) ∙ l .head-length;
-  next-length = length-set next i (getD head h 0) ∙ l .next-length;
+  links-length = length-set links i (getD head h 0) ∙ l .links-length;
 }
 
-pub linked-index : (list head next : List ℕ) (i : ℕ) → Linked list head next i → i ≤ count list → count list ≤ i → count list ≤ 512 → Indexed list head next
-unfolding distinct
-linked-index list head next i l h u r =
+pub linked-index : (list head links : List ℕ) (i : ℕ) → Linked list head links i → i ≤ count list → count list ≤ i → count list ≤ 512 → Indexed list head links
+unfolding entriesDistinct
+linked-index list head links i l h u r =
     let k : i ≡ count list = omega arith in
     record {
       heads = rw k at l .heads;
-      nexts = rw k at l .nexts;
+      linked = rw k at l .linked;
       apart = rw k at l .new;
       head-length = l .head-length;
-      next-room = let n = l .next-length in omega arith;
+      links-room = let n = l .links-length in omega arith;
     }
 
-pub linked-done : (list head next : List ℕ) (i : ℕ) → Linked list head next i → i ≤ count list → count list ≤ i → true ≡ distinct list
-unfolding distinct
-linked-done list head next i l h u = sym (all-done (entryNew list) (count list) i (l .new) h u)
+pub linked-done : (list head links : List ℕ) (i : ℕ) → Linked list head links i → i ≤ count list → count list ≤ i → true ≡ entriesDistinct list
+unfolding entriesDistinct
+linked-done list head links i l h u = sym (all-done (entryNew list) (count list) i (l .new) h u)
 
 -- an entry that is new, and one that is not
 module _ (list : List ℕ) (i : ℕ) (h : i < count list) where
@@ -250,6 +250,6 @@ module _ (list : List ℕ) (i : ℕ) (h : i < count list) where
   unfolding entryNew
   new-some r n e = rw (ne-eqb _ 0 (λ (q : getD (entryAt list i) 0 0 ≡ 0). n (sym (entry-first list i h) ∙ q))) e
 
-  pub distinct-not : (b : Bool) → b ≡ entryNew list i → not b ≡ true → false ≡ distinct list
-  unfolding distinct
+  pub distinct-not : (b : Bool) → b ≡ entryNew list i → not b ≡ true → false ≡ entriesDistinct list
+  unfolding entriesDistinct
   distinct-not b e z = sym (all-fails (entryNew list) (count list) i h (sym e ∙ not-true b z))

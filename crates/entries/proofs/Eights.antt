@@ -12,7 +12,7 @@ use Rattle.basics.specs.Numbers.{u32At, u64At}
 use Rattle.basics.proofs.Numbers.{same-four}
 use Rattle.basics.proofs.Order.{lt-or-ge}
 use Rattle.basics.proofs.Truth.{false-of, both-true, clash}
-use Rattle.entries.specs.Entry.{count, entryAt, same}
+use Rattle.entries.specs.Entry.{count, entryAt, sameEntry}
 use Rattle.entries.proofs.Entries.{entry-byte, entry-length, entry-eight, same-of, same-equal}
 
 -- two lists of 32 bytes whose four numbers of eight bytes are equal
@@ -50,7 +50,7 @@ module _ (a b : List ℕ) (sa : (j : ℕ) → j < 32 → getD a j 0 < 256) (sb :
       (λ (u : 4 ≤ r). let k : p + r ≡ p + 4 + (r - 4) = omega arith in rw k (bytes (p + 4) (r - 4) (omega arith) (omega arith) (halves p l e .1)))
       (lt-or-ge r 4)
 
-  pub eights-same : u64At a 0 ≡ u64At b 0 → u64At a 8 ≡ u64At b 8 → u64At a 16 ≡ u64At b 16 → u64At a 24 ≡ u64At b 24 → same a b ≡ true
+  pub eights-same : u64At a 0 ≡ u64At b 0 → u64At a 8 ≡ u64At b 8 → u64At a 16 ≡ u64At b 16 → u64At a 24 ≡ u64At b 24 → sameEntry a b ≡ true
   eights-same e0 e1 e2 e3 = same-of a b (λ j l. ⊎-elim (λ (u : j < 16). low j u) (λ (u : 16 ≤ j). high j u l) (lt-or-ge j 16))
     where
       at : (p j : ℕ) → p + 8 ≤ 32 → p ≤ j → j < p + 8 → u64At a p ≡ u64At b p → getD a j 0 ≡ getD b j 0
@@ -69,11 +69,11 @@ module _ (list : List ℕ) (i k : ℕ) (hi : i < count list) (hk : k < count lis
 
   pub same-numbers : (t0 t1 t2 t3 : Bool) → t0 ≡ eqb (u64At list (i * 32)) (u64At list (k * 32)) → t1 ≡ eqb (u64At list (i * 32 + 8)) (u64At list (k * 32 + 8))
       → t2 ≡ eqb (u64At list (i * 32 + 16)) (u64At list (k * 32 + 16)) → t3 ≡ eqb (u64At list (i * 32 + 24)) (u64At list (k * 32 + 24))
-      → t0 && t1 && t2 && t3 ≡ same (entryAt list i) (entryAt list k)
+      → t0 && t1 && t2 && t3 ≡ sameEntry (entryAt list i) (entryAt list k)
   same-numbers t0 t1 t2 t3 e0 e1 e2 e3 =
       rw
       (e0 ∙ at 0 (i * 32) (k * 32) (omega arith) (omega arith) (omega arith), e1 ∙ at 8 (i * 32 + 8) (k * 32 + 8) (omega arith) refl refl, e2 ∙ at 16 (i * 32 + 16) (k * 32 + 16) (omega arith) refl refl, e3 ∙ at 24 (i * 32 + 24) (k * 32 + 24) (omega arith) refl refl)
-      (go (same a b) refl)
+      (go (sameEntry a b) refl)
     where
       a : List ℕ
       a = entryAt list i
@@ -84,7 +84,7 @@ module _ (list : List ℕ) (i k : ℕ) (hi : i < count list) (hk : k < count lis
       at : (p q r : ℕ) → p + 8 ≤ 32 → i * 32 + p ≡ q → k * 32 + p ≡ r → eqb (u64At list q) (u64At list r) ≡ eqb (u64At a p) (u64At b p)
       at p q r l eq er = sym (ap₂ eqb (entry-eight list i hi p q l eq) (entry-eight list k hk p r l er))
 
-      go : (t : Bool) → same a b ≡ t → eqb (u64At a 0) (u64At b 0) && eqb (u64At a 8) (u64At b 8) && eqb (u64At a 16) (u64At b 16) && eqb (u64At a 24) (u64At b 24) ≡ same a b
+      go : (t : Bool) → sameEntry a b ≡ t → eqb (u64At a 0) (u64At b 0) && eqb (u64At a 8) (u64At b 8) && eqb (u64At a 16) (u64At b 16) && eqb (u64At a 24) (u64At b 24) ≡ sameEntry a b
       go true e =
           let q = same-equal a b (entry-length list i hi) (entry-length list k hk) e in
           let x : (p : ℕ) → eqb (u64At a p) (u64At b p) ≡ true = λ p. eq-eqb (u64At a p) (u64At b p) (ap (λ (s : List ℕ). u64At s p) q) in
@@ -92,7 +92,7 @@ module _ (list : List ℕ) (i k : ℕ) (hi : i < count list) (hk : k < count lis
       go false e =
           false-of _ (λ z. clash (all-true z) e) ∙ sym e
         where
-          all-true : eqb (u64At a 0) (u64At b 0) && eqb (u64At a 8) (u64At b 8) && eqb (u64At a 16) (u64At b 16) && eqb (u64At a 24) (u64At b 24) ≡ true → same a b ≡ true
+          all-true : eqb (u64At a 0) (u64At b 0) && eqb (u64At a 8) (u64At b 8) && eqb (u64At a 16) (u64At b 16) && eqb (u64At a 24) (u64At b 24) ≡ true → sameEntry a b ≡ true
           all-true z =
               let y3 = both-true _ _ z in
               let y2 = both-true _ _ (y3 .0) in

@@ -13,7 +13,7 @@ use Rattle.basics.specs.Numbers.{u32At, u64At}
 use Rattle.basics.proofs.Order.{lt-or-ge}
 use Rattle.basics.proofs.Scan.{all-of, all-each}
 use Rattle.basics.proofs.Truth.{clash}
-use Rattle.entries.specs.Entry.{count, entryAt, sameByte, same, isEmpty, differs, entryNew, distinct}
+use Rattle.entries.specs.Entry.{count, entryAt, sameByte, sameEntry, isEmpty, differs, entryNew, entriesDistinct}
 
 module _ (list : List ℕ) (i : ℕ) where
   pub entry-none : count list ≤ i → [] ≡ entryAt list i
@@ -56,35 +56,35 @@ eight-past s at h =
     (gone at (omega arith), gone (at + 1) (omega arith), gone (at + 2) (omega arith), gone (at + 3) (omega arith), gone (at + 4) (omega arith), gone (at + 4 + 1) (omega arith), gone (at + 4 + 2) (omega arith), gone (at + 4 + 3) (omega arith)))
 
 -- the same bytes are the same entry
-pub equal-same : (a b : List ℕ) → a ≡ b → same a b ≡ true
-unfolding same sameByte
+pub equal-same : (a b : List ℕ) → a ≡ b → sameEntry a b ≡ true
+unfolding sameEntry sameByte
 equal-same a b e = all-of (sameByte a b) 32 (λ j l. eq-eqb _ _ (ap (λ (x : List ℕ). getD x j 0) e))
 
-pub same-bytes : (a b : List ℕ) (j : ℕ) → same a b ≡ true → j < 32 → getD a j 0 ≡ getD b j 0
-unfolding same sameByte
+pub same-bytes : (a b : List ℕ) (j : ℕ) → sameEntry a b ≡ true → j < 32 → getD a j 0 ≡ getD b j 0
+unfolding sameEntry sameByte
 same-bytes a b j h l = eqb-true _ _ (all-each (sameByte a b) 32 j h l)
 
-pub same-eight : (a b : List ℕ) (p : ℕ) → same a b ≡ true → p + 8 ≤ 32 → u64At a p ≡ u64At b p
+pub same-eight : (a b : List ℕ) (p : ℕ) → sameEntry a b ≡ true → p + 8 ≤ 32 → u64At a p ≡ u64At b p
 unfolding u32At
 same-eight a b p s l =
     let byte : (j : ℕ) → j < 32 → getD a j 0 ≡ getD b j 0 = λ j u. same-bytes a b j s u in
     rw
     (byte p (omega arith), byte (p + 1) (omega arith), byte (p + 2) (omega arith), byte (p + 3) (omega arith), byte (p + 4) (omega arith), byte (p + 4 + 1) (omega arith), byte (p + 4 + 2) (omega arith), byte (p + 4 + 3) (omega arith))
 
-pub same-of : (a b : List ℕ) → ((j : ℕ) → j < 32 → getD a j 0 ≡ getD b j 0) → same a b ≡ true
-unfolding same sameByte
+pub same-of : (a b : List ℕ) → ((j : ℕ) → j < 32 → getD a j 0 ≡ getD b j 0) → sameEntry a b ≡ true
+unfolding sameEntry sameByte
 same-of a b h = all-of (sameByte a b) 32 (λ j l. eq-eqb _ _ (h j l))
 
-pub same-equal : (a b : List ℕ) → length a ≡ 32 → length b ≡ 32 → same a b ≡ true → a ≡ b
+pub same-equal : (a b : List ℕ) → length a ≡ 32 → length b ≡ 32 → sameEntry a b ≡ true → a ≡ b
 same-equal a b la lb h = ext-getD 0 a b (la ∙ sym lb) (λ j l. same-bytes a b j h (omega arith))
 
 -- what `distinct` means: an entry that is not empty stands in one place only
-module _ (list : List ℕ) (d : distinct list ≡ true) where
-  apart : (i k : ℕ) → i < count list → k < i → isEmpty (entryAt list i) ≡ false → same (entryAt list i) (entryAt list k) ≡ false
-  unfolding distinct entryNew differs
+module _ (list : List ℕ) (d : entriesDistinct list ≡ true) where
+  apart : (i k : ℕ) → i < count list → k < i → isEmpty (entryAt list i) ≡ false → sameEntry (entryAt list i) (entryAt list k) ≡ false
+  unfolding entriesDistinct entryNew differs
   apart i k h l e = not-true _ (all-each (differs list i) i k (rw e at (all-each (entryNew list) (count list) i d h)) l)
 
-  pub distinct-one : (i k : ℕ) → i < count list → k < count list → isEmpty (entryAt list i) ≡ false → same (entryAt list i) (entryAt list k) ≡ true → i ≡ k
+  pub distinct-one : (i k : ℕ) → i < count list → k < count list → isEmpty (entryAt list i) ≡ false → sameEntry (entryAt list i) (entryAt list k) ≡ true → i ≡ k
   distinct-one i k hi hk e s =
       ⊎-elim
       (λ (q : i < k). absurd (clash (same-of (entryAt list k) (entryAt list i) (λ j l. sym (bytes j l))) (apart k i hk q (ap (λ (x : ℕ). eqb x 0) (sym (bytes 0 (omega arith))) ∙ e))))

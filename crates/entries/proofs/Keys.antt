@@ -9,11 +9,11 @@ use lib.ListN.{length, getD, set, length-set}
 use lib.Seq.{getD-set-same, getD-set-other}
 use Rattle.basics.specs.Numbers.{u32At, u64At}
 use Rattle.basics.proofs.Order.{lt-or-ge}
-use Rattle.entries.specs.Entry.{same, Spelt}
+use Rattle.entries.specs.Entry.{sameEntry, KeyStarts}
 use Rattle.entries.proofs.Entries.{same-of}
 
 -- one byte more
-spelt-more : (name key : List ℕ) (n m v : ℕ) → n < 32 → m ≡ n + 1 → Spelt name key n → v ≡ getD name n 0 → Spelt name (set key n v) m
+spelt-more : (name key : List ℕ) (n m v : ℕ) → n < 32 → m ≡ n + 1 → KeyStarts name key n → v ≡ getD name n 0 → KeyStarts name (set key n v) m
 spelt-more name key n m v l em s e = record {
   long = length-set key n v ∙ s .long;
   each = λ j u. ⊎-elim
@@ -105,9 +105,9 @@ module _ (name : List ℕ) (small : (j : ℕ) → getD name j 0 < 256) (at x : �
   unfolding u32At number byte
   digit-7 = ap (λ (y : ℕ). y / 72057594037927936 % 256) ex ∙ digit7 (getD name at 0) (getD name (at + 1) 0) (getD name (at + 2) 0) (getD name (at + 3) 0) (getD name (at + 4) 0) (getD name (at + 4 + 1) 0) (getD name (at + 4 + 2) 0) (getD name (at + 4 + 3) 0) (small at) (small (at + 1)) (small (at + 2)) (small (at + 3)) (small (at + 4)) (small (at + 4 + 1)) (small (at + 4 + 2)) (small (at + 4 + 3)) ∙ at-seven
 
-  pub eight-spelt : (key : List ℕ) → at + 8 ≤ 32 → Spelt name key at
-      → Spelt name (set (set (set (set (set (set (set (set key at (x % 256)) (at + 1) (x / 256 % 256)) (at + 2) (x / 65536 % 256)) (at + 3) (x / 16777216 % 256)) (at + 4) (x / 4294967296 % 256)) (at + 5) (x / 1099511627776 % 256)) (at + 6) (x / 281474976710656 % 256)) (at + 7) (x / 72057594037927936 % 256)) (at + 8)
-  eight-spelt key l s =
+  pub eight-key : (key : List ℕ) → at + 8 ≤ 32 → KeyStarts name key at
+      → KeyStarts name (set (set (set (set (set (set (set (set key at (x % 256)) (at + 1) (x / 256 % 256)) (at + 2) (x / 65536 % 256)) (at + 3) (x / 16777216 % 256)) (at + 4) (x / 4294967296 % 256)) (at + 5) (x / 1099511627776 % 256)) (at + 6) (x / 281474976710656 % 256)) (at + 7) (x / 72057594037927936 % 256)) (at + 8)
+  eight-key key l s =
       let s1 = spelt-more name key at (at + 1) (x % 256) (omega arith) (omega arith) s digit-0 in
       let s2 = spelt-more name _ (at + 1) (at + 2) (x / 256 % 256) (omega arith) (omega arith) s1 digit-1 in
       let s3 = spelt-more name _ (at + 2) (at + 3) (x / 65536 % 256) (omega arith) (omega arith) s2 digit-2 in
@@ -119,5 +119,5 @@ module _ (name : List ℕ) (small : (j : ℕ) → getD name j 0 < 256) (at x : �
       s8
 
 -- a whole key is the name
-pub spelt-same : (name key : List ℕ) → Spelt name key 32 → same key name ≡ true
-spelt-same name key s = same-of key name (λ j l. s .each j l)
+pub key-same : (name key : List ℕ) → KeyStarts name key 32 → sameEntry key name ≡ true
+key-same name key s = same-of key name (λ j l. s .each j l)

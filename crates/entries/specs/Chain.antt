@@ -7,15 +7,15 @@ use lib.ListN.{length, getD}
 use lib.Bits.{bitOr, bitXor}
 use lib.Dec.{eqb}
 use Rattle.basics.specs.Numbers.{u64At}
-use Rattle.entries.specs.Entry.{count, entryAt, isEmpty, distinct}
+use Rattle.entries.specs.Entry.{count, entryAt, isEmpty, entriesDistinct}
 
 -- a number of 64 bits turned by k bits
-abbrev pub turned : ℕ → ℕ → ℕ
-turned k x = bitOr ((x * 2 ^ k) % 2 ^ 64) (x / 2 ^ (64 - k))
+abbrev pub rotated : ℕ → ℕ → ℕ
+rotated k x = bitOr ((x * 2 ^ k) % 2 ^ 64) (x / 2 ^ (64 - k))
 
 -- four numbers in one, each turned by bits of its own
 unfoldable pub folded : ℕ → ℕ → ℕ → ℕ → ℕ
-folded a b c d = bitXor (bitXor (bitXor a (turned 44 b)) (turned 45 c)) (turned 16 d)
+folded a b c d = bitXor (bitXor (bitXor a (rotated 44 b)) (rotated 45 c)) (rotated 16 d)
 
 -- a number of 64 bits spread over 1024
 unfoldable pub spread : ℕ → ℕ
@@ -26,26 +26,26 @@ unfoldable pub hashOf : List ℕ → ℕ
 hashOf e = cond (isEmpty e) 1024 (spread (folded (u64At e 0) (u64At e 8) (u64At e 16) (u64At e 24)))
 
 -- the last entry below i with the hash h, counted from 1; 0 for none
-unfoldable pub lastOf : List ℕ → ℕ → ℕ → ℕ
-lastOf list h zero = 0
-lastOf list h (suc i) = cond (eqb (hashOf (entryAt list i)) h) (suc i) (lastOf list h i)
+unfoldable pub lastOfHash : List ℕ → ℕ → ℕ → ℕ
+lastOfHash list h zero = 0
+lastOfHash list h (suc i) = cond (eqb (hashOf (entryAt list i)) h) (suc i) (lastOfHash list h i)
 
 -- head holds, for each hash, the last entry below i
 abbrev pub HeadRight : List ℕ → List ℕ → ℕ → Type 0
-HeadRight list head i = (h : ℕ) → h < 1025 → getD head h 0 ≡ lastOf list h i
+HeadRight list head i = (h : ℕ) → h < 1025 → getD head h 0 ≡ lastOfHash list h i
 
 -- next holds, for each entry below i, the one before it in its chain
-abbrev pub NextRight : List ℕ → List ℕ → ℕ → Type 0
-NextRight list next i = (j : ℕ) → j < i → getD next j 0 ≡ lastOf list (hashOf (entryAt list j)) j
+abbrev pub LinksRight : List ℕ → List ℕ → ℕ → Type 0
+LinksRight list links i = (j : ℕ) → j < i → getD links j 0 ≡ lastOfHash list (hashOf (entryAt list j)) j
 
 -- the tables lead to every entry of a list whose entries are distinct
-pub record Indexed (list head next : List ℕ) : Type 0 where
+pub record Indexed (list head links : List ℕ) : Type 0 where
   pub heads : HeadRight list head (count list)
-  pub nexts : NextRight list next (count list)
-  pub apart : distinct list ≡ true
+  pub linked : LinksRight list links (count list)
+  pub apart : entriesDistinct list ≡ true
   pub head-length : length head ≡ 1025
-  pub next-room : count list ≤ length next
+  pub links-room : count list ≤ length links
 
 -- so they do if a test says yes
 abbrev pub IndexedIf : Bool → List ℕ → List ℕ → List ℕ → Type 0
-IndexedIf b list head next = b ≡ true → Indexed list head next
+IndexedIf b list head links = b ≡ true → Indexed list head links

@@ -20,8 +20,8 @@ unfoldable pub sameByte : List ℕ → List ℕ → ℕ → Bool
 sameByte a b j = eqb (getD a j 0) (getD b j 0)
 
 -- whether a and b are the same entry
-unfoldable pub same : List ℕ → List ℕ → Bool
-same a b = all 32 (sameByte a b)
+unfoldable pub sameEntry : List ℕ → List ℕ → Bool
+sameEntry a b = all 32 (sameByte a b)
 
 -- whether an entry has no name
 abbrev pub isEmpty : List ℕ → Bool
@@ -29,17 +29,17 @@ isEmpty e = eqb (getD e 0 0) 0
 
 -- whether entries i and k differ
 unfoldable pub differs : List ℕ → ℕ → ℕ → Bool
-differs list i k = not (same (entryAt list i) (entryAt list k))
+differs list i k = not (sameEntry (entryAt list i) (entryAt list k))
 
 -- entry i is empty, or differs from every entry before it
 unfoldable pub entryNew : List ℕ → ℕ → Bool
 entryNew list i = isEmpty (entryAt list i) || all i (differs list i)
 
 -- the entries are distinct, those that are empty aside (document 01, "Empty entries .. may repeat; the others in one list are distinct")
-unfoldable pub distinct : List ℕ → Bool
-distinct list = all (count list) (entryNew list)
+unfoldable pub entriesDistinct : List ℕ → Bool
+entriesDistinct list = all (count list) (entryNew list)
 
 -- the first n bytes of a key of 32 are those of a name, NULs after it
-pub record Spelt (name key : List ℕ) (n : ℕ) : Type 0 where
+pub record KeyStarts (name key : List ℕ) (n : ℕ) : Type 0 where
   pub long : length key ≡ 32
   pub each : (j : ℕ) → j < n → getD key j 0 ≡ getD name j 0

@@ -7,8 +7,8 @@ ghost use mathlib.Core.Path.{_≡_};
 ghost use Prim.Native.Nat.{_/_, _≤_, _<_};
 ghost use lib.ListN.{length, getD};
 ghost use Rattle.basics.specs.Scan.{all};
-ghost use Rattle.entries.specs.Entry.{entryAt, differs, entryNew, distinct};
-ghost use Rattle.entries.specs.Chain.{folded, spread, hashOf, lastOf, HeadRight, NextRight, IndexedIf};
+ghost use Rattle.entries.specs.Entry.{entryAt, differs, entryNew, entriesDistinct};
+ghost use Rattle.entries.specs.Chain.{folded, spread, hashOf, lastOfHash, HeadRight, LinksRight, IndexedIf};
 
 // A place in a table as an index.
 fn place(x: u16) -> usize
@@ -70,10 +70,10 @@ pub fn hash_of(name: &[u8]) -> usize
 }
 
 // Whether entry i differs from every entry before it: only those of its chain are looked at.
-fn chain_new(list: &[u8], next: &[u16], i: usize, start: usize) -> bool
-    requires { ⌜ (i < length (now list) / 32) × (i ≤ length (now next)) ⌝ }
-    requires { ⌜ NextRight (now list) (now next) i ⌝ }
-    requires { ⌜ start ≡ lastOf (now list) (hashOf (entryAt (now list) i)) i ⌝ }
+fn chain_new(list: &[u8], links: &[u16], i: usize, start: usize) -> bool
+    requires { ⌜ (i < length (now list) / 32) × (i ≤ length (now links)) ⌝ }
+    requires { ⌜ LinksRight (now list) (now links) i ⌝ }
+    requires { ⌜ start ≡ lastOfHash (now list) (hashOf (entryAt (now list) i)) i ⌝ }
     ensures { λ r. ⌜ r ≡ all i (differs (now (list .entry)) i) ⌝ }
 {
     let mut p = start;
@@ -85,37 +85,37 @@ fn chain_new(list: &[u8], next: &[u16], i: usize, start: usize) -> bool
         if same_entry(list, i, j) {
             return false;
         }
-        p = place_in(next, j);
+        p = place_in(links, j);
     }
 }
 
 // Whether entry i is empty or differs from every entry before it.
-fn entry_new(list: &[u8], next: &[u16], i: usize, start: usize) -> bool
-    requires { ⌜ (i < length (now list) / 32) × (i ≤ length (now next)) ⌝ }
-    requires { ⌜ NextRight (now list) (now next) i ⌝ }
-    requires { ⌜ start ≡ lastOf (now list) (hashOf (entryAt (now list) i)) i ⌝ }
+fn entry_new(list: &[u8], links: &[u16], i: usize, start: usize) -> bool
+    requires { ⌜ (i < length (now list) / 32) × (i ≤ length (now links)) ⌝ }
+    requires { ⌜ LinksRight (now list) (now links) i ⌝ }
+    requires { ⌜ start ≡ lastOfHash (now list) (hashOf (entryAt (now list) i)) i ⌝ }
     ensures { λ r. ⌜ r ≡ entryNew (now (list .entry)) i ⌝ }
 {
     if list[i * 32] == 0 {
         return true;
     }
-    chain_new(list, next, i, start)
+    chain_new(list, links, i, start)
 }
 
 // Whether the entries are distinct; if they are, the tables lead to each. Room: `head`, a place for each hash; `next`, one for each entry.
-pub fn distinct_in(list: &[u8], head: &mut [u16], next: &mut [u16]) -> bool
-    requires { ⌜ (length (now head) ≡ 1025) × (length (now next) ≡ 512) × (length (now list) / 32 ≤ 512) ⌝ }
+pub fn distinct_in(list: &[u8], head: &mut [u16], links: &mut [u16]) -> bool
+    requires { ⌜ (length (now head) ≡ 1025) × (length (now links) ≡ 512) × (length (now list) / 32 ≤ 512) ⌝ }
     requires { ⌜ HeadRight (now list) (now head) 0 ⌝ }
-    ensures { λ r. ⌜ r ≡ distinct (now (list .entry)) ⌝ }
-    ensures { λ r. ⌜ IndexedIf r (now (list .entry)) (now (head .exit)) (now (next .exit)) ⌝ }
+    ensures { λ r. ⌜ r ≡ entriesDistinct (now (list .entry)) ⌝ }
+    ensures { λ r. ⌜ IndexedIf r (now (list .entry)) (now (head .exit)) (now (links .exit)) ⌝ }
 {
     for i in 0..list.len() / 32 {
         let h = hash(list, i);
         let start = head[h];
-        if !entry_new(list, next, i, place(start)) {
+        if !entry_new(list, links, i, place(start)) {
             return false;
         }
-        next[i] = start;
+        links[i] = start;
         head[h] = (i + 1) as u16;
     }
     true
@@ -124,9 +124,9 @@ pub fn distinct_in(list: &[u8], head: &mut [u16], next: &mut [u16]) -> bool
 // Whether the entries of a list of at most 512 are distinct, the empty ones aside.
 pub fn all_distinct(list: &[u8]) -> bool
     requires { ⌜ length (now list) / 32 ≤ 512 ⌝ }
-    ensures { λ r. ⌜ r ≡ distinct (now (list .entry)) ⌝ }
+    ensures { λ r. ⌜ r ≡ entriesDistinct (now (list .entry)) ⌝ }
 {
     let mut head = [0u16; 1025];
-    let mut next = [0u16; 512];
-    distinct_in(list, &mut head, &mut next)
+    let mut links = [0u16; 512];
+    distinct_in(list, &mut head, &mut links)
 }

@@ -1,13 +1,13 @@
 // A name as the 32 bytes of an entry.
 use crate::same::eight_or_less;
 ghost use Prim.Native.Nat.{_+_, _≤_};
-ghost use Rattle.entries.specs.Entry.{Spelt};
+ghost use Rattle.entries.specs.Entry.{KeyStarts};
 
 // Writes the eight bytes of a name from a place on, NULs past its end, at the same place of the key. By one number of 64 bits: it is read and
 // written at once.
-fn spell(key: &mut [u8; 32], name: &[u8], at: usize)
-    requires { ⌜ (at + 8 ≤ 32) × Spelt (now name) (now key) at ⌝ }
-    ensures { λ _. ⌜ Spelt (now (name .entry)) (now (key .exit)) (at + 8) ⌝ }
+fn copy_key(key: &mut [u8; 32], name: &[u8], at: usize)
+    requires { ⌜ (at + 8 ≤ 32) × KeyStarts (now name) (now key) at ⌝ }
+    ensures { λ _. ⌜ KeyStarts (now (name .entry)) (now (key .exit)) (at + 8) ⌝ }
 {
     let x = eight_or_less(name, at);
     key[at] = (x % 256) as u8;
@@ -22,12 +22,12 @@ fn spell(key: &mut [u8; 32], name: &[u8], at: usize)
 
 // The name spelt as an entry. A name longer than one is spelt as far as its 32nd byte.
 pub fn key_of(name: &[u8]) -> [u8; 32]
-    ensures { λ r. ⌜ Spelt (now (name .entry)) r 32 ⌝ }
+    ensures { λ r. ⌜ KeyStarts (now (name .entry)) r 32 ⌝ }
 {
     let mut key = [0u8; 32];
-    spell(&mut key, name, 0);
-    spell(&mut key, name, 8);
-    spell(&mut key, name, 16);
-    spell(&mut key, name, 24);
+    copy_key(&mut key, name, 0);
+    copy_key(&mut key, name, 8);
+    copy_key(&mut key, name, 16);
+    copy_key(&mut key, name, 24);
     key
 }

@@ -6,7 +6,7 @@ ghost use Prim.Native.Nat.{_+_, _/_, _≤_, _<_};
 ghost use lib.Dec.{eqb};
 ghost use lib.ListN.{length};
 ghost use Rattle.basics.specs.Numbers.{u64At};
-ghost use Rattle.entries.specs.Entry.{entryAt, same};
+ghost use Rattle.entries.specs.Entry.{entryAt, sameEntry};
 
 // Four bytes as a number of 64 bits.
 fn wide(x: u32) -> u64
@@ -48,7 +48,7 @@ fn same_eight(list: &[u8], a: usize, b: usize) -> bool
 // Whether entries i and k are the same, eight bytes at a time and with no early exit.
 pub fn same_entry(list: &[u8], i: usize, k: usize) -> bool
     requires { ⌜ (i < length (now list) / 32) × (k < length (now list) / 32) ⌝ }
-    ensures { λ r. ⌜ r ≡ same (entryAt (now (list .entry)) i) (entryAt (now (list .entry)) k) ⌝ }
+    ensures { λ r. ⌜ r ≡ sameEntry (entryAt (now (list .entry)) i) (entryAt (now (list .entry)) k) ⌝ }
 {
     let a = i * 32;
     let b = k * 32;

@@ -4,24 +4,24 @@ use mathlib.Core.Path.{_≡_, ap, _∙_}
 use mathlib.Core.List.{List}
 use Rattle.normal.specs.Normal as N
 use Rattle.normal.specs.declared.Normal.{Normal}
-use Rattle.response.specs.Answer.{Outcome, Did, kindNumber, refusalNumber}
+use Rattle.response.specs.Answer.{Outcome, Performs, kindNumber, refusalNumber}
 use Rattle.response.specs.declared.Answer.{Answer}
 use Rattle.handler.specs.Bytes.{Stored}
 use Rattle.ethnl.specs.Exported.{Normalise, Handle}
 
-pub normalise-told : (o : N.Outcome) (P Q : List ℕ) (x : Normal) → N.Normalised o P Q x → Normalise o P Q (x .written) (x .number)
+pub normalise-told : (o : N.NormalAnswer) (P Q : List ℕ) (x : Normal) → N.Normalised o P Q x → Normalise o P Q (x .written) (x .number)
 normalise-told o P Q x h =
     record { number = ap (λ (y : Normal). y .number) (h .result); count = ap (λ (y : Normal). y .written) (h .result); page = h .page }
 
-pub handle-told : (o : Outcome Stored) (P Q : List ℕ) (stored : Stored) (x : Answer) (k f : ℕ) → Did o P Q stored x → k ≡ kindNumber (x .kind) → f ≡ refusalNumber (x .kind)
+pub handle-told : (o : Outcome Stored) (P Q : List ℕ) (stored : Stored) (x : Answer) (k f : ℕ) → Performs o P Q stored x → k ≡ kindNumber (x .kind) → f ≡ refusalNumber (x .kind)
     → Handle o P Q stored k f (x .next) (x .written)
 handle-told o P Q stored x k f a ek ef =
-    let e = a .said .result in
+    let e = a .response .result in
     record {
       kind = ek ∙ ap (λ (y : Answer). kindNumber (y .kind)) e;
       refusal = ef ∙ ap (λ (y : Answer). refusalNumber (y .kind)) e;
       next = ap (λ (y : Answer). y .next) e;
       count = ap (λ (y : Answer). y .written) e;
-      page = a .said .page;
+      page = a .response .page;
       state = a .state-is;
     }

@@ -9,16 +9,16 @@ use Rattle.response.specs.Answer.{Outcome, kindNumber, refusalNumber}
 use Rattle.handler.specs.Bytes.{Stored}
 
 -- ethnl_normalise: the number, the count of bytes written, and those bytes at the front of the page
-pub record Normalise (o : N.Outcome) (before after : List ℕ) (written r : ℕ) : Type 0 where
+pub record Normalise (o : N.NormalAnswer) (before after : List ℕ) (written r : ℕ) : Type 0 where
   pub number : r ≡ o .number
   pub count : written ≡ length (o .bytes)
   pub page : after ≡ put before (o .bytes)
 
 -- ethnl_handle: kind, refusal number, next position and count behind their pointers
 pub record Handle (o : Outcome Stored) (before after : List ℕ) (stored : Stored) (k f n w : ℕ) : Type 0 where
-  pub kind : k ≡ kindNumber (o .said .kind)
-  pub refusal : f ≡ refusalNumber (o .said .kind)
-  pub next : n ≡ o .said .next
-  pub count : w ≡ length (o .said .bytes)
-  pub page : after ≡ put before (o .said .bytes)
+  pub kind : k ≡ kindNumber (o .response .kind)
+  pub refusal : f ≡ refusalNumber (o .response .kind)
+  pub next : n ≡ o .response .next
+  pub count : w ≡ length (o .response .bytes)
+  pub page : after ≡ put before (o .response .bytes)
   pub state : stored ≡ o .state

@@ -18,31 +18,31 @@ use Rattle.boxes.specs.declared.Call.{Call}
 use Rattle.admission.specs.Admission.{admitted}
 use Rattle.admission.specs.declared.Admission.{Admission}
 use Rattle.admission.specs.declared.Admission.the-variants as A
-use Rattle.response.specs.Answer.{Outcome, quiet, refusal, leaves}
-use Rattle.obey.specs.Obey.{obeyed}
+use Rattle.response.specs.Answer.{Outcome, noBytes, errorResponse, unchanged}
+use Rattle.execute.specs.Execute.{requestOutcome}
 use Rattle.response.specs.declared.Kind.{Kind}
 use Rattle.response.specs.declared.Kind.the-variants.{End, Skipped, Done, Refused}
 
 -- skipped, 5 to 9, or the command obeyed
 abbrev pub onAdmission : Admission → Box → State → List ℕ → MessageHeader → ℕ → Outcome State
-onAdmission A.Skipped box state m h next = leaves (quiet Skipped next) state
-onAdmission (A.Refused r) box state m h next = leaves (refusal m next r) state
-onAdmission (A.Go command) box state m h next = obeyed box state m (record { header = h; next = next; command = command })
+onAdmission A.Skipped box state m h next = unchanged (noBytes Skipped next) state
+onAdmission (A.Refused r) box state m h next = unchanged (errorResponse m next r) state
+onAdmission (A.Admitted command) box state m h next = requestOutcome box state m (record { header = h; next = next; command = command })
 
 -- the message m with its header h
 unfoldable pub messageOutcome : Box → State → Call → List ℕ → MessageHeader → ℕ → Outcome State
 messageOutcome box state call m h next = onAdmission (admitted m h (call .family) (eqb (call .admin) 1)) box state m h next
 
 -- "1 to 4 write nothing", and they and the end give the position back
-abbrev pub stays : Refusal → Call → State → Outcome State
-stays r call state = leaves (quiet (Refused r) (call .position)) state
+abbrev pub refusedInPlace : Refusal → Call → State → Outcome State
+refusedInPlace r call state = unchanged (noBytes (Refused r) (call .position)) state
 
 -- "End is decided after 1, 2 and the first two causes of 3; skipping after 4"
 abbrev pub onMessage : MessageRead → Call → State → (MessageHeader → ℕ → ℕ → Outcome State) → Outcome State
-onMessage Outside call state f = stays R.Datagram call state
-onMessage AtEnd call state f = leaves (quiet End (call .position)) state
-onMessage Cut call state f = stays R.Datagram call state
-onMessage Misstated call state f = stays R.Length call state
+onMessage Outside call state f = refusedInPlace R.Datagram call state
+onMessage AtEnd call state f = unchanged (noBytes End (call .position)) state
+onMessage Cut call state f = refusedInPlace R.Datagram call state
+onMessage Misstated call state f = refusedInPlace R.Length call state
 onMessage (Message h end next) call state f = f h end next
 
 -- the message that stands at the position of the datagram
@@ -54,14 +54,14 @@ positionOutcome box state call datagram =
 -- what one call does: box (1), page (2), datagram (3), then the message at the position
 unfoldable pub outcome : Box → State → Call → List ℕ → ℕ → Outcome State
 outcome box state call datagram room =
-    cond (not (boxRight box state call)) (stays R.Box call state)
-    (cond (ltb room 32768) (stays R.Page call state)
-    (cond (ltb 32768 (length datagram)) (stays R.Datagram call state)
+    cond (not (boxRight box state call)) (refusedInPlace R.Box call state)
+    (cond (ltb room 32768) (refusedInPlace R.Page call state)
+    (cond (ltb 32768 (length datagram)) (refusedInPlace R.Datagram call state)
     (positionOutcome box state call datagram)))
 
 -- "up to the end or a refusal 1 to 4": whether calls one after the other end with this one
-abbrev pub isOver : Kind → Bool
-isOver End = true
-isOver Skipped = false
-isOver Done = false
-isOver (Refused why) = ltb (numberOf why) 5
+abbrev pub endsRun : Kind → Bool
+endsRun End = true
+endsRun Skipped = false
+endsRun Done = false
+endsRun (Refused why) = ltb (numberOf why) 5

@@ -3,10 +3,10 @@ ghost use mathlib.Core.Path.{_≡_};
 ghost use Prim.Native.Nat.{_/_, _%_};
 ghost use lib.ListN.{length};
 ghost use Rattle.boxes.specs.Box.{boxOf};
-ghost use Rattle.response.specs.Answer.{Did};
+ghost use Rattle.response.specs.Answer.{Performs};
 ghost use Rattle.handler.specs.Bytes.{storedOf, areWords, bytesOutcome, wordsOutcome};
 use crate::call::handle;
-use crate::call::stay;
+use crate::call::refuse_in_place;
 use boxes::Call;
 use refusal::Refusal;
 use response::Answer;
@@ -29,7 +29,7 @@ fn handle_in<'a>(
     page: &mut [u8],
 ) -> Answer
     requires { ⌜ (length (now settings) % 4 ≡ 0) × (length (now words) ≡ length (now settings) / 4) ⌝ }
-    ensures { λ r. ⌜ Did (wordsOutcome (boxOf (now (roll .entry)) (now (debug .entry)) (now (flags .entry))) (storedOf (now (settings .entry))) call (now (datagram .entry)) (length (now (page .entry)))) (now (page .entry)) (now (page .exit)) (storedOf (now (settings .exit))) r ⌝ }
+    ensures { λ r. ⌜ Performs (wordsOutcome (boxOf (now (roll .entry)) (now (debug .entry)) (now (flags .entry))) (storedOf (now (settings .entry))) call (now (datagram .entry)) (length (now (page .entry)))) (now (page .entry)) (now (page .exit)) (storedOf (now (settings .exit))) r ⌝ }
 {
     word_bytes::read_words(settings, words);
     let answer = handle(call, roll, debug, flags, words, datagram, page);
@@ -58,10 +58,10 @@ pub fn handle_bytes<'a>(
     datagram: &[u8],
     page: &mut [u8],
 ) -> Answer
-    ensures { λ r. ⌜ Did (bytesOutcome (boxOf (now (roll .entry)) (now (debug .entry)) (now (flags .entry))) (storedOf (now (settings .entry))) call (now (datagram .entry)) (length (now (page .entry)))) (now (page .entry)) (now (page .exit)) (storedOf (now (settings .exit))) r ⌝ }
+    ensures { λ r. ⌜ Performs (bytesOutcome (boxOf (now (roll .entry)) (now (debug .entry)) (now (flags .entry))) (storedOf (now (settings .entry))) call (now (datagram .entry)) (length (now (page .entry)))) (now (page .entry)) (now (page .exit)) (storedOf (now (settings .exit))) r ⌝ }
 {
     if !are_words(settings) {
-        return stay(Refusal::Box, call.position);
+        return refuse_in_place(Refusal::Box, call.position);
     }
     let n = settings.len() / 4;
     if n <= FEW {

@@ -3,10 +3,10 @@ ghost use mathlib.Core.Path.{_≡_};
 ghost use Prim.Native.Nat.{_≤_};
 ghost use lib.ListN.{length};
 ghost use Rattle.roll.specs.Table.{Tabled};
-ghost use Rattle.response.specs.Answer.{Did};
+ghost use Rattle.response.specs.Answer.{Performs};
 ghost use Rattle.response.specs.declared.Kind.the-variants.{Refused};
 ghost use Rattle.boxes.specs.Box.{boxOf, stateOf};
-ghost use Rattle.obey.specs.Obey.{Fit};
+ghost use Rattle.execute.specs.Execute.{Fit};
 ghost use Rattle.handler.specs.Call.{onAdmission, positionOutcome, outcome};
 use admission::Admission;
 use admission::admit;
@@ -16,8 +16,8 @@ use netlink_attributes::payload;
 use netlink_headers::headers::MessageHeader;
 use netlink_headers::messages::MessageRead;
 use netlink_headers::messages::read_message;
-use obey::Asked;
-use obey::obey;
+use execute::Request;
+use execute::execute;
 use refusal::Refusal;
 use response::Answer;
 use response::Kind;
@@ -31,7 +31,7 @@ pub const PAGE: usize = 32768;
 pub const DATAGRAM: usize = 32768;
 
 // An answer that writes nothing.
-fn quiet(kind: Kind, next: usize) -> Answer
+fn no_bytes(kind: Kind, next: usize) -> Answer
     ensures { λ r. ⌜ r ≡ record { kind = kind; next = next; written = 0 } ⌝ }
 {
     Answer {
@@ -42,10 +42,10 @@ fn quiet(kind: Kind, next: usize) -> Answer
 }
 
 // Refusals 1 to 4: nothing is written, and the position is given back.
-pub fn stay(why: Refusal, position: usize) -> Answer
+pub fn refuse_in_place(why: Refusal, position: usize) -> Answer
     ensures { λ r. ⌜ r ≡ record { kind = Refused why; next = position; written = 0 } ⌝ }
 {
-    quiet(Kind::Refused(why), position)
+    no_bytes(Kind::Refused(why), position)
 }
 
 // Answers the message m, whose header is h: skipped, refused by 5 to 9, or obeyed.
@@ -64,22 +64,22 @@ fn answer_message<'a>(
     requires { ⌜ (32768 ≤ length (now page)) × (16 ≤ length (now m)) ⌝ }
     requires { ⌜ Tabled (now roll) (now ports) ⌝ }
     requires { ⌜ Fit (boxOf (now roll) (now debug) (now flags)) (stateOf (now settings)) ⌝ }
-    ensures { λ r. ⌜ Did (onAdmission admission (boxOf (now (roll .entry)) (now (debug .entry)) (now (flags .entry))) (stateOf (now (settings .entry))) (now (m .entry)) h next) (now (page .entry)) (now (page .exit)) (stateOf (now (settings .exit))) r ⌝ }
+    ensures { λ r. ⌜ Performs (onAdmission admission (boxOf (now (roll .entry)) (now (debug .entry)) (now (flags .entry))) (stateOf (now (settings .entry))) (now (m .entry)) h next) (now (page .entry)) (now (page .exit)) (stateOf (now (settings .exit))) r ⌝ }
 {
     match admission {
         Admission::Skipped => {
-            return quiet(Kind::Skipped, next);
+            return no_bytes(Kind::Skipped, next);
         }
         Admission::Refused(why) => {
             return refuse(page, m, why, next);
         }
-        Admission::Go(command) => {
-            let asked = Asked {
+        Admission::Admitted(command) => {
+            let request = Request {
                 header: h,
                 next,
                 command,
             };
-            return obey(page, settings, roll, ports, debug, flags, m, asked);
+            return execute(page, settings, roll, ports, debug, flags, m, request);
         }
     }
 }
@@ -98,21 +98,21 @@ fn answer_at<'a>(
     requires { ⌜ 32768 ≤ length (now page) ⌝ }
     requires { ⌜ Tabled (now roll) (now ports) ⌝ }
     requires { ⌜ Fit (boxOf (now roll) (now debug) (now flags)) (stateOf (now settings)) ⌝ }
-    ensures { λ r. ⌜ Did (positionOutcome (boxOf (now (roll .entry)) (now (debug .entry)) (now (flags .entry))) (stateOf (now (settings .entry))) call (now (datagram .entry))) (now (page .entry)) (now (page .exit)) (stateOf (now (settings .exit))) r ⌝ }
+    ensures { λ r. ⌜ Performs (positionOutcome (boxOf (now (roll .entry)) (now (debug .entry)) (now (flags .entry))) (stateOf (now (settings .entry))) call (now (datagram .entry))) (now (page .entry)) (now (page .exit)) (stateOf (now (settings .exit))) r ⌝ }
 {
     let position = call.position;
     match read_message(datagram, position) {
         MessageRead::Outside => {
-            return stay(Refusal::Datagram, position);
+            return refuse_in_place(Refusal::Datagram, position);
         }
         MessageRead::AtEnd => {
-            return quiet(Kind::End, position);
+            return no_bytes(Kind::End, position);
         }
         MessageRead::Cut => {
-            return stay(Refusal::Datagram, position);
+            return refuse_in_place(Refusal::Datagram, position);
         }
         MessageRead::Misstated => {
-            return stay(Refusal::Length, position);
+            return refuse_in_place(Refusal::Length, position);
         }
         MessageRead::Message {
             header: h,
@@ -147,19 +147,19 @@ pub fn handle<'a>(
     datagram: &[u8],
     page: &mut [u8],
 ) -> Answer
-    ensures { λ r. ⌜ Did (outcome (boxOf (now (roll .entry)) (now (debug .entry)) (now (flags .entry))) (stateOf (now (settings .entry))) call (now (datagram .entry)) (length (now (page .entry)))) (now (page .entry)) (now (page .exit)) (stateOf (now (settings .exit))) r ⌝ }
+    ensures { λ r. ⌜ Performs (outcome (boxOf (now (roll .entry)) (now (debug .entry)) (now (flags .entry))) (stateOf (now (settings .entry))) call (now (datagram .entry)) (length (now (page .entry)))) (now (page .entry)) (now (page .exit)) (stateOf (now (settings .exit))) r ⌝ }
 {
     let mut table = [0u64; PORTS];
     let n = read_ports(roll, &mut table);
     let ports = &table[..n];
     if !box_right(call, roll, ports, debug, flags, settings) {
-        return stay(Refusal::Box, call.position);
+        return refuse_in_place(Refusal::Box, call.position);
     }
     if page.len() < PAGE {
-        return stay(Refusal::Page, call.position);
+        return refuse_in_place(Refusal::Page, call.position);
     }
     if DATAGRAM < datagram.len() {
-        return stay(Refusal::Datagram, call.position);
+        return refuse_in_place(Refusal::Datagram, call.position);
     }
     answer_at(call, roll, ports, debug, flags, settings, datagram, page)
 }

@@ -8,7 +8,7 @@ use Rattle.basics.proofs.Order.{lt-or-ge}
 use Rattle.layout.specs.declared.Set.{Set}
 use Rattle.layout.specs.declared.Set.the-variants.{Debug, Flags}
 use Rattle.layout.specs.declared.Sizes.{Sizes}
-use Rattle.layout.specs.Layout.{sizeOf, portWords, firstOf, words, place}
+use Rattle.layout.specs.Layout.{sizeOf, portWords, firstOf, totalWords, setPlace}
 use Rattle.layout.proofs.Laws.{port-step, in-port}
 
 -- one ends before the other starts
@@ -17,26 +17,26 @@ Apart a v b w = (a + v ≤ b) ⊎ (b + w ≤ a)
 
 module _ (ports : ℕ) (width : Sizes) where
   -- of two ports
-  earlier : (p q : ℕ) (s t : Set) → p < q → place ports width p s + sizeOf width s ≤ place ports width q t
-  unfolding place
+  earlier : (p q : ℕ) (s t : Set) → p < q → setPlace ports width p s + sizeOf width s ≤ setPlace ports width q t
+  unfolding setPlace
   earlier p q s t h = omega (arith, port-step (portWords width) p q h, in-port width s)
 
   -- of one port
-  beside : (p : ℕ) (s t : Set) → (s ≡ t → ⊥) → Apart (place ports width p s) (sizeOf width s) (place ports width p t) (sizeOf width t)
-  unfolding place firstOf sizeOf
+  beside : (p : ℕ) (s t : Set) → (s ≡ t → ⊥) → Apart (setPlace ports width p s) (sizeOf width s) (setPlace ports width p t) (sizeOf width t)
+  unfolding setPlace firstOf sizeOf
   beside p Debug Debug n = absurd (n refl)
   beside p Debug Flags n = inl (omega arith)
   beside p Flags Debug n = inr (omega arith)
   beside p Flags Flags n = absurd (n refl)
 
-  pub places-apart : (p q : ℕ) (s t : Set) → (p ≡ q → s ≡ t → ⊥) → Apart (place ports width p s) (sizeOf width s) (place ports width q t) (sizeOf width t)
+  pub places-apart : (p q : ℕ) (s t : Set) → (p ≡ q → s ≡ t → ⊥) → Apart (setPlace ports width p s) (sizeOf width s) (setPlace ports width q t) (sizeOf width t)
   places-apart p q s t n =
       ⊎-elim
       (λ (h : p < q). inl (earlier p q s t h))
       (λ (h : q ≤ p). ⊎-elim (λ (l : q < p). inr (earlier q p t s l)) (λ (l : p ≤ q). same (omega arith)) (lt-or-ge q p))
       (lt-or-ge p q)
     where
-      same : p ≡ q → Apart (place ports width p s) (sizeOf width s) (place ports width q t) (sizeOf width t)
+      same : p ≡ q → Apart (setPlace ports width p s) (sizeOf width s) (setPlace ports width q t) (sizeOf width t)
       same e = rw (← e) (beside p s t (n e))
 
 -- a word that belongs to a set of a port
@@ -44,8 +44,8 @@ pub record Owned (ports : ℕ) (width : Sizes) (j : ℕ) : Type 0 where
   pub position : ℕ
   pub set : Set
   pub port : position < ports
-  pub from : place ports width position set ≤ j
-  pub to : j < place ports width position set + sizeOf width set
+  pub from : setPlace ports width position set ≤ j
+  pub to : j < setPlace ports width position set + sizeOf width set
 
 -- together all: each word belongs to one
 module _ (ports n j : ℕ) (h : j < ports * n) where
@@ -62,8 +62,8 @@ module _ (ports n j : ℕ) (h : j < ports * n) where
       (λ (l : ports ≤ j / n). absurd (let a : ports * n ≤ j / n * n = mul-le-mul-right n l in let b = div-add-mod' j n in omega arith))
       (lt-or-ge (j / n) ports)
 
-pub words-owned : (ports : ℕ) (width : Sizes) (j : ℕ) → j < words ports width → Owned ports width j
-unfolding words place portWords firstOf sizeOf
+pub words-owned : (ports : ℕ) (width : Sizes) (j : ℕ) → j < totalWords ports width → Owned ports width j
+unfolding totalWords setPlace portWords firstOf sizeOf
 words-owned ports width j h =
     let n = width .debug + width .flags in
     let b = div-add-mod' j n in

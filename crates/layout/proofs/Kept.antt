@@ -10,7 +10,7 @@ use Rattle.basics.specs.Put.{put, splice}
 use Rattle.basics.proofs.Put.{length-put, getD-put}
 use Rattle.layout.specs.declared.Set.{Set}
 use Rattle.layout.specs.declared.Sizes.{Sizes}
-use Rattle.layout.specs.Layout.{sizeOf, words, place, setAt}
+use Rattle.layout.specs.Layout.{sizeOf, totalWords, setPlace, setAt}
 use Rattle.layout.proofs.Laws.{place-inside}
 use Rattle.layout.proofs.Apart.{Apart, places-apart}
 
@@ -58,22 +58,22 @@ module _ (ws ys : List ℕ) (at : ℕ) (h : at + length ys ≤ length ws) where
       each j v = ⊎-elim (λ (q : at + length ys ≤ b). splice-above (b + j) (omega arith)) (λ (q : b + w ≤ at). splice-below (b + j) (omega arith)) apart
 
 -- a new set in the settings
-module _ (settings : List ℕ) (ports : ℕ) (width : Sizes) (exact : length settings ≡ words ports width) (position : ℕ) (h : position < ports) (set : Set)
+module _ (settings : List ℕ) (ports : ℕ) (width : Sizes) (exact : length settings ≡ totalWords ports width) (position : ℕ) (h : position < ports) (set : Set)
     (new : List ℕ) (fits : length new ≡ sizeOf width set) where
-  room : place ports width position set + length new ≤ length settings
+  room : setPlace ports width position set + length new ≤ length settings
   room = let i = place-inside ports width position set h in omega arith
 
-  pub change-length : length (splice (place ports width position set) settings new) ≡ length settings
-  change-length = splice-length settings new (place ports width position set) room
+  pub change-length : length (splice (setPlace ports width position set) settings new) ≡ length settings
+  change-length = splice-length settings new (setPlace ports width position set) room
 
-  pub change-own : setAt (splice (place ports width position set) settings new) ports width position set ≡ new
+  pub change-own : setAt (splice (setPlace ports width position set) settings new) ports width position set ≡ new
   unfolding setAt
-  change-own = rw (← fits) (splice-own settings new (place ports width position set) room)
+  change-own = rw (← fits) (splice-own settings new (setPlace ports width position set) room)
 
   pub change-other : (other : ℕ) (o : Set) → other < ports → (position ≡ other → set ≡ o → ⊥)
-      → setAt (splice (place ports width position set) settings new) ports width other o ≡ setAt settings ports width other o
+      → setAt (splice (setPlace ports width position set) settings new) ports width other o ≡ setAt settings ports width other o
   unfolding setAt
   change-other other o l n =
-      splice-other settings new (place ports width position set) room (place ports width other o) (sizeOf width o)
+      splice-other settings new (setPlace ports width position set) room (setPlace ports width other o) (sizeOf width o)
       (let i = place-inside ports width other o l in omega arith)
       (rw fits (places-apart ports width position other set o n))

@@ -12,7 +12,7 @@ use Rattle.bits.specs.Set.{wordsFor}
 use Rattle.layout.specs.declared.Set.{Set}
 use Rattle.layout.specs.declared.Set.the-variants.{Debug, Flags}
 use Rattle.layout.specs.declared.Sizes.{Sizes}
-use Rattle.layout.specs.Layout.{Names, namesOf, listOf, sizeOf, ofLists, ofSizes, widths, AtMost, everySet, portWords, firstOf, words, place, setAt}
+use Rattle.layout.specs.Layout.{Names, namesOf, listOf, sizeOf, ofLists, ofSizes, widthsOf, AtMost, everySet, portWords, firstOf, totalWords, setPlace, setAt}
 
 -- the set's own
 module _ (set : Set) (debug flags : List ℕ) where
@@ -48,7 +48,7 @@ pub ruleset size-laws = (size-debug, size-flags)
 pub ruleset first-laws = (first-debug, first-flags)
 
 pub widths-are : (sizes : Sizes) (debug flags : ℕ) → debug ≡ wordsFor (sizes .debug) → flags ≡ wordsFor (sizes .flags)
-    → record { debug = debug; flags = flags } ≡ widths sizes
+    → record { debug = debug; flags = flags } ≡ widthsOf sizes
 widths-are sizes debug flags ed ef = rw (ed, ef)
 
 pub lists-of : (f : List ℕ → ℕ) (names : Names) (set : Set) → sizeOf (ofLists f names) set ≡ f (listOf names set)
@@ -70,7 +70,7 @@ pub each-every : (f : Set → Bool) → ((set : Set) → f set ≡ true) → eve
 unfolding everySet
 each-every f h = rw (h Debug, h Flags)
 
-pub widths-few : (sizes width : Sizes) → width ≡ widths sizes → AtMost 512 sizes → AtMost 16 width
+pub widths-few : (sizes width : Sizes) → width ≡ widthsOf sizes → AtMost 512 sizes → AtMost 16 width
 widths-few sizes width e few = rw e (omega arith)
 
 pub size-few : (most : ℕ) (sizes : Sizes) (set : Set) → AtMost most sizes → sizeOf sizes set ≤ most
@@ -86,8 +86,8 @@ port-few width few = omega arith
 pub words-room : (ports n : ℕ) (width : Sizes) → ports ≤ 64 → AtMost 16 width → n ≡ portWords width → ports * n ≤ 2048
 words-room ports n width h few e = rw e (mul-le-mul h (port-few width few))
 
-pub words-few : (ports : ℕ) (width : Sizes) → ports ≤ 64 → AtMost 16 width → words ports width ≤ 2048
-unfolding words
+pub words-few : (ports : ℕ) (width : Sizes) → ports ≤ 64 → AtMost 16 width → totalWords ports width ≤ 2048
+unfolding totalWords
 words-few ports width h few = words-room ports (portWords width) width h few refl
 
 pub first-few : (width : Sizes) (set : Set) → AtMost 16 width → firstOf width set ≤ 16
@@ -95,8 +95,8 @@ unfolding firstOf
 first-few width Debug few = omega arith
 first-few width Flags few = few .debug
 
-pub words-is : (ports : ℕ) (width : Sizes) (n r : ℕ) → n ≡ portWords width → r ≡ ports * n → r ≡ words ports width
-unfolding words
+pub words-is : (ports : ℕ) (width : Sizes) (n r : ℕ) → n ≡ portWords width → r ≡ ports * n → r ≡ totalWords ports width
+unfolding totalWords
 words-is ports width n r en er = rw (er, en)
 
 -- a port's words end where those of the ports after it start
@@ -114,24 +114,24 @@ in-port width Flags = omega arith
 
 -- inside: the words of a set lie in those of all ports
 module _ (ports : ℕ) (width : Sizes) (position : ℕ) (set : Set) (h : position < ports) where
-  pub place-inside : place ports width position set + sizeOf width set ≤ words ports width
-  unfolding place words
+  pub place-inside : setPlace ports width position set + sizeOf width set ≤ totalWords ports width
+  unfolding setPlace totalWords
   place-inside = omega (arith, port-step (portWords width) position ports h, in-port width set)
 
-  module _ (settings : List ℕ) (e : length settings ≡ words ports width) where
+  module _ (settings : List ℕ) (e : length settings ≡ totalWords ports width) where
     pub set-length : length (setAt settings ports width position set) ≡ sizeOf width set
     unfolding setAt
     set-length =
-        length-take-le (sizeOf width set) (drop (place ports width position set) settings)
-        (rw (length-drop (place ports width position set) settings) (let i = place-inside in omega arith))
+        length-take-le (sizeOf width set) (drop (setPlace ports width position set) settings)
+        (rw (length-drop (setPlace ports width position set) settings) (let i = place-inside in omega arith))
 
-pub place-is : (ports : ℕ) (width : Sizes) (position : ℕ) (set : Set) (first before r : ℕ) → first ≡ firstOf width set → before ≡ words position width → r ≡ before + first
-    → r ≡ place ports width position set
-unfolding place words
+pub place-is : (ports : ℕ) (width : Sizes) (position : ℕ) (set : Set) (first before r : ℕ) → first ≡ firstOf width set → before ≡ totalWords position width → r ≡ before + first
+    → r ≡ setPlace ports width position set
+unfolding setPlace totalWords
 place-is ports width position set first before r ef eb er = rw (er, ef, eb)
 
 -- the part from a set's first word to its end is that set
-pub set-is : (settings : List ℕ) (ports : ℕ) (width : Sizes) (position : ℕ) (set : Set) (at w end : ℕ) → at ≡ place ports width position set → w ≡ sizeOf width set
+pub set-is : (settings : List ℕ) (ports : ℕ) (width : Sizes) (position : ℕ) (set : Set) (at w end : ℕ) → at ≡ setPlace ports width position set → w ≡ sizeOf width set
     → end ≡ at + w → take (end - at) (drop at settings) ≡ setAt settings ports width position set
 unfolding setAt
 set-is settings ports width position set at w end ea ew ee =

@@ -38,8 +38,8 @@ abbrev pub ofSizes : (ℕ → ℕ) → Sizes → Sizes
 ofSizes f sizes = record { debug = f (sizes .debug); flags = f (sizes .flags) }
 
 -- the words that sets of these sizes take
-abbrev pub widths : Sizes → Sizes
-widths sizes = ofSizes wordsFor sizes
+abbrev pub widthsOf : Sizes → Sizes
+widthsOf sizes = ofSizes wordsFor sizes
 
 -- no number is larger
 pub record AtMost (most : ℕ) (sizes : Sizes) : Type 0 where
@@ -55,13 +55,13 @@ firstOf width Debug = 0
 firstOf width Flags = width .debug
 
 -- the words of all ports
-unfoldable pub words : ℕ → Sizes → ℕ
-words ports width = ports * portWords width
+unfoldable pub totalWords : ℕ → Sizes → ℕ
+totalWords ports width = ports * portWords width
 
 -- the first word of a set of the port at a position
-unfoldable pub place : ℕ → Sizes → ℕ → Set → ℕ
-place ports width position set = position * portWords width + firstOf width set
+unfoldable pub setPlace : ℕ → Sizes → ℕ → Set → ℕ
+setPlace ports width position set = position * portWords width + firstOf width set
 
 -- the words of that set
 unfoldable pub setAt : List ℕ → ℕ → Sizes → ℕ → Set → List ℕ
-setAt settings ports width position set = take (sizeOf width set) (drop (place ports width position set) settings)
+setAt settings ports width position set = take (sizeOf width set) (drop (setPlace ports width position set) settings)

@@ -1,7 +1,7 @@
 // Where the sets of the ports lie in the settings: for each port in roll order its debug set, then its flags.
 ghost use mathlib.Core.Path.{_≡_};
 ghost use Prim.Native.Nat.{_≤_, _<_};
-ghost use Rattle.layout.specs.Layout.{namesOf, listOf, sizeOf, widths as widthsOf, AtMost, portWords, firstOf, words as wordsOf, place as placeOf};
+ghost use Rattle.layout.specs.Layout.{namesOf, listOf, sizeOf, widthsOf, AtMost, portWords, firstOf, totalWords as wordsOf, setPlace as placeOf};
 
 pub mod change;
 
@@ -64,7 +64,7 @@ fn port_words(width: Sizes) -> usize
 }
 
 // The first word of a set in those of its port.
-fn first(width: Sizes, set: Set) -> usize
+fn first_word(width: Sizes, set: Set) -> usize
     ensures { λ r. ⌜ r ≡ firstOf width set ⌝ }
 {
     match set {
@@ -78,7 +78,7 @@ fn first(width: Sizes, set: Set) -> usize
 }
 
 // The words of all ports.
-pub fn words(ports: usize, width: Sizes) -> usize
+pub fn total_words(ports: usize, width: Sizes) -> usize
     requires { ⌜ (ports ≤ 64) × AtMost 16 width ⌝ }
     ensures { λ r. ⌜ r ≡ wordsOf ports width ⌝ }
 {
@@ -86,9 +86,9 @@ pub fn words(ports: usize, width: Sizes) -> usize
 }
 
 // The first word of a set of the port at a position.
-pub fn place(ports: usize, width: Sizes, position: usize, set: Set) -> usize
+pub fn set_place(ports: usize, width: Sizes, position: usize, set: Set) -> usize
     requires { ⌜ (position < ports) × (ports ≤ 64) × AtMost 16 width ⌝ }
     ensures { λ r. ⌜ r ≡ placeOf ports width position set ⌝ }
 {
-    words(position, width) + first(width, set)
+    total_words(position, width) + first_word(width, set)
 }

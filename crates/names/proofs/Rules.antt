@@ -12,7 +12,7 @@ use Rattle.basics.proofs.Scan.{all-none, all-more, all-plus, all-fails, all-don
 use Rattle.basics.proofs.Truth.{both-true, false-of, clash}
 use Rattle.basics.proofs.Order.{lt-or-ge}
 use mathlib.Core.Logic.{⊎-elim}
-use Rattle.entries.specs.Entry.{count, entryAt, distinct}
+use Rattle.entries.specs.Entry.{count, entryAt, entriesDistinct}
 use Rattle.entries.proofs.Entries.{entry-byte}
 use Rattle.names.specs.Rule.{nulThenNul, entryRight, pairAt, lowRight, highRight, rightAt, namesRight}
 
@@ -146,7 +146,7 @@ module _ (names : List ℕ) where
         unfolding namesRight
         names-broken q = sym (rw (eq-eqb _ 0 e, le-leb 1 (count names) l, le-leb (count names) 512 u, ← eb, not-true b q))
 
-        pub names-rest : (r : Bool) → not b ≡ false → r ≡ distinct names → r ≡ namesRight names
+        pub names-rest : (r : Bool) → not b ≡ false → r ≡ entriesDistinct names → r ≡ namesRight names
         unfolding namesRight
         names-rest r q f = f ∙ sym (rw (eq-eqb _ 0 e, le-leb 1 (count names) l, le-leb (count names) 512 u, ← eb, not-false b q))
 
@@ -158,7 +158,7 @@ pub record Right (names : List ℕ) : Type 0 where
   pub some : 1 ≤ count names
   pub few : count names ≤ 512
   pub each : (i : ℕ) → i < count names → entryRight (entryAt names i) ≡ true
-  pub apart : distinct names ≡ true
+  pub apart : entriesDistinct names ≡ true
 
 pub right-means : (names : List ℕ) → namesRight names ≡ true → Right names
 unfolding namesRight rightAt

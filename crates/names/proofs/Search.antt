@@ -14,10 +14,10 @@ use Rattle.basics.specs.Scan.{all, first}
 use Rattle.basics.proofs.Order.{lt-or-ge}
 use Rattle.basics.proofs.Scan.{all-none, all-more, all-fails, first-none, first-more, first-at, first-is}
 use Rattle.basics.proofs.Truth.{false-of, clash}
-use Rattle.entries.specs.Entry.{count, entryAt, sameByte, same, isEmpty, distinct}
+use Rattle.entries.specs.Entry.{count, entryAt, sameByte, sameEntry, isEmpty, entriesDistinct}
 use Rattle.entries.proofs.Entries.{entry-byte, entry-length, same-bytes, same-of, distinct-one}
 use Rattle.names.specs.Rule.{namesRight}
-use Rattle.names.specs.Search.{isName, noName, notFound, foundAt, lookup}
+use Rattle.names.specs.Search.{isEntry, noName, notFound, foundAt, lookup}
 use Rattle.names.proofs.Rules.{right-means}
 
 -- the names that can stand in no list
@@ -37,14 +37,14 @@ module _ (names name : List ℕ) where
 
   -- none of the entries before i is the name
   abbrev pub NoneBefore : ℕ → Type 0
-  NoneBefore i = first i (isName names name) ≡ i
+  NoneBefore i = first i (isEntry names name) ≡ i
 
   -- the bytes before j of entry i are the name's
   abbrev pub SameBefore : ℕ → ℕ → Type 0
   SameBefore i j = all j (sameByte (entryAt names i) name) ≡ true
 
   pub none-start : NoneBefore 0
-  none-start = first-none (isName names name)
+  none-start = first-none (isEntry names name)
 
   pub same-start : (i : ℕ) → SameBefore i 0
   same-start i = all-none (sameByte (entryAt names i) name)
@@ -54,8 +54,8 @@ module _ (names name : List ℕ) where
   same-more i j y h l s e q = all-more _ j s (eq-eqb _ _ (entry-byte names i h j l ∙ q ∙ e))
 
   -- an entry of which a byte differs
-  pub name-other : (i j y : ℕ) → i < count names → j < 32 → y ≡ getD name j 0 → (getD names (i * 32 + j) 0 ≡ y → ⊥) → isName names name i ≡ false
-  unfolding isName same sameByte
+  pub name-other : (i j y : ℕ) → i < count names → j < 32 → y ≡ getD name j 0 → (getD names (i * 32 + j) 0 ≡ y → ⊥) → isEntry names name i ≡ false
+  unfolding isEntry sameEntry sameByte
   name-other i j y h l e n = all-fails _ 32 j l (ne-eqb _ _ (λ q. n (sym (entry-byte names i h j l) ∙ q ∙ sym e)))
 
   pub none-more : (i j y : ℕ) → i < count names → j < 32 → NoneBefore i → y ≡ getD name j 0 → (getD names (i * 32 + j) 0 ≡ y → ⊥) → NoneBefore (i + 1)
@@ -66,17 +66,17 @@ module _ (names name : List ℕ) where
     named = sym e ∙ z
 
     pub name-at : (i j : ℕ) → NoneBefore i → i < count names → SameBefore i j → j ≤ 32 → 32 ≤ j → foundAt i ≡ lookup names name
-    unfolding lookup isName same
+    unfolding lookup isEntry sameEntry
     name-at i j h l s u v =
         let k : j ≡ 32 = omega arith in
-        let f : first (count names) (isName names name) ≡ i = first-at (isName names name) (count names) i l h (rw k at s) in
+        let f : first (count names) (isEntry names name) ≡ i = first-at (isEntry names name) (count names) i l h (rw k at s) in
         sym (rw (named, f, lt-ltb i (count names) l))
 
     pub name-none : (i : ℕ) → NoneBefore i → i ≤ count names → count names ≤ i → notFound ≡ lookup names name
     unfolding lookup
     name-none i h l u =
         let k : i ≡ count names = omega arith in
-        let f : first (count names) (isName names name) ≡ count names = rw k at h in
+        let f : first (count names) (isEntry names name) ≡ count names = rw k at h in
         sym (rw (named, f, le-ltb (count names) (count names) (omega arith)))
 
 pub ruleset find-laws = (name-barred, none-start, same-start, none-more, name-at, name-none)
@@ -84,33 +84,33 @@ pub ruleset find-laws = (name-barred, none-start, same-start, none-more, name-at
 -- what is found is an entry that equals the name
 module _ (names name : List ℕ) where
   pub lookup-found : lookup names name .found ≡ true
-      → (lookup names name .bit < count names) × (same (entryAt names (lookup names name .bit)) name ≡ true)
-  unfolding lookup isName
-  lookup-found h = go (noName name) (ltb (first (count names) (isName names name)) (count names)) refl h
+      → (lookup names name .bit < count names) × (sameEntry (entryAt names (lookup names name .bit)) name ≡ true)
+  unfolding lookup isEntry
+  lookup-found h = go (noName name) (ltb (first (count names) (isEntry names name)) (count names)) refl h
     where
-      go : (t u : Bool) → ltb (first (count names) (isName names name)) (count names) ≡ u
-          → cond t notFound (cond u (foundAt (first (count names) (isName names name))) notFound) .found ≡ true
-          → (cond t notFound (cond u (foundAt (first (count names) (isName names name))) notFound) .bit < count names) × (same (entryAt names (cond t notFound (cond u (foundAt (first (count names) (isName names name))) notFound) .bit)) name ≡ true)
+      go : (t u : Bool) → ltb (first (count names) (isEntry names name)) (count names) ≡ u
+          → cond t notFound (cond u (foundAt (first (count names) (isEntry names name))) notFound) .found ≡ true
+          → (cond t notFound (cond u (foundAt (first (count names) (isEntry names name))) notFound) .bit < count names) × (sameEntry (entryAt names (cond t notFound (cond u (foundAt (first (count names) (isEntry names name))) notFound) .bit)) name ≡ true)
       go true u e h = absurd (clash h refl)
       go false false e h = absurd (clash h refl)
-      go false true e h = (ltb-true _ _ e, first-is (isName names name) (count names) (ltb-true _ _ e))
+      go false true e h = (ltb-true _ _ e, first-is (isEntry names name) (count names) (ltb-true _ _ e))
 
   -- none before k is the name
-  none-until : (k : ℕ) → ((j : ℕ) → j < k → isName names name j ≡ false) → first k (isName names name) ≡ k
-  none-until zero f = first-none (isName names name)
+  none-until : (k : ℕ) → ((j : ℕ) → j < k → isEntry names name j ≡ false) → first k (isEntry names name) ≡ k
+  none-until zero f = first-none (isEntry names name)
   none-until (suc k) f =
-      ap (λ (x : ℕ). first x (isName names name)) (sym (add-one k)) ∙ first-more (isName names name) k (none-until k (λ j l. f j (omega arith))) (f k (omega arith)) ∙ add-one k
+      ap (λ (x : ℕ). first x (isEntry names name)) (sym (add-one k)) ∙ first-more (isEntry names name) k (none-until k (λ j l. f j (omega arith))) (f k (omega arith)) ∙ add-one k
 
   -- in a list of distinct names it is the only one: a name that equals entry i is found there
-  pub lookup-one : distinct names ≡ true → noName name ≡ false → (i : ℕ) → i < count names → same (entryAt names i) name ≡ true → lookup names name ≡ foundAt i
-  unfolding lookup isName noName
+  pub lookup-one : entriesDistinct names ≡ true → noName name ≡ false → (i : ℕ) → i < count names → sameEntry (entryAt names i) name ≡ true → lookup names name ≡ foundAt i
+  unfolding lookup isEntry noName
   lookup-one apart n i h s =
-      let f : first (count names) (isName names name) ≡ i = first-at (isName names name) (count names) i h (none-until i alone) s in
+      let f : first (count names) (isEntry names name) ≡ i = first-at (isEntry names name) (count names) i h (none-until i alone) s in
       rw (n, f, lt-ltb i (count names) h)
     where
-      alone : (k : ℕ) → k < i → same (entryAt names k) name ≡ false
+      alone : (k : ℕ) → k < i → sameEntry (entryAt names k) name ≡ false
       alone k l =
-          false-of (same (entryAt names k) name)
+          false-of (sameEntry (entryAt names k) name)
           (λ e. let z : i ≡ k =
           distinct-one names apart i k h (omega arith) (ap (λ (x : ℕ). eqb x 0) (same-bytes (entryAt names i) name 0 s (omega arith)) ∙ some) (same-of (entryAt names i) (entryAt names k) (λ j u. same-bytes (entryAt names i) name j s u ∙ sym (same-bytes (entryAt names k) name j e u))) in
           omega arith)
@@ -120,11 +120,11 @@ module _ (names name : List ℕ) where
 
 -- as the search along a chain ends
 module _ (names name : List ℕ) (t : Bool) (e : t ≡ noName name) (z : t ≡ false) where
-  pub name-alone : distinct names ≡ true → (i j : ℕ) → i < count names → SameBefore names name i j → j ≤ 32 → 32 ≤ j → foundAt i ≡ lookup names name
-  unfolding same
+  pub name-alone : entriesDistinct names ≡ true → (i j : ℕ) → i < count names → SameBefore names name i j → j ≤ 32 → 32 ≤ j → foundAt i ≡ lookup names name
+  unfolding sameEntry
   name-alone d i j h s u v = let k : j ≡ 32 = omega arith in sym (lookup-one names name d (named names name t e z) i h (rw k at s))
 
-  pub name-gone : ((k : ℕ) → k < count names → isName names name k ≡ false) → notFound ≡ lookup names name
+  pub name-gone : ((k : ℕ) → k < count names → isEntry names name k ≡ false) → notFound ≡ lookup names name
   name-gone f = name-none names name t e z (count names) (none-until names name (count names) f) (omega arith) (omega arith)
 
 -- the name of entry i, with all, some or none of the NULs that follow it, is found there

@@ -5,7 +5,7 @@ use mathlib.Core.List.{List}
 use lib.ListN.{length, getD}
 use lib.Dec.{eqb, leb}
 use Rattle.basics.specs.Scan.{all}
-use Rattle.entries.specs.Entry.{count, entryAt, distinct}
+use Rattle.entries.specs.Entry.{count, entryAt, entriesDistinct}
 
 -- a NUL at j is followed by a NUL
 unfoldable pub nulThenNul : List ℕ → ℕ → Bool
@@ -35,4 +35,4 @@ rightAt names i = entryRight (entryAt names i)
 unfoldable pub namesRight : List ℕ → Bool
 namesRight names =
     eqb (length names % 32) 0
-    && (leb 1 (count names) && (leb (count names) 512 && (all (count names) (rightAt names) && distinct names)))
+    && (leb 1 (count names) && (leb (count names) 512 && (all (count names) (rightAt names) && entriesDistinct names)))

@@ -5,12 +5,12 @@ use mathlib.Core.List.{List}
 use lib.ListN.{length}
 use lib.Dec.{ltb, leb}
 use Rattle.basics.specs.Scan.{first}
-use Rattle.entries.specs.Entry.{count, entryAt, same, isEmpty, distinct}
+use Rattle.entries.specs.Entry.{count, entryAt, sameEntry, isEmpty, entriesDistinct}
 use Rattle.names.specs.declared.Lookup.{Lookup}
 
 -- whether entry i equals the name; NULs may follow the name
-unfoldable pub isName : List ℕ → List ℕ → ℕ → Bool
-isName names name i = same (entryAt names i) name
+unfoldable pub isEntry : List ℕ → List ℕ → ℕ → Bool
+isEntry names name i = sameEntry (entryAt names i) name
 
 -- a name that can stand in no list: empty, or longer than an entry
 unfoldable pub noName : List ℕ → Bool
@@ -26,4 +26,4 @@ foundAt i = record { found = true; bit = i }
 unfoldable pub lookup : List ℕ → List ℕ → Lookup
 lookup names name =
     cond (noName name) notFound
-    (cond (ltb (first (count names) (isName names name)) (count names)) (foundAt (first (count names) (isName names name))) notFound)
+    (cond (ltb (first (count names) (isEntry names name)) (count names)) (foundAt (first (count names) (isEntry names name))) notFound)

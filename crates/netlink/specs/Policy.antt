@@ -37,8 +37,8 @@ unfoldable pub isNul : List ℕ → ℕ → ℕ → Bool
 isNul s at j = eqb (getD s (at + j) 0) 0
 
 -- a name: the last byte is NUL and no other, and there are at most max bytes
-unfoldable pub isName : ℕ → List ℕ → Bool
-isName max s = eqb (nulAt s + 1) (length s) && leb (length s) max
+unfoldable pub isNamePayload : ℕ → List ℕ → Bool
+isNamePayload max s = eqb (nulAt s + 1) (length s) && leb (length s) max
 
 -- right, or the fault of number 12
 abbrev pub rightIf : Bool → Verdict
@@ -58,5 +58,5 @@ judged Unlisted bits payload = Wrong Unknown
 judged Nest bits payload = nested bits
 judged Number bits payload = plain bits (eqb (length payload) 4)
 judged Flag bits payload = plain bits (eqb (length payload) 0)
-judged (Name max) bits payload = plain bits (isName max payload)
+judged (Name max) bits payload = plain bits (isNamePayload max payload)
 judged Bytes bits payload = plain bits true

@@ -42,10 +42,10 @@ firstFault policy s (attribute k b a e rest) =
     onVerdict (judged (ruleOf policy k) b (partOf s a e)) (a - 4) (firstFault policy s rest)
 
 -- the last attribute of a type, or the slot given where there is none
-unfoldable pub lastOf : ℕ → Slot → Attributes → Slot
-lastOf kind slot done = slot
-lastOf kind slot (broken at) = slot
-lastOf kind slot (attribute k b a e rest) = lastOf kind (cond (eqb k kind) (found a e) slot) rest
+unfoldable pub lastOfType : ℕ → Slot → Attributes → Slot
+lastOfType kind slot done = slot
+lastOfType kind slot (broken at) = slot
+lastOfType kind slot (attribute k b a e rest) = lastOfType kind (cond (eqb k kind) (found a e) slot) rest
 
 -- something for each type below 8
 abbrev pub eachType : (ℕ → Slot) → List Slot
@@ -55,14 +55,14 @@ eachType f = f 0 ∷ f 1 ∷ f 2 ∷ f 3 ∷ f 4 ∷ f 5 ∷ f 6 ∷ f 7 ∷ []
 abbrev pub stopped : Fault → ℕ → Walked
 stopped fault at = record { stop = At fault at; slots = absentAll }
 
-abbrev pub onStop : Stop → List Slot → Walked
-onStop Whole slots = record { stop = Whole; slots = slots }
-onStop (At fault at) slots = stopped fault at
+abbrev pub walkedTo : Stop → List Slot → Walked
+walkedTo Whole slots = record { stop = Whole; slots = slots }
+walkedTo (At fault at) slots = stopped fault at
 
 -- the walk of the parent whose contents are the bytes of s from a position on: its first fault, or for each type the last attribute
 unfoldable pub walked : List Rule → List ℕ → ℕ → Walked
 walked policy s from =
-    onStop (firstFault policy s (attributes s from)) (eachType (λ kind. lastOf kind absent (attributes s from)))
+    walkedTo (firstFault policy s (attributes s from)) (eachType (λ kind. lastOfType kind absent (attributes s from)))
 
 -- the number of 32 bits in a slot, 0 where the slot is absent
 unfoldable pub slotNumber : List ℕ → Slot → ℕ

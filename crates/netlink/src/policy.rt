@@ -3,7 +3,7 @@ ghost use mathlib.Core.Path.{_≡_};
 ghost use Prim.Native.Nat.{_+_, _≤_};
 ghost use lib.ListN.{length};
 ghost use Rattle.basics.specs.Scan.{any};
-ghost use Rattle.netlink.specs.Policy.{nulAt, NulFrom, isNul, isName, plain, nested, ruleOf, judged, numberOf};
+ghost use Rattle.netlink.specs.Policy.{nulAt, NulFrom, isNul, isNamePayload, plain, nested, ruleOf, judged, numberOf};
 
 // The rule for the payload of a type: a nest must carry the nest bit, the others no bit.
 pub enum Rule {
@@ -85,8 +85,8 @@ pub fn nul_at(s: &[u8]) -> usize
 }
 
 // Whether the bytes are a name of at most max bytes, its NUL counted.
-pub fn is_name(max: usize, s: &[u8]) -> bool
-    ensures { λ r. ⌜ r ≡ isName max (now (s .entry)) ⌝ }
+pub fn is_name_payload(max: usize, s: &[u8]) -> bool
+    ensures { λ r. ⌜ r ≡ isNamePayload max (now (s .entry)) ⌝ }
 {
     let n = nul_at(s);
     if s.len() <= n {
@@ -125,7 +125,7 @@ fn nested(bits: u16) -> Verdict
 }
 
 // Judges an attribute's bits and payload by a rule.
-pub fn judge(rule: Rule, bits: u16, payload: &[u8]) -> Verdict
+pub fn judge_by_rule(rule: Rule, bits: u16, payload: &[u8]) -> Verdict
     ensures { λ r. ⌜ r ≡ judged rule bits (now (payload .entry)) ⌝ }
 {
     match rule {
@@ -133,7 +133,7 @@ pub fn judge(rule: Rule, bits: u16, payload: &[u8]) -> Verdict
         Rule::Nest => nested(bits),
         Rule::Number => plain(bits, payload.len() == 4),
         Rule::Flag => plain(bits, payload.len() == 0),
-        Rule::Name(max) => plain(bits, is_name(max, payload)),
+        Rule::Name(max) => plain(bits, is_name_payload(max, payload)),
         Rule::Bytes => plain(bits, true),
     }
 }

@@ -4,7 +4,7 @@ ghost use Rattle.netlink.specs.Walk.{absentAll, found, stopped, walked, 
 use crate::policy::Fault;
 use crate::policy::Rule;
 use crate::policy::Verdict;
-use crate::policy::judge;
+use crate::policy::judge_by_rule;
 use crate::policy::rule_of;
 use netlink_attributes::AttributeRead;
 use netlink_attributes::payload;
@@ -88,7 +88,7 @@ pub fn walk(policy: [Rule; 8], s: &[u8], from: usize) -> Walked
                 start,
                 end,
                 next,
-            } => match judge(rule_of(policy, kind), bits, payload(s, start, end)) {
+            } => match judge_by_rule(rule_of(policy, kind), bits, payload(s, start, end)) {
                 Verdict::Wrong(fault) => {
                     return stopped(fault, at);
                 }

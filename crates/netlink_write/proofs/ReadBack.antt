@@ -13,7 +13,7 @@ use Rattle.netlink_headers.specs.Lengths.{roundUp4}
 use Rattle.netlink_headers.specs.Headers.{messageHeaderAt, genericHeaderAt}
 use Rattle.netlink_attributes.specs.Attributes.{attributeAt, partOf, onRead, attributes}
 use Rattle.netlink_attributes.specs.Attributes.Attributes.{done, attribute}
-use Rattle.netlink.specs.Policy.{nulAt, isName}
+use Rattle.netlink.specs.Policy.{nulAt, isNamePayload}
 use Rattle.netlink_headers.specs.declared.headers.MessageHeader.{MessageHeader}
 use Rattle.netlink_headers.specs.declared.headers.MessageHeaderRead.the-variants as M
 use Rattle.netlink_headers.specs.declared.headers.GenericHeader.{GenericHeader}
@@ -182,8 +182,8 @@ nul-back [] = refl
 nul-back (zero ∷ s) = refl
 nul-back (suc b ∷ s) = ap suc (nul-back s)
 
-pub name-back : (name : List ℕ) (max : ℕ) → nulAt name < max → isName max (nameBytes name) ≡ true
-unfolding isName nameBytes
+pub name-back : (name : List ℕ) (max : ℕ) → nulAt name < max → isNamePayload max (nameBytes name) ≡ true
+unfolding isNamePayload nameBytes
 name-back name max h =
     let s = take (nulAt name) name ++ (0 ∷ []) in
     let long : length s ≡ nulAt name + 1 = omega (arith, length-append (take (nulAt name) name) (0 ∷ []), length-name name (nulAt name) refl) in

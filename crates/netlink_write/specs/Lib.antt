@@ -1,3 +1,3 @@
 pub mod Headers
 pub mod Attributes
-pub mod Spelt
+pub mod PaddedName

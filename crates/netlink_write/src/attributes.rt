@@ -11,7 +11,7 @@ ghost use Rattle.page.specs.Page.{Wrote};
 ghost use Rattle.netlink_write.specs.Headers.{attributeHeaderBytes};
 ghost use Rattle.netlink_write.specs.Attributes.{attr, filled, nameBytes, identity, numbered};
 use crate::headers::put_attribute_header;
-use crate::spelt::put_spelt;
+use crate::padded_name::put_padded_name;
 use netlink_headers::headers::AttributeHeader;
 use netlink_headers::lengths::Stated;
 use page::bytes::put_filled;
@@ -36,7 +36,7 @@ pub fn put_name(page: &mut [u8], kind: u16, name: &[u8]) -> usize
     ensures { λ r. ⌜ Wrote (attr kind (nameBytes (now (name .entry)))) (now (page .entry)) (now (page .exit)) r ⌝ }
     ensures { λ r. ⌜ r ≤ length (now (name .entry)) + 8 ⌝ }
 {
-    let n = put_spelt(&mut page[AttributeHeader::SIZE..], name);
+    let n = put_padded_name(&mut page[AttributeHeader::SIZE..], name);
     // four bytes of header, and the NUL
     let stated = n + 5;
     put_attribute_header(page, stated as u16, kind);
@@ -127,7 +127,7 @@ fn put_identity(page: &mut [u8], number: u32, name: &[u8]) -> usize
     ensures { λ r. ⌜ r ≤ length (now (name .entry)) + 16 ⌝ }
 {
     put_number(page, 1, number);
-    if no_name(name) {
+    if is_unnamed(name) {
         return 8;
     }
     let m = put_name(&mut page[8..], 2, name);
@@ -135,7 +135,7 @@ fn put_identity(page: &mut [u8], number: u32, name: &[u8]) -> usize
 }
 
 // Whether no byte stands before the first NUL.
-fn no_name(name: &[u8]) -> bool
+fn is_unnamed(name: &[u8]) -> bool
     ensures { λ r. ⌜ r ≡ eqb (nulAt (now (name .entry))) 0 ⌝ }
 {
     if name.len() == 0 {

@@ -1,4 +1,4 @@
 // Writing netlink. Each function writes at the front of the page that it is lent, and leaves the rest of the page as it was.
 pub mod attributes;
 pub mod headers;
-mod spelt;
+mod padded_name;

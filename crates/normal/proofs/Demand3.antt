@@ -27,7 +27,7 @@ use Rattle.netlink_write.proofs.attributes.Laws.{length-attr}
 use Rattle.refusal.specs.Refusal.{numberOf}
 use Rattle.refusal.specs.declared.Refusal.{Refusal}
 use Rattle.bitset_form.specs.Bitset.{Bitset, effect, maskOf, valueOf}
-use Rattle.bitset_form.specs.Bitset.Bitset.{masked}
+use Rattle.bitset_form.specs.Bitset.Bitset.{maskedBitmap}
 use Rattle.bitset_form.specs.Bitset.Reading.{refused, accepted}
 use Rattle.bitset.specs.Judge.{bitsetReading}
 use Rattle.bitset_write.specs.Form.{partsBytes}
@@ -40,7 +40,7 @@ use Rattle.normal.proofs.Stable.{parts-accepted}
 
 -- the bitset that the normal form of b is
 normalOf : ℕ → Bitset → Bitset
-normalOf n b = masked n (has (wordsOf (wordsFor n) (valueOf b))) (has (wordsOf (wordsFor n) (maskOf n b)))
+normalOf n b = maskedBitmap n (has (wordsOf (wordsFor n) (valueOf b))) (has (wordsOf (wordsFor n) (maskOf n b)))
 
 module _ (names : List ℕ) (right : namesRight names ≡ true) where
   few : count names ≤ 512
@@ -124,7 +124,7 @@ module _ (names : List ℕ) (right : namesRight names ≡ true) where
         let fc = accepted-fits y 0 names c okc in
         (alike-forms (count names) few b c fb fc, forms-alike (count names) few b c fb fc)
 
-  pub refused-quiet : (contents : List ℕ) (room : ℕ) (r : Refusal) → 144 ≤ room → length contents ≤ 32768 → bitsetReading contents 0 names ≡ refused r
+  pub refused-unwritten : (contents : List ℕ) (room : ℕ) (r : Refusal) → 144 ≤ room → length contents ≤ 32768 → bitsetReading contents 0 names ≡ refused r
       → normalised contents names room ≡ record { number = numberOf r; bytes = [] }
   unfolding normalised
-  refused-quiet contents room r h l e = rw (right, le-ltb room 144 h, le-ltb 32768 (length contents) l, e)
+  refused-unwritten contents room r h l e = rw (right, le-ltb room 144 h, le-ltb 32768 (length contents) l, e)

@@ -25,19 +25,19 @@ use Rattle.refusal.specs.declared.Refusal.{Refusal}
 use Rattle.refusal.specs.declared.Refusal.the-variants.{MissingIn, ShortBitmap, PastLength, UnknownBit}
 use Rattle.bitset_form.specs.Policies.{bitsetPolicy, bitPolicy, bitsPolicy}
 use Rattle.bitset_form.specs.Bitset.{Bitset, Reading}
-use Rattle.bitset_form.specs.Bitset.Bitset.{masked, whole, listed, only}
+use Rattle.bitset_form.specs.Bitset.Bitset.{maskedBitmap, nomaskBitmap, maskedList, nomaskList}
 use Rattle.bitset_form.specs.Bitset.Reading.{refused, accepted}
-use Rattle.bitset_compact.specs.Compact.{bitmap, wholeReading, maskedReading, compactReading}
-use Rattle.bitset_bit.specs.Bit.{byIndex, onLookup, byName, identified, onLooked, partsReading, bitReading}
+use Rattle.bitset_compact.specs.Compact.{bitmap, nomaskReading, maskedReading, compactReading}
+use Rattle.bitset_bit.specs.Bit.{bitByIndex, onLookup, bitByName, identified, onIdentityRead, bitPartsReading, bitReading}
 use Rattle.refusal.specs.Refusal.{onStop}
 use Rattle.bitset_list.specs.BitList.{ListReading, onBit, bitsReading, asBitset, listReading}
-use Rattle.bitset_list.specs.BitList.ListReading.{stopped, entries}
+use Rattle.bitset_list.specs.BitList.ListReading.{listRefused, listEntries}
 use Rattle.bitset.specs.Judge as J
 use Rattle.bitset.specs.declared.judge.Mixing.{Mixing}
-use Rattle.bitset.specs.declared.judge.Mixing.the-variants.{Pure, At}
+use Rattle.bitset.specs.declared.judge.Mixing.the-variants.{Unmixed, At}
 use Rattle.bitset_bit.specs.declared.Identity.the-variants.{Number, Neither}
-use Rattle.bitset_bit.specs.declared.Looked.{Looked}
-use Rattle.bitset_bit.specs.declared.Looked.the-variants as L
+use Rattle.bitset_bit.specs.declared.IdentityRead.{IdentityRead}
+use Rattle.bitset_bit.specs.declared.IdentityRead.the-variants as L
 use Rattle.bitset_bit.specs.declared.BitRead.{BitRead}
 use Rattle.bitset_bit.specs.declared.BitRead.the-variants as B
 use Rattle.normal.specs.Claims.{Fits}
@@ -67,21 +67,21 @@ none-past f n size h i l = go (ltb i size) refl
     go false e = refl
     go true e = rw (le-leb n i l) at (any-not (past n f) size i h (ltb-true i size e))
 
-whole-fits : (s : List ℕ) (n size : ℕ) (value : Slot) (b : Bitset) → wholeReading s n size value ≡ accepted b → Fits n b
-unfolding wholeReading
+whole-fits : (s : List ℕ) (n size : ℕ) (value : Slot) (b : Bitset) → nomaskReading s n size value ≡ accepted b → Fits n b
+unfolding nomaskReading
 whole-fits s n size value b e =
     let f = has (wordsIn (bitmap s value)) in
-    let last : Reading = accepted (whole size f) in
+    let last : Reading = accepted (nomaskBitmap size f) in
     let then : Reading = cond (somePast f n size) (refused (PastLength (value .start - 4))) last in
     let one = pass (ltb (length (bitmap s value) / 4) (wordsFor size)) (ShortBitmap (value .start - 4)) then b e in
     let two = pass (somePast f n size) (PastLength (value .start - 4)) last b (one .1) in
-    rw (same-bitset (whole size f) b (two .1)) (none-past f n size (two .0))
+    rw (same-bitset (nomaskBitmap size f) b (two .1)) (none-past f n size (two .0))
 
 masked-fits : (s : List ℕ) (nest n size : ℕ) (value mask : Slot) (b : Bitset) → maskedReading s nest n size value mask ≡ accepted b → Fits n b
 unfolding maskedReading
 masked-fits s nest n size value mask b e =
     let f = has (wordsIn (bitmap s mask)) in
-    let last : Reading = accepted (masked size (has (wordsIn (bitmap s value))) f) in
+    let last : Reading = accepted (maskedBitmap size (has (wordsIn (bitmap s value))) f) in
     let past : Reading = cond (somePast f n size) (refused (PastLength (mask .start - 4))) last in
     let short : Reading = cond (ltb (length (bitmap s mask) / 4) (wordsFor size)) (refused (ShortBitmap (mask .start - 4))) past in
     let rest : Reading = cond (ltb (length (bitmap s value) / 4) (wordsFor size)) (refused (ShortBitmap (value .start - 4))) short in
@@ -89,79 +89,79 @@ masked-fits s nest n size value mask b e =
     let two = pass (ltb (length (bitmap s value) / 4) (wordsFor size)) (ShortBitmap (value .start - 4)) short b (one .1) in
     let three = pass (ltb (length (bitmap s mask) / 4) (wordsFor size)) (ShortBitmap (mask .start - 4)) past b (two .1) in
     let four = pass (somePast f n size) (PastLength (mask .start - 4)) last b (three .1) in
-    rw (same-bitset (masked size (has (wordsIn (bitmap s value))) f) b (four .1)) (none-past f n size (four .0))
+    rw (same-bitset (maskedBitmap size (has (wordsIn (bitmap s value))) f) b (four .1)) (none-past f n size (four .0))
 
 compact-fits : (s : List ℕ) (nest n : ℕ) (nomask size value mask : Slot) (b : Bitset) → compactReading s nest n nomask size value mask ≡ accepted b → Fits n b
 unfolding compactReading
 compact-fits s nest n nomask size value mask b e =
-    let rest : Reading = cond (nomask .present) (wholeReading s n (slotNumber s size) value) (maskedReading s nest n (slotNumber s size) value mask) in
+    let rest : Reading = cond (nomask .present) (nomaskReading s n (slotNumber s size) value) (maskedReading s nest n (slotNumber s size) value mask) in
     let one = pass (not (size .present)) (MissingIn 2 nest) (cond (not (value .present)) (refused (MissingIn 4 nest)) rest) b e in
     let two = pass (not (value .present)) (MissingIn 4 nest) rest b (one .1) in
     go (nomask .present) (two .1)
   where
-    go : (t : Bool) → cond t (wholeReading s n (slotNumber s size) value) (maskedReading s nest n (slotNumber s size) value mask) ≡ accepted b → Fits n b
+    go : (t : Bool) → cond t (nomaskReading s n (slotNumber s size) value) (maskedReading s nest n (slotNumber s size) value mask) ≡ accepted b → Fits n b
     go true q = whole-fits s n (slotNumber s size) value b q
     go false q = masked-fits s nest n (slotNumber s size) value mask b q
 
 -- the number of a BIT is below N
-index-below : (s : List ℕ) (n : ℕ) (index : Slot) (k : ℕ) → byIndex s n index ≡ L.Up (Number k) → k < n
-unfolding byIndex
+index-below : (s : List ℕ) (n : ℕ) (index : Slot) (k : ℕ) → bitByIndex s n index ≡ L.Read (Number k) → k < n
+unfolding bitByIndex
 index-below s n index k e = go (leb n (slotNumber s index)) refl e
   where
-    go : (t : Bool) → leb n (slotNumber s index) ≡ t → cond t (L.Refused (PastLength (index .start - 4))) (L.Up (Number (slotNumber s index))) ≡ L.Up (Number k) → k < n
+    go : (t : Bool) → leb n (slotNumber s index) ≡ t → cond t (L.Refused (PastLength (index .start - 4))) (L.Read (Number (slotNumber s index))) ≡ L.Read (Number k) → k < n
     go true q e = absurd (let z : _≡_ {A = ℕ} 0 1 = cc in omega arith)
     go false q e = let k : k ≡ slotNumber s index = cc in omega (arith, leb-false n (slotNumber s index) q)
 
-name-below : (s names : List ℕ) (name : Slot) (k : ℕ) → byName s names name ≡ L.Up (Number k) → k < count names
-unfolding byName
+name-below : (s names : List ℕ) (name : Slot) (k : ℕ) → bitByName s names name ≡ L.Read (Number k) → k < count names
+unfolding bitByName
 name-below s names name k e = go (lookup names (partOf s (name .start) (name .end))) refl e
   where
     p : List ℕ
     p = partOf s (name .start) (name .end)
 
-    found : (t : Bool) → lookup names p .found ≡ t → cond t (L.Up (Number (lookup names p .bit))) (L.Refused (UnknownBit (name .start - 4))) ≡ L.Up (Number k) → k < count names
+    found : (t : Bool) → lookup names p .found ≡ t → cond t (L.Read (Number (lookup names p .bit))) (L.Refused (UnknownBit (name .start - 4))) ≡ L.Read (Number k) → k < count names
     found true q e = let j : k ≡ lookup names p .bit = cc in rw j (lookup-found names p q .0)
     found false q e = absurd (let z : _≡_ {A = ℕ} 0 1 = cc in omega arith)
 
-    go : (l : Lookup) → lookup names p ≡ l → onLookup (lookup names p) (name .start - 4) ≡ L.Up (Number k) → k < count names
+    go : (l : Lookup) → lookup names p ≡ l → onLookup (lookup names p) (name .start - 4) ≡ L.Read (Number k) → k < count names
     go l q e = found (lookup names p .found) refl e
 
-identified-below : (s names : List ℕ) (index name : Slot) (k : ℕ) → identified s names index name ≡ L.Up (Number k) → k < count names
+identified-below : (s names : List ℕ) (index name : Slot) (k : ℕ) → identified s names index name ≡ L.Read (Number k) → k < count names
 unfolding identified
 identified-below s names index name k e = go (index .present) (name .present) e
   where
-    go : (t u : Bool) → cond t (byIndex s (count names) index) (cond u (byName s names name) (L.Up Neither)) ≡ L.Up (Number k) → k < count names
+    go : (t u : Bool) → cond t (bitByIndex s (count names) index) (cond u (bitByName s names name) (L.Read Neither)) ≡ L.Read (Number k) → k < count names
     go true u e = index-below s (count names) index k e
     go false true e = name-below s names name k e
     go false false e = absurd (let z : _≡_ {A = ℕ} 0 1 = cc in omega arith)
 
 bit-below : (s names : List ℕ) (from k : ℕ) (on : Bool) → bitReading s names from ≡ B.Bit k on → k < count names
-unfolding bitReading partsReading
+unfolding bitReading bitPartsReading
 bit-below s names from k on e =
     go (walked bitPolicy s from .stop) (identified s names (getD (walked bitPolicy s from .slots) 1 absent) (getD (walked bitPolicy s from .slots) 2 absent)) refl e
   where
     slots : List Slot
     slots = walked bitPolicy s from .slots
 
-    go : (t : Stop) (l : Looked) → identified s names (getD slots 1 absent) (getD slots 2 absent) ≡ l
-        → onStop t B.Refused (onLooked l (from - 4) (getD slots 3 absent .present)) ≡ B.Bit k on → k < count names
+    go : (t : Stop) (l : IdentityRead) → identified s names (getD slots 1 absent) (getD slots 2 absent) ≡ l
+        → onStop t B.Refused (onIdentityRead l (from - 4) (getD slots 3 absent .present)) ≡ B.Bit k on → k < count names
     go (S.At f at) l q e = absurd (let z : _≡_ {A = ℕ} 0 1 = cc in omega arith)
     go S.Whole (L.Refused r) q e = absurd (let z : _≡_ {A = ℕ} 0 1 = cc in omega arith)
-    go S.Whole (L.Up Neither) q e = absurd (let z : _≡_ {A = ℕ} 0 1 = cc in omega arith)
-    go S.Whole (L.Up (Number j)) q e = let i : k ≡ j = cc in rw i (identified-below s names (getD slots 1 absent) (getD slots 2 absent) j q)
+    go S.Whole (L.Read Neither) q e = absurd (let z : _≡_ {A = ℕ} 0 1 = cc in omega arith)
+    go S.Whole (L.Read (Number j)) q e = let i : k ≡ j = cc in rw i (identified-below s names (getD slots 1 absent) (getD slots 2 absent) j q)
 
-bits-below : (s names : List ℕ) (xs : Attributes) (es : List Listed) → bitsReading s names xs ≡ entries es → Below (count names) (listMask es)
+bits-below : (s names : List ℕ) (xs : Attributes) (es : List Listed) → bitsReading s names xs ≡ listEntries es → Below (count names) (listMask es)
 unfolding bitsReading listMask
 bits-below s names done es e i l = let q : es ≡ [] = cc in rw q
 bits-below s names (broken at) es e i l = let q : es ≡ [] = cc in rw q
 bits-below s names (attribute k b a z rest) es e i l =
     go (bitReading (partOf s 0 z) names a) refl (bitsReading s names rest) refl e (λ fs h. bits-below s names rest fs h i l)
   where
-    go : (v : BitRead) → bitReading (partOf s 0 z) names a ≡ v → (x : ListReading) → bitsReading s names rest ≡ x → onBit v x ≡ entries es
-        → ((fs : List Listed) → bitsReading s names rest ≡ entries fs → listMask fs i ≡ false) → listMask es i ≡ false
+    go : (v : BitRead) → bitReading (partOf s 0 z) names a ≡ v → (x : ListReading) → bitsReading s names rest ≡ x → onBit v x ≡ listEntries es
+        → ((fs : List Listed) → bitsReading s names rest ≡ listEntries fs → listMask fs i ≡ false) → listMask es i ≡ false
     go (B.Refused r) q x u e f = absurd (let z : _≡_ {A = ℕ} 0 1 = cc in omega arith)
-    go (B.Bit j on) q (stopped r) u e f = absurd (let z : _≡_ {A = ℕ} 0 1 = cc in omega arith)
-    go (B.Bit j on) q (entries fs) u e f =
+    go (B.Bit j on) q (listRefused r) u e f = absurd (let z : _≡_ {A = ℕ} 0 1 = cc in omega arith)
+    go (B.Bit j on) q (listEntries fs) u e f =
         let w : es ≡ record { bit = j; on = on } ∷ fs = cc in
         let lt = bit-below (partOf s 0 z) names a j on q in
         let ne : eqb i j ≡ false = ne-eqb i j (λ h. omega arith) in
@@ -179,14 +179,14 @@ list-fits s names nomask bits b e =
     xs = attributes p (bits .start)
 
     go : (t : Bool) (x : ListReading) → bitsReading p names xs ≡ x → asBitset t x ≡ accepted b → Fits (count names) b
-    go true (stopped r) q e = absurd (never r b e)
-    go false (stopped r) q e = absurd (never r b e)
-    go true (entries es) q e = let w : b ≡ only es = cc in rw w (bits-below p names xs es q)
-    go false (entries es) q e = let w : b ≡ listed es = cc in rw w (bits-below p names xs es q)
+    go true (listRefused r) q e = absurd (never r b e)
+    go false (listRefused r) q e = absurd (never r b e)
+    go true (listEntries es) q e = let w : b ≡ nomaskList es = cc in rw w (bits-below p names xs es q)
+    go false (listEntries es) q e = let w : b ≡ maskedList es = cc in rw w (bits-below p names xs es q)
 
 -- of an accepted bitset
 pub accepted-fits : (s : List ℕ) (from : ℕ) (names : List ℕ) (b : Bitset) → J.bitsetReading s from names ≡ accepted b → Fits (count names) b
-unfolding J.bitsetReading J.partsReading
+unfolding J.bitsetReading J.bitsetPartsReading
 accepted-fits s from names b e =
     parts (getD slots 1 absent) (getD slots 2 absent) (getD slots 3 absent) (getD slots 4 absent) (getD slots 5 absent)
     (pass-stop (walked bitsetPolicy s from .stop) _ b e)
@@ -203,5 +203,5 @@ accepted-fits s from names b e =
         go : (m : Mixing) (t : Bool) → J.onMixing m (cond t (listReading s names nomask bits) (compactReading s (from - 4) (count names) nomask size value mask)) ≡ accepted b
             → Fits (count names) b
         go (At at) t e = absurd (never _ b e)
-        go Pure true e = list-fits s names nomask bits b e
-        go Pure false e = compact-fits s (from - 4) (count names) nomask size value mask b e
+        go Unmixed true e = list-fits s names nomask bits b e
+        go Unmixed false e = compact-fits s (from - 4) (count names) nomask size value mask b e

@@ -22,14 +22,14 @@ use Rattle.bitset_form.specs.declared.Judgement.the-variants.{Accepted, Refused
 use Rattle.bitset_form.specs.declared.Judged.{Judged}
 use Rattle.page.specs.Page.{Wrote}
 use Rattle.bitset_write.specs.Form.{formBytes}
-use Rattle.normal.specs.Normal.{normalForm, Outcome, refusedBy, onReading, normalised, shown, Normalised}
+use Rattle.normal.specs.Normal.{normalForm, NormalAnswer, refusedBy, readingAnswer, normalised, normalOf, Normalised}
 use Rattle.normal.specs.declared.Normal.{Normal}
 
-pub refused-as : (y : Refusal) (k : ℕ) → k ≡ numberOf y → record { number = k; written = 0 } ≡ shown (refusedBy y)
+pub refused-as : (y : Refusal) (k : ℕ) → k ≡ numberOf y → record { number = k; written = 0 } ≡ normalOf (refusedBy y)
 refused-as y k e = ap (λ (x : ℕ). record { number = x; written = 0 }) e
 
 -- a refusal writes nothing
-quiet : (o : Outcome) (y : Refusal) (P : List ℕ) (r : Normal) → r ≡ shown (refusedBy y) → o ≡ refusedBy y → Normalised o P P r
+quiet : (o : NormalAnswer) (y : Refusal) (P : List ℕ) (r : Normal) → r ≡ normalOf (refusedBy y) → o ≡ refusedBy y → Normalised o P P r
 quiet o y P r e q = rw q (record { result = e; page = sym (put-nil P) })
 
 -- a judged bitset that is refused, and one that is accepted
@@ -42,7 +42,7 @@ reading-refused n (accepted b) y e = absurd (let z : _≡_ {A = ℕ} 0 1 = cc in
     never z = omega arith
 
 written : (n : ℕ) (x : Reading) (P Q m v : List ℕ) (w : ℕ) → judgedAs n x .judgement ≡ Accepted → m ≡ judgedAs n x .form .mask → v ≡ judgedAs n x .form .value
-    → Wrote (formBytes n m v) P Q w → Normalised (onReading x n) P Q (record { number = 0; written = w })
+    → Wrote (formBytes n m v) P Q w → Normalised (readingAnswer x n) P Q (record { number = 0; written = w })
 unfolding judgedAs normalForm
 written n (refused r) P Q m v w e em ev h = absurd (let z : _≡_ {A = ℕ} 0 1 = cc in never z)
   where
@@ -59,21 +59,21 @@ written n (accepted b) P Q m v w e em ev h =
 
 -- the contents judged, and the form written
 module _ (contents names P : List ℕ) (j : Judged) (ej : j ≡ judgedAs (count names) (bitsetReading contents 0 names)) where
-  pub put-refused : (y : Refusal) (r : Normal) → j .judgement ≡ Refused y → r ≡ shown (refusedBy y)
-      → Normalised (onReading (bitsetReading contents 0 names) (count names)) P P r
+  pub put-refused : (y : Refusal) (r : Normal) → j .judgement ≡ Refused y → r ≡ normalOf (refusedBy y)
+      → Normalised (readingAnswer (bitsetReading contents 0 names) (count names)) P P r
   put-refused y r q e =
       quiet _ y P r e
-      (ap (λ (x : Reading). onReading x (count names))
+      (ap (λ (x : Reading). readingAnswer x (count names))
       (reading-refused (count names) (bitsetReading contents 0 names) y (ap (λ (x : Judged). x .judgement) (sym ej) ∙ q)))
 
   pub put-accepted : (n w : ℕ) (Q : List ℕ) → n ≡ count names → j .judgement ≡ Accepted → Wrote (formBytes n (j .form .mask) (j .form .value)) P Q w
-      → Normalised (onReading (bitsetReading contents 0 names) (count names)) P Q (record { number = 0; written = w })
+      → Normalised (readingAnswer (bitsetReading contents 0 names) (count names)) P Q (record { number = 0; written = w })
   put-accepted n w Q en q h =
       written (count names) (bitsetReading contents 0 names) P Q (j .form .mask) (j .form .value) w (ap (λ (x : Judged). x .judgement) (sym ej) ∙ q)
       (ap (λ (x : Judged). x .form .mask) ej) (ap (λ (x : Judged). x .form .value) ej) (rw en at h)
 
 module _ (contents names P : List ℕ) (t : Bool) (et : t ≡ namesRight names) where
-  pub normal-box : (r : Normal) → not t ≡ true → r ≡ shown (refusedBy Box) → Normalised (normalised contents names (length P)) P P r
+  pub normal-box : (r : Normal) → not t ≡ true → r ≡ normalOf (refusedBy Box) → Normalised (normalised contents names (length P)) P P r
   unfolding normalised
   normal-box r z e = quiet _ Box P r e (rw (← et, z))
 
@@ -81,19 +81,19 @@ module _ (contents names P : List ℕ) (t : Bool) (et : t ≡ namesRight names) 
   normal-few z = right-means names (sym et ∙ not-false t z) .few
 
   module _ (right : not t ≡ false) where
-    pub normal-page : (r : Normal) → length P < 144 → r ≡ shown (refusedBy Page) → Normalised (normalised contents names (length P)) P P r
+    pub normal-page : (r : Normal) → length P < 144 → r ≡ normalOf (refusedBy Page) → Normalised (normalised contents names (length P)) P P r
     unfolding normalised
     normal-page r l e = quiet _ Page P r e (rw (← et, right, lt-ltb _ _ l))
 
     module _ (room : 144 ≤ length P) where
-      pub normal-long : (r : Normal) → 32768 < length contents → r ≡ shown (refusedBy Datagram) → Normalised (normalised contents names (length P)) P P r
+      pub normal-long : (r : Normal) → 32768 < length contents → r ≡ normalOf (refusedBy Datagram) → Normalised (normalised contents names (length P)) P P r
       unfolding normalised
       normal-long r l e = quiet _ Datagram P r e (rw (← et, right, le-ltb _ _ room, lt-ltb _ _ l))
 
-      pub normal-judged : (r : Normal) (Q : List ℕ) → length contents ≤ 32768 → Normalised (onReading (bitsetReading contents 0 names) (count names)) P Q r
+      pub normal-judged : (r : Normal) (Q : List ℕ) → length contents ≤ 32768 → Normalised (readingAnswer (bitsetReading contents 0 names) (count names)) P Q r
           → Normalised (normalised contents names (length P)) P Q r
       unfolding normalised
       normal-judged r Q short h = rw read h
         where
-          read : normalised contents names (length P) ≡ onReading (bitsetReading contents 0 names) (count names)
+          read : normalised contents names (length P) ≡ readingAnswer (bitsetReading contents 0 names) (count names)
           read = rw (← et, right, le-ltb _ _ room, le-ltb _ _ short)

@@ -7,22 +7,22 @@ use Rattle.bits.specs.Bit.{number}
 use Rattle.bits.specs.Set.{has, wordsOf, somePast, past}
 use Rattle.word_bytes.specs.Bytes.{table, wordsIn, bytesOf}
 use Rattle.bits.specs.Change.{applied, listMask, listValue}
-use Rattle.entries.specs.Entry.{entryAt, sameByte, same}
-use Rattle.names.specs.Search.{isName, noName, lookup}
+use Rattle.entries.specs.Entry.{entryAt, sameByte, sameEntry}
+use Rattle.names.specs.Search.{isEntry, noName, lookup}
 use Rattle.netlink_attributes.specs.Attributes.{attributeAt, partOf, attributesUpTo, attributes}
 use Rattle.netlink.specs.Policy as P
-use Rattle.netlink.specs.Walk.{firstFault, lastOf, walked, slotNumber}
+use Rattle.netlink.specs.Walk.{firstFault, lastOfType, walked, slotNumber}
 use Rattle.netlink_write.specs.Headers.{attributeHeaderBytes}
 use Rattle.netlink_write.specs.Attributes.{padding, attr, nest}
 use Rattle.bitset_form.specs.Bitset.{effect, maskOf, valueOf}
-use Rattle.bitset_compact.specs.Compact.{wholeReading, maskedReading, compactReading}
+use Rattle.bitset_compact.specs.Compact.{nomaskReading, maskedReading, compactReading}
 use Rattle.bitset_bit.specs.Bit as BT
 use Rattle.bitset_list.specs.BitList as BL
-use Rattle.bitset.specs.Judge.{mixedAt, partsReading, bitsetReading}
+use Rattle.bitset.specs.Judge.{mixedAt, bitsetPartsReading, bitsetReading}
 use Rattle.bitset_write.specs.Form.{partsBytes, formBytes}
 use Rattle.normal.specs.Normal.{normalForm}
 use Rattle.normal.specs.Sheet.{sheetNames, sheet, holds}
 
 pub sheet-holds : holds sheet ≡ true
-unfolding sheetNames sheet u16At u32At all any first number has wordsOf somePast past table wordsIn bytesOf applied listMask listValue entryAt sameByte same isName noName lookup attributeAt partOf attributesUpTo attributes P.ruleOf P.nulAt P.isName P.plain P.nested P.judged firstFault lastOf walked slotNumber attributeHeaderBytes padding attr nest effect maskOf valueOf wholeReading maskedReading compactReading BT.byIndex BT.byName BT.identified BT.partsReading BT.bitReading BL.bitsReading BL.listReading mixedAt partsReading bitsetReading partsBytes formBytes normalForm
+unfolding sheetNames sheet u16At u32At all any first number has wordsOf somePast past table wordsIn bytesOf applied listMask listValue entryAt sameByte sameEntry isEntry noName lookup attributeAt partOf attributesUpTo attributes P.ruleOf P.nulAt P.isNamePayload P.plain P.nested P.judged firstFault lastOfType walked slotNumber attributeHeaderBytes padding attr nest effect maskOf valueOf nomaskReading maskedReading compactReading BT.bitByIndex BT.bitByName BT.identified BT.bitPartsReading BT.bitReading BL.bitsReading BL.listReading mixedAt bitsetPartsReading bitsetReading partsBytes formBytes normalForm
 sheet-holds = refl

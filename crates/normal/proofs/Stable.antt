@@ -22,17 +22,17 @@ use Rattle.names.proofs.Rules.{right-means}
 use Rattle.netlink_attributes.specs.Attributes.{attributes, partOf}
 use Rattle.netlink_attributes.specs.Attributes.Attributes.{done, attribute}
 use Rattle.netlink.specs.Policy.{ruleOf, plain, judged}
-use Rattle.netlink.specs.Walk.{found, absent, firstFault, lastOf, walked, slotNumber}
+use Rattle.netlink.specs.Walk.{found, absent, firstFault, lastOfType, walked, slotNumber}
 use Rattle.netlink.specs.declared.walk.Slot.{Slot}
 use Rattle.netlink.specs.declared.walk.Stop.the-variants as S
 use Rattle.netlink_write.specs.Attributes.{attr}
 use Rattle.netlink_write.proofs.attributes.Laws.{length-attr}
 use Rattle.netlink_write.proofs.ReadBack.{payload-back, attributes-back, attributes-end}
 use Rattle.bitset_form.specs.Policies.{bitsetPolicy}
-use Rattle.bitset_form.specs.Bitset.Bitset.{masked}
+use Rattle.bitset_form.specs.Bitset.Bitset.{maskedBitmap}
 use Rattle.bitset_form.specs.Bitset.Reading.{accepted}
 use Rattle.bitset_compact.specs.Compact.{maskedReading, compactReading}
-use Rattle.bitset.specs.Judge.{mixedAt, partsReading, bitsetReading}
+use Rattle.bitset.specs.Judge.{mixedAt, bitsetPartsReading, bitsetReading}
 use Rattle.bitset_write.specs.Form.{partsBytes}
 
 -- The three attributes of a form, read back.
@@ -126,7 +126,7 @@ module _ (n w : ℕ) (vs ms : List ℕ) (lv : length vs ≡ w) (lm : length ms �
   slots = absent ∷ absent ∷ found 4 8 ∷ absent ∷ found 12 (12 + w * 4) ∷ found (16 + w * 4) (16 + w * 4 + w * 4) ∷ absent ∷ absent ∷ []
 
   form-walked : walked bitsetPolicy form 0 ≡ record { stop = S.Whole; slots = slots }
-  unfolding walked slots firstFault lastOf ruleOf judged plain
+  unfolding walked slots firstFault lastOfType ruleOf judged plain
   form-walked = rw (all-three, size-back)
 
 -- a compact bitset whose SIZE is N and whose bitmaps have the words of the set
@@ -140,7 +140,7 @@ module _ (s : List ℕ) (nest n w : ℕ) (value mask : Slot) (vs ms : List ℕ) 
   unfolding somePast past
   no-past f = any-none (past n f) n (λ k l. ap (λ (t : Bool). t && f k) (lt-leb n k l))
 
-  pub masked-form : maskedReading s nest n n value mask ≡ accepted (masked n (has vs) (has ms))
+  pub masked-form : maskedReading s nest n n value mask ≡ accepted (maskedBitmap n (has vs) (has ms))
   unfolding maskedReading
   masked-form =
       cond-false (not (mask .present)) _ _ (ap not here)
@@ -149,8 +149,8 @@ module _ (s : List ℕ) (nest n w : ℕ) (value mask : Slot) (vs ms : List ℕ) 
 -- the form of any mask and value
 module _ (names : List ℕ) (right : namesRight names ≡ true) (f g : ℕ → Bool) where
   pub parts-accepted : bitsetReading (partsBytes (count names) (wordsOf (wordsFor (count names)) f) (wordsOf (wordsFor (count names)) g)) 0 names
-      ≡ accepted (masked (count names) (has (wordsOf (wordsFor (count names)) f)) (has (wordsOf (wordsFor (count names)) g)))
-  unfolding bitsetReading partsReading mixedAt compactReading slots slotNumber form
+      ≡ accepted (maskedBitmap (count names) (has (wordsOf (wordsFor (count names)) f)) (has (wordsOf (wordsFor (count names)) g)))
+  unfolding bitsetReading bitsetPartsReading mixedAt compactReading slots slotNumber form
   parts-accepted =
       let k : count names ≤ 512 = right-means names right .few in
       let u = wordsFor (count names) in

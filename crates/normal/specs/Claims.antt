@@ -4,14 +4,14 @@ use mathlib.Core.Bool.{Bool, _&&_}
 use lib.Dec.{ltb}
 use Rattle.bits.specs.Change.{Same, Below, listMask}
 use Rattle.bitset_form.specs.Bitset.{Bitset, effect}
-use Rattle.bitset_form.specs.Bitset.Bitset.{masked, whole, listed, only}
+use Rattle.bitset_form.specs.Bitset.Bitset.{maskedBitmap, nomaskBitmap, maskedList, nomaskList}
 
 -- no bit that the bitset speaks of is at or past N: so much 20 and 21 leave of an accepted bitset
 abbrev pub Fits : ℕ → Bitset → Type 0
-Fits n (masked size value mask) = Below n (λ i. ltb i size && mask i)
-Fits n (whole size value) = Below n (λ i. ltb i size && value i)
-Fits n (listed es) = Below n (listMask es)
-Fits n (only es) = Below n (listMask es)
+Fits n (maskedBitmap size value mask) = Below n (λ i. ltb i size && mask i)
+Fits n (nomaskBitmap size value) = Below n (λ i. ltb i size && value i)
+Fits n (maskedList es) = Below n (listMask es)
+Fits n (nomaskList es) = Below n (listMask es)
 
 -- "two bitsets change it alike if both make the same set of it", for every starting set of bits below N
 abbrev pub ActAlike : ℕ → Bitset → Bitset → Type 0

@@ -23,30 +23,30 @@ unfoldable pub normalForm : ℕ → Bitset → List ℕ
 normalForm n b = formBytes n (wordsOf 16 (maskOf n b)) (wordsOf 16 (valueOf b))
 
 -- the number, 0 if accepted, and the bytes written
-pub record Outcome : Type 0 where
+pub record NormalAnswer : Type 0 where
   pub number : ℕ
   pub bytes : List ℕ
 
-abbrev pub refusedBy : Refusal → Outcome
+abbrev pub refusedBy : Refusal → NormalAnswer
 refusedBy r = record { number = numberOf r; bytes = [] }
 
-abbrev pub onReading : Reading → ℕ → Outcome
-onReading (refused r) n = refusedBy r
-onReading (accepted b) n = record { number = 0; bytes = normalForm n b }
+abbrev pub readingAnswer : Reading → ℕ → NormalAnswer
+readingAnswer (refused r) n = refusedBy r
+readingAnswer (accepted b) n = record { number = 0; bytes = normalForm n b }
 
 -- "It refuses by 1 (list), 2 (page), 3 (contents over 32,768 bytes), then 10 to 13 and 18 to 22 in the handler's order, and then writes nothing"
-unfoldable pub normalised : List ℕ → List ℕ → ℕ → Outcome
+unfoldable pub normalised : List ℕ → List ℕ → ℕ → NormalAnswer
 normalised contents names room =
     cond (not (namesRight names)) (refusedBy Box)
     (cond (ltb room 144) (refusedBy Page)
     (cond (ltb 32768 (length contents)) (refusedBy Datagram)
-    (onReading (bitsetReading contents 0 names) (count names))))
+    (readingAnswer (bitsetReading contents 0 names) (count names))))
 
 -- the code's answer: the count is the length of the bytes
-abbrev pub shown : Outcome → Normal
-shown o = record { number = o .number; written = length (o .bytes) }
+abbrev pub normalOf : NormalAnswer → Normal
+normalOf o = record { number = o .number; written = length (o .bytes) }
 
 -- the bytes stand at the front of the page, and the rest of the page is as before
-pub record Normalised (o : Outcome) (before after : List ℕ) (r : Normal) : Type 0 where
-  pub result : r ≡ shown o
+pub record Normalised (o : NormalAnswer) (before after : List ℕ) (r : Normal) : Type 0 where
+  pub result : r ≡ normalOf o
   pub page : after ≡ put before (o .bytes)

@@ -59,29 +59,29 @@ pub data Expected : Type 0 where
   makes : List ℕ → Expected
   normal : (made value mask : List ℕ) → Expected
 
-pub record Row : Type 0 where
+pub record SheetRow : Type 0 where
   pub contents : List ℕ
   pub expected : Expected
 
-abbrev pub row : List ℕ → Expected → Row
-row contents expected = record { contents = contents; expected = expected }
+abbrev pub sheetRow : List ℕ → Expected → SheetRow
+sheetRow contents expected = record { contents = contents; expected = expected }
 
 -- P1 to P12, in order; P11 is two rows
-unfoldable pub sheet : List Row
+unfoldable pub sheet : List SheetRow
 sheet =
-    row (SIZE 40 ++ (VALUE (8 ∷ 0 ∷ []) ++ MASK (8 ∷ 2 ∷ []))) (normal (9 ∷ 0 ∷ []) (8 ∷ 0 ∷ []) (8 ∷ 2 ∷ []))
-    ∷ row (NOMASK ++ (SIZE 3 ++ VALUE (2 ∷ []))) (normal (2 ∷ 0 ∷ []) (2 ∷ 0 ∷ []) (4294967295 ∷ 255 ∷ []))
-    ∷ row (NOMASK ++ (SIZE 0 ++ VALUE [])) (makes (0 ∷ 0 ∷ []))
-    ∷ row (SIZE 0 ++ (VALUE [] ++ MASK [])) (makes (1 ∷ 2 ∷ []))
-    ∷ row (SIZE 64 ++ (VALUE (0 ∷ 0 ∷ []) ++ MASK (0 ∷ 256 ∷ []))) (number 20 20)
-    ∷ row (SIZE 64 ++ (VALUE (0 ∷ 256 ∷ []) ++ MASK (0 ∷ 0 ∷ []))) (makes (1 ∷ 2 ∷ []))
-    ∷ row (NOMASK ++ (SIZE 33 ++ VALUE (0 ∷ []))) (number 19 12)
-    ∷ row (NOMASK ++ (SIZE 4294967295 ++ VALUE (0 ∷ []))) (number 19 12)
-    ∷ row (BITS (BIT (INDEX 3 ++ ON) ++ BIT (NAME lldp))) (normal (1 ∷ 2 ∷ []) (0 ∷ 0 ∷ []) (8 ∷ 0 ∷ []))
-    ∷ row (NOMASK ++ BITS []) (makes (0 ∷ 0 ∷ []))
-    ∷ row (BITS (BIT (INDEX 39 ++ ON))) (makes (1 ∷ 130 ∷ []))
-    ∷ row (BITS (BIT (INDEX 40))) (number 20 8)
-    ∷ row (SIZE 3 ++ (VALUE (4294967295 ∷ []) ++ MASK (4294967295 ∷ []))) (makes (7 ∷ 2 ∷ []))
+    sheetRow (SIZE 40 ++ (VALUE (8 ∷ 0 ∷ []) ++ MASK (8 ∷ 2 ∷ []))) (normal (9 ∷ 0 ∷ []) (8 ∷ 0 ∷ []) (8 ∷ 2 ∷ []))
+    ∷ sheetRow (NOMASK ++ (SIZE 3 ++ VALUE (2 ∷ []))) (normal (2 ∷ 0 ∷ []) (2 ∷ 0 ∷ []) (4294967295 ∷ 255 ∷ []))
+    ∷ sheetRow (NOMASK ++ (SIZE 0 ++ VALUE [])) (makes (0 ∷ 0 ∷ []))
+    ∷ sheetRow (SIZE 0 ++ (VALUE [] ++ MASK [])) (makes (1 ∷ 2 ∷ []))
+    ∷ sheetRow (SIZE 64 ++ (VALUE (0 ∷ 0 ∷ []) ++ MASK (0 ∷ 256 ∷ []))) (number 20 20)
+    ∷ sheetRow (SIZE 64 ++ (VALUE (0 ∷ 256 ∷ []) ++ MASK (0 ∷ 0 ∷ []))) (makes (1 ∷ 2 ∷ []))
+    ∷ sheetRow (NOMASK ++ (SIZE 33 ++ VALUE (0 ∷ []))) (number 19 12)
+    ∷ sheetRow (NOMASK ++ (SIZE 4294967295 ++ VALUE (0 ∷ []))) (number 19 12)
+    ∷ sheetRow (BITS (BIT (INDEX 3 ++ ON) ++ BIT (NAME lldp))) (normal (1 ∷ 2 ∷ []) (0 ∷ 0 ∷ []) (8 ∷ 0 ∷ []))
+    ∷ sheetRow (NOMASK ++ BITS []) (makes (0 ∷ 0 ∷ []))
+    ∷ sheetRow (BITS (BIT (INDEX 39 ++ ON))) (makes (1 ∷ 130 ∷ []))
+    ∷ sheetRow (BITS (BIT (INDEX 40))) (number 20 8)
+    ∷ sheetRow (SIZE 3 ++ (VALUE (4294967295 ∷ []) ++ MASK (4294967295 ∷ []))) (makes (7 ∷ 2 ∷ []))
     ∷ []
 
 -- whether two lists are equal
@@ -112,6 +112,6 @@ agrees (accepted b) (makes after) = sameList (made b) after
 agrees (accepted b) (normal after value mask) = sameList (made b) after && sameList (normalForm 40 b) (partsBytes 40 value mask)
 
 -- the one claim: every row of the sheet is so
-abbrev pub holds : List Row → Bool
+abbrev pub holds : List SheetRow → Bool
 holds [] = true
 holds (r ∷ rs) = agrees (bitsetReading (r .contents) 0 sheetNames) (r .expected) && holds rs

@@ -4,8 +4,8 @@ ghost use Prim.Native.Nat.{_≤_};
 ghost use lib.ListN.{length};
 ghost use Rattle.entries.specs.Entry.{count};
 ghost use Rattle.bitset.specs.Judge.{bitsetReading};
-ghost use Rattle.normal.specs.Normal.{onReading, normalised, Normalised, shown, refusedBy};
-use bitset::judge::judge;
+ghost use Rattle.normal.specs.Normal.{readingAnswer, normalised, Normalised, normalOf, refusedBy};
+use bitset::judge::judge_bitset;
 use bitset_form::Judgement;
 use bitset_write::form::put_form;
 use refusal::Refusal;
@@ -20,8 +20,8 @@ pub struct Normal {
     pub written: usize,
 }
 
-fn refused(why: Refusal) -> Normal
-    ensures { λ r. ⌜ r ≡ shown (refusedBy why) ⌝ }
+fn refused_by(why: Refusal) -> Normal
+    ensures { λ r. ⌜ r ≡ normalOf (refusedBy why) ⌝ }
 {
     Normal {
         number: why.number(),
@@ -32,12 +32,12 @@ fn refused(why: Refusal) -> Normal
 // Judges the contents, and writes the normal form of a bitset that is accepted.
 fn put_normal(contents: &[u8], names: &[u8], page: &mut [u8]) -> Normal
     requires { ⌜ (count (now names) ≤ 512) × (144 ≤ length (now page)) ⌝ }
-    ensures { λ r. ⌜ Normalised (onReading (bitsetReading (now (contents .entry)) 0 (now (names .entry))) (count (now (names .entry)))) (now (page .entry)) (now (page .exit)) r ⌝ }
+    ensures { λ r. ⌜ Normalised (readingAnswer (bitsetReading (now (contents .entry)) 0 (now (names .entry))) (count (now (names .entry)))) (now (page .entry)) (now (page .exit)) r ⌝ }
 {
-    let judged = judge(contents, 0, names);
+    let judged = judge_bitset(contents, 0, names);
     let judgement = judged.judgement;
     if let Judgement::Refused(why) = judgement {
-        return refused(why);
+        return refused_by(why);
     }
     let form = judged.form;
     let mask = form.mask;
@@ -51,13 +51,13 @@ pub fn normalise(contents: &[u8], names: &[u8], page: &mut [u8]) -> Normal
     ensures { λ r. ⌜ Normalised (normalised (now (contents .entry)) (now (names .entry)) (length (now (page .entry)))) (now (page .entry)) (now (page .exit)) r ⌝ }
 {
     if !names::names_right(names) {
-        return refused(Refusal::Box);
+        return refused_by(Refusal::Box);
     }
     if page.len() < PAGE {
-        return refused(Refusal::Page);
+        return refused_by(Refusal::Page);
     }
     if CONTENTS < contents.len() {
-        return refused(Refusal::Datagram);
+        return refused_by(Refusal::Datagram);
     }
     put_normal(contents, names, page)
 }

@@ -13,14 +13,14 @@ use Rattle.entries.specs.Entry.{count}
 use Rattle.netlink_attributes.specs.Attributes.{attributes, partOf}
 use Rattle.netlink_attributes.specs.Attributes.Attributes.{done, attribute}
 use Rattle.netlink.specs.Policy.{nulAt, ruleOf, plain, judged}
-use Rattle.netlink.specs.Walk.{found, absent, firstFault, lastOf, walked, slotNumber}
+use Rattle.netlink.specs.Walk.{found, absent, firstFault, lastOfType, walked, slotNumber}
 use Rattle.netlink.specs.declared.walk.Slot.{Slot}
 use Rattle.netlink.specs.declared.walk.Stop.the-variants.{Whole}
 use Rattle.netlink_write.specs.Attributes.{attr, nameBytes, named, identity}
 use Rattle.netlink_write.proofs.ReadBack.{attributes-end, name-back}
 use Rattle.netlink_write.proofs.attributes.Laws.{length-attr}
 use Rattle.bitset_form.specs.Policies.{bitPolicy}
-use Rattle.bitset_bit.specs.Bit.{byIndex, identified, partsReading, bitReading}
+use Rattle.bitset_bit.specs.Bit.{bitByIndex, identified, bitPartsReading, bitReading}
 use Rattle.bitset_bit.specs.declared.BitRead.the-variants.{Bit}
 use Rattle.bitset_reply.proofs.list.Lengths.{length-nameBytes}
 use Rattle.read_back.proofs.Places.{payload-at, attribute-at, walked-by}
@@ -53,12 +53,12 @@ module _ (s front names name : List ℕ) (i at : ℕ) (ea : at ≡ length front)
         → walked bitPolicy s at
         ≡ record { stop = Whole; slots = absent ∷ found (at + 4) (at + 8) ∷ x ∷ absent ∷ absent ∷ absent ∷ absent ∷ absent ∷ [] }
         → bitReading s names at ≡ Bit i false
-    unfolding bitReading partsReading identified byIndex
+    unfolding bitReading bitPartsReading identified bitByIndex
     says x w = rw (w, number-back, lt-leb (count names) i l)
 
   -- without a name
   plain-bit : s ≡ front ++ (attr 1 (le32 i) ++ []) → bitReading s names at ≡ Bit i false
-  unfolding firstFault lastOf judged ruleOf plain
+  unfolding firstFault lastOfType judged ruleOf plain
   plain-bit e =
       let end = attributes-end s (at + 8) (omega (arith, rest-end [] e)) in
       says [] e absent
@@ -90,7 +90,7 @@ module _ (s front names name : List ℕ) (i at : ℕ) (ea : at ≡ length front)
         (omega arith) (omega arith)
 
     named-bit : bitReading s names at ≡ Bit i false
-    unfolding firstFault lastOf judged ruleOf plain
+    unfolding firstFault lastOfType judged ruleOf plain
     named-bit =
         says (attr 2 (nameBytes name)) e (found (at + 12) end)
         (walked-by bitPolicy s at (attribute 1 0 (at + 4) (at + 8) (attribute 2 0 (at + 12) end done))

@@ -18,7 +18,7 @@ use Rattle.netlink_write.specs.Attributes.{identity, numbered}
 use Rattle.netlink_write.proofs.ReadBack.{attributes-end}
 use Rattle.bitset_form.specs.Policies.{bitsPolicy}
 use Rattle.bitset_list.specs.BitList.{bitsReading}
-use Rattle.bitset_list.specs.BitList.ListReading.{entries}
+use Rattle.bitset_list.specs.BitList.ListReading.{listEntries}
 use Rattle.bitset_reply.specs.List.{bitIn, bitsBytes}
 use Rattle.bitset_reply.proofs.list.Lengths.{identity-whole, identity-most, Short}
 use Rattle.read_back.proofs.Places.{upTo, nest-at, contents-at, cut-at}
@@ -93,7 +93,7 @@ module _ (names : List ℕ) (listed : ℕ → Bool) where
   -- they are whole, and each is read
   module _ (s : List ℕ) (few : count names ≤ 512) where
     Read : ℕ → List Listed → Type 0
-    Read at es = (firstFault bitsPolicy s (attributes s at) ≡ Whole) × (bitsReading s names (attributes s at) ≡ entries es)
+    Read at es = (firstFault bitsPolicy s (attributes s at) ≡ Whole) × (bitsReading s names (attributes s at) ≡ listEntries es)
 
     read-one : (pre rest : List ℕ) (es : List Listed) (k at : ℕ) → s ≡ pre ++ (numbered 1 k (entryAt names k) ++ rest) → at ≡ length pre → k < count names
         → nulAt (entryAt names k) < 32 → Read (at + length (numbered 1 k (entryAt names k))) es → Read at (record { bit = k; on = false } ∷ es)
@@ -128,7 +128,7 @@ module _ (names : List ℕ) (listed : ℕ → Bool) where
         go false q rest = rest pre at q ea
 
     pub list-back : (pre : List ℕ) (n at : ℕ) → s ≡ pre ++ bitsBytes names listed n → at ≡ length pre → n ≤ count names → Short names n
-        → (firstFault bitsPolicy s (attributes s at) ≡ Whole) × (bitsReading s names (attributes s at) ≡ entries (listedFrom listed 0 n))
+        → (firstFault bitsPolicy s (attributes s at) ≡ Whole) × (bitsReading s names (attributes s at) ≡ listEntries (listedFrom listed 0 n))
     unfolding Read
     list-back pre n at e ea l h =
         read-from n 0 pre at (e ∙ ap (λ (x : List ℕ). pre ++ x) (all-from n)) ea (omega arith) (λ i u. h i (omega arith))

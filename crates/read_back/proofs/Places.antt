@@ -7,7 +7,7 @@ use lib.Seq.{take-all}
 use native.Mathlib.Omega.{arith}
 use Rattle.netlink_attributes.specs.Attributes.{Attributes, attributes, partOf}
 use Rattle.netlink_attributes.specs.Attributes.Attributes.{attribute}
-use Rattle.netlink.specs.Walk.{absent, firstFault, lastOf, eachType, onStop, walked}
+use Rattle.netlink.specs.Walk.{absent, firstFault, lastOfType, eachType, walkedTo, walked}
 use Rattle.netlink.specs.declared.policy.Rule.{Rule}
 use Rattle.netlink.specs.declared.walk.Stop.{Stop}
 use Rattle.netlink.specs.declared.walk.Stop.the-variants.{Whole}
@@ -55,8 +55,8 @@ module _ (s pre post contents : List ℕ) (kind at : ℕ) (e : s ≡ pre ++ (nes
 
 -- a walk of attributes that are known
 pub walked-by : (policy : List Rule) (s : List ℕ) (from : ℕ) (xs : Attributes) → attributes s from ≡ xs → firstFault policy s xs ≡ Whole
-    → walked policy s from ≡ record { stop = Whole; slots = eachType (λ kind. lastOf kind absent xs) }
+    → walked policy s from ≡ record { stop = Whole; slots = eachType (λ kind. lastOfType kind absent xs) }
 unfolding walked
 walked-by policy s from xs e w =
-    ap (λ (ys : Attributes). onStop (firstFault policy s ys) (eachType (λ kind. lastOf kind absent ys))) e
-    ∙ ap (λ (t : Stop). onStop t (eachType (λ kind. lastOf kind absent xs))) w
+    ap (λ (ys : Attributes). walkedTo (firstFault policy s ys) (eachType (λ kind. lastOfType kind absent ys))) e
+    ∙ ap (λ (t : Stop). walkedTo t (eachType (λ kind. lastOfType kind absent xs))) w

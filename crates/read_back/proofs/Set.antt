@@ -21,7 +21,7 @@ use Rattle.names.proofs.Rules.{right-means}
 use Rattle.netlink_attributes.specs.Attributes.{Attributes, attributes, partOf}
 use Rattle.netlink_attributes.specs.Attributes.Attributes.{done, attribute}
 use Rattle.netlink.specs.Policy.{ruleOf, plain, nested, judged}
-use Rattle.netlink.specs.Walk.{found, absent, firstFault, lastOf, walked, slotNumber}
+use Rattle.netlink.specs.Walk.{found, absent, firstFault, lastOfType, walked, slotNumber}
 use Rattle.netlink.specs.declared.walk.Stop.the-variants.{Whole}
 use Rattle.netlink.specs.declared.walk.Walked.{Walked}
 use Rattle.netlink_write.specs.Attributes.{attr, nest}
@@ -30,12 +30,12 @@ use Rattle.netlink.proofs.walk.Meaning.{stop-is}
 use Rattle.netlink_write.proofs.attributes.Laws.{length-attr, length-nest}
 use Rattle.bitset_form.specs.Policies.{bitsetPolicy, bitsPolicy}
 use Rattle.bitset_form.specs.Bitset.{effect}
-use Rattle.bitset_form.specs.Bitset.Bitset.{whole, only}
+use Rattle.bitset_form.specs.Bitset.Bitset.{nomaskBitmap, nomaskList}
 use Rattle.bitset_form.specs.Bitset.Reading.{refused, accepted}
-use Rattle.bitset_compact.specs.Compact.{wholeReading, compactReading}
+use Rattle.bitset_compact.specs.Compact.{nomaskReading, compactReading}
 use Rattle.refusal.specs.Refusal.{onStop}
 use Rattle.bitset_list.specs.BitList.{listReading}
-use Rattle.bitset.specs.Judge.{mixedAt, partsReading, bitsetReading}
+use Rattle.bitset.specs.Judge.{mixedAt, bitsetPartsReading, bitsetReading}
 use Rattle.bitset_reply.specs.List.{bitsBytes}
 use Rattle.bitset_reply.specs.Set.{openingBytes, compactBytes, verboseBytes, contentsBytes}
 use Rattle.read_back.specs.Claims.{ReadsBack}
@@ -91,7 +91,7 @@ module _ (s pre post names : List ℕ) (n at : ℕ) (e : s ≡ pre ++ (openingBy
 
   -- a bitset by its walk
   by-walk : (w : Walked) → walked bitsetPolicy s at ≡ w → bitsetReading s at names
-      ≡ onStop (w .stop) refused (partsReading s (at - 4) names (getD (w .slots) 1 absent) (getD (w .slots) 2 absent) (getD (w .slots) 3 absent) (getD (w .slots) 4 absent) (getD (w .slots) 5 absent))
+      ≡ onStop (w .stop) refused (bitsetPartsReading s (at - 4) names (getD (w .slots) 1 absent) (getD (w .slots) 2 absent) (getD (w .slots) 3 absent) (getD (w .slots) 4 absent) (getD (w .slots) 5 absent))
   unfolding bitsetReading
   by-walk w h = rw h
 
@@ -121,12 +121,12 @@ module _ (s pre post names : List ℕ) (n at : ℕ) (e : s ≡ pre ++ (openingBy
 
     compact-walked : walked bitsetPolicy s at
         ≡ record { stop = Whole; slots = absent ∷ found (at + 4) (at + 4) ∷ found (at + 8) (at + 12) ∷ absent ∷ found (at + 16) (length s) ∷ absent ∷ absent ∷ absent ∷ [] }
-    unfolding opened firstFault lastOf judged ruleOf plain
+    unfolding opened firstFault lastOfType judged ruleOf plain
     compact-walked =
         walked-by bitsetPolicy s at (opened (attribute 4 0 (at + 16) (length s) done)) compact-attributes (rw (nomask-back, size-back))
 
-    compact-back : bitsetReading s at names ≡ accepted (whole n (has words))
-    unfolding partsReading mixedAt compactReading wholeReading
+    compact-back : bitsetReading s at names ≡ accepted (nomaskBitmap n (has words))
+    unfolding bitsetPartsReading mixedAt compactReading nomaskReading
     compact-back =
         by-walk _ compact-walked
         ∙ rw (number-back, value-back, length-bytesOf words, en, le-ltb (length words * 4 / 4) (wordsFor n) (omega arith), words-of-bytes words small, none-between (has words) n)
@@ -153,12 +153,12 @@ module _ (s pre post names : List ℕ) (n at : ℕ) (e : s ≡ pre ++ (openingBy
 
     verbose-walked : walked bitsetPolicy s at
         ≡ record { stop = Whole; slots = absent ∷ found (at + 4) (at + 4) ∷ found (at + 8) (at + 12) ∷ found (at + 16) (length s) ∷ absent ∷ absent ∷ absent ∷ absent ∷ [] }
-    unfolding opened firstFault lastOf judged ruleOf plain nested
+    unfolding opened firstFault lastOfType judged ruleOf plain nested
     verbose-walked =
         walked-by bitsetPolicy s at (opened (attribute 3 2 (at + 16) (length s) done)) verbose-attributes (rw (nomask-back, size-back))
 
-    verbose-back : bitsetReading s at names ≡ accepted (only (listedFrom listed 0 n))
-    unfolding partsReading mixedAt listReading
+    verbose-back : bitsetReading s at names ≡ accepted (nomaskList (listedFrom listed 0 n))
+    unfolding bitsetPartsReading mixedAt listReading
     verbose-back =
         let bits = bitsBytes names listed n in
         let all = part-all s (length s) refl in
@@ -178,7 +178,7 @@ module _ (pre names words : List ℕ) (n : ℕ) (right : namesRight names ≡ tr
   unfolding compactBytes effect
   compact-reads =
       let value = attr 4 (bytesOf words) in (
-        whole n (has words),
+        nomaskBitmap n (has words),
         compact-back (pre ++ compactBytes words n) pre value names n (length pre) refl refl few en words (sym (append-nil value)) ew small,
         λ start i. ⊎-elim (λ (l : i < n). rw (lt-ltb i n l)) (λ (l : n ≤ i). rw (le-ltb i n l) (sym (below i l))) (lt-or-ge i n),
       )
@@ -188,7 +188,7 @@ module _ (pre names words : List ℕ) (n : ℕ) (right : namesRight names ≡ tr
   verbose-reads =
       let bits = nest 3 (bitsBytes names (has words) n) in
       let short : Short names n = rw en at (right-short names right) in (
-        only (listedFrom (has words) 0 n),
+        nomaskList (listedFrom (has words) 0 n),
         verbose-back (pre ++ verboseBytes names words n) pre bits names n (length pre) refl refl few en (has words) (sym (append-nil bits)) short,
         λ start i. mask-back (has words) n i below,
       )

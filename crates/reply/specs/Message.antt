@@ -15,16 +15,16 @@ abbrev pub headingOf : MessageHeader → ℕ → Heading
 headingOf h command = record { family = h .kind; flags = 0; sequence = h .sequence; port = h .port; command = command }
 
 -- the message header of a length
-abbrev pub messageHeader : Heading → ℕ → MessageHeader
-messageHeader h total = record { length = total; kind = h .family; flags = h .flags; sequence = h .sequence; port = h .port }
+abbrev pub replyMessageHeader : Heading → ℕ → MessageHeader
+replyMessageHeader h total = record { length = total; kind = h .family; flags = h .flags; sequence = h .sequence; port = h .port }
 
 -- "version 1"
-abbrev pub genericHeader : Heading → GenericHeader
-genericHeader h = record { command = h .command; version = 1; reserved = 0 }
+abbrev pub replyGenericHeader : Heading → GenericHeader
+replyGenericHeader h = record { command = h .command; version = 1; reserved = 0 }
 
 -- the two headers of a message of a length
 unfoldable pub headersBytes : Heading → ℕ → List ℕ
-headersBytes h total = messageHeaderBytes (messageHeader h total) ++ genericHeaderBytes (genericHeader h)
+headersBytes h total = messageHeaderBytes (replyMessageHeader h total) ++ genericHeaderBytes (replyGenericHeader h)
 
 -- attributes 1 and 2
 unfoldable pub attributesBytes : ℕ → List ℕ → Bool → List ℕ → List ℕ → ℕ → List ℕ

@@ -1,5 +1,5 @@
 pub mod Policies
 pub mod Top
 pub mod Header
+pub mod Port
 pub mod Target
-pub mod Aim

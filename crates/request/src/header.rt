@@ -50,7 +50,7 @@ fn judge_flags(message: &[u8], index: Slot, name: Slot, flags: Slot) -> Header
 }
 
 // Judges the parts of the header nest at a place.
-fn judge_parts(message: &[u8], nest: usize, index: Slot, name: Slot, flags: Slot) -> Header
+fn judge_header_parts(message: &[u8], nest: usize, index: Slot, name: Slot, flags: Slot) -> Header
     ensures { λ r. ⌜ r ≡ partsOf (now (message .entry)) nest index name flags ⌝ }
 {
     if !gives_port(index, name) {
@@ -73,5 +73,5 @@ pub fn read_header(message: &[u8], header: Slot) -> Header
     let index = walked.slots[INDEX];
     let name = walked.slots[NAME];
     let flags = walked.slots[FLAGS];
-    judge_parts(message, place(start), index, name, flags)
+    judge_header_parts(message, place(start), index, name, flags)
 }

@@ -1,96 +1,41 @@
-// The port that a header names: refusals 16 and 17.
+// What a request is aimed at, from its header nest: refusals 10 to 12 in it, and 14 to 17.
 ghost use mathlib.Core.Path.{_≡_};
-ghost use lib.ListN.{length};
-ghost use Prim.Native.Nat.{_<_};
 ghost use Rattle.roll.specs.Table.{Tabled};
-ghost use Rattle.request.specs.Target.{otherName, portByIndex, portByName, targetOf};
+ghost use Rattle.request.specs.Target.{withFlags, targetOf};
+use crate::header::Header;
+use crate::header::read_header;
+use crate::port::PortRead;
+use crate::port::find_port;
 use netlink::walk::Slot;
-use netlink::walk::slot_number;
-use netlink_attributes::payload;
-use netlink_attributes::place;
 use refusal::Refusal;
-use roll::Found;
-use roll::find_index;
-use roll::find_name;
-use roll::is_name;
-use roll::table::name_of;
 
-pub enum Target {
-    // Which port it is, from 0.
-    Port(usize),
+pub enum TargetRead {
+    // Which port it is, and the header's flags.
+    Port { position: usize, flags: u32 },
     Refused(Refusal),
 }
 
-// Whether a name is given, and is not that of the port at a position.
-fn other_name(message: &[u8], name: Slot, roll: &[u8], ports: &[u64], position: usize) -> bool
-    requires { ⌜ Tabled (now roll) (now ports) ⌝ }
-    requires { ⌜ position < length (now ports) ⌝ }
-    ensures { λ r. ⌜ r ≡ otherName (now (message .entry)) name (now (roll .entry)) position ⌝ }
+fn with_flags(target: PortRead, flags: u32) -> TargetRead
+    ensures { λ r. ⌜ r ≡ withFlags target flags ⌝ }
 {
-    if !name.present {
-        return false;
-    }
-    let start = name.start;
-    let end = name.end;
-    !is_name(name_of(roll, ports, position), payload(message, start, end))
-}
-
-// The port of the index; a name beside it must be the port's.
-fn port_by_index(
-    message: &[u8],
-    header: Slot,
-    index: Slot,
-    name: Slot,
-    roll: &[u8],
-    ports: &[u64],
-) -> Target
-    requires { ⌜ Tabled (now roll) (now ports) ⌝ }
-    ensures { λ r. ⌜ r ≡ portByIndex (now (message .entry)) header index name (now (roll .entry)) ⌝ }
-{
-    match find_index(roll, ports, slot_number(message, index)) {
-        Found::Nothing => {
-            return Target::Refused(Refusal::UnknownPort(place(index.start)));
-        }
-        Found::At(position) => {
-            if other_name(message, name, roll, ports, position) {
-                return Target::Refused(Refusal::OtherName(place(header.start)));
-            }
-            return Target::Port(position);
-        }
+    match target {
+        PortRead::Refused(why) => TargetRead::Refused(why),
+        PortRead::Port(position) => TargetRead::Port { position, flags },
     }
 }
 
-// The port of the name.
-fn port_by_name(message: &[u8], name: Slot, roll: &[u8], ports: &[u64]) -> Target
+// Reads the header nest of a message and finds its port in the roll.
+pub fn read_target(message: &[u8], header: Slot, roll: &[u8], ports: &[u64]) -> TargetRead
     requires { ⌜ Tabled (now roll) (now ports) ⌝ }
-    ensures { λ r. ⌜ r ≡ portByName (now (message .entry)) name (now (roll .entry)) ⌝ }
+    ensures { λ r. ⌜ r ≡ targetOf (now (message .entry)) header (now (roll .entry)) ⌝ }
 {
-    let start = name.start;
-    let end = name.end;
-    match find_name(roll, ports, payload(message, start, end)) {
-        Found::Nothing => {
-            return Target::Refused(Refusal::UnknownPort(place(start)));
-        }
-        Found::At(position) => {
-            return Target::Port(position);
+    match read_header(message, header) {
+        Header::Refused(why) => TargetRead::Refused(why),
+        Header::Parts { index, name, flags } => {
+            with_flags(
+                find_port(message, header, index, name, roll, ports),
+                flags,
+            )
         }
     }
-}
-
-// The port of a header nest's index if given, else of its name.
-pub fn find_target(
-    message: &[u8],
-    header: Slot,
-    index: Slot,
-    name: Slot,
-    roll: &[u8],
-    ports: &[u64],
-) -> Target
-    requires { ⌜ Tabled (now roll) (now ports) ⌝ }
-    ensures { λ r. ⌜ r ≡ targetOf (now (message .entry)) header index name (now (roll .entry)) ⌝ }
-{
-    if index.present {
-        return port_by_index(message, header, index, name, roll, ports);
-    }
-    port_by_name(message, name, roll, ports)
 }

@@ -11,18 +11,18 @@ use Rattle.netlink_error.specs.declared.Detail.the-variants.{Nothing}
 use Rattle.refusal.specs.Refusal.{rowOf, errnoOf, detailOf}
 use Rattle.refusal.specs.declared.Refusal.{Refusal}
 use Rattle.refusal.specs.declared.Row.{Row}
-use Rattle.response.specs.Answer.{speech, refusal, ackBytes, Said}
+use Rattle.response.specs.Answer.{responseOf, errorResponse, ackBytes, Responds}
 use Rattle.response.specs.declared.Kind.{Kind}
 use Rattle.response.specs.declared.Kind.the-variants.{Refused}
 
 -- bytes that were written are said
-pub wrote-said : (k : Kind) (next : ℕ) (bs P Q : List ℕ) (w : ℕ) → Wrote bs P Q w → Said (speech k next bs) P Q (record { kind = k; next = next; written = w })
-wrote-said k next bs P Q w h = record { result = ap (λ (n : ℕ). record { kind = k; next = next; written = n }) (h .count); page = h .page }
+pub wrote-responds : (k : Kind) (next : ℕ) (bs P Q : List ℕ) (w : ℕ) → Wrote bs P Q w → Responds (responseOf k next bs) P Q (record { kind = k; next = next; written = w })
+wrote-responds k next bs P Q w h = record { result = ap (λ (n : ℕ). record { kind = k; next = next; written = n }) (h .count); page = h .page }
 
-pub refuse-said : (m : List ℕ) (next : ℕ) (why : Refusal) (P Q : List ℕ) (row : Row) (w : ℕ) → row ≡ rowOf why
-    → Wrote (errorMessage m (row .errno) (row .detail)) P Q w → Said (refusal m next why) P Q (record { kind = Refused why; next = next; written = w })
-refuse-said m next why P Q row w e h =
-    wrote-said (Refused why) next (errorMessage m (errnoOf why) (detailOf why)) P Q w
+pub refuse-responds : (m : List ℕ) (next : ℕ) (why : Refusal) (P Q : List ℕ) (row : Row) (w : ℕ) → row ≡ rowOf why
+    → Wrote (errorMessage m (row .errno) (row .detail)) P Q w → Responds (errorResponse m next why) P Q (record { kind = Refused why; next = next; written = w })
+refuse-responds m next why P Q row w e h =
+    wrote-responds (Refused why) next (errorMessage m (errnoOf why) (detailOf why)) P Q w
     (subst (λ (x : Row). Wrote (errorMessage m (x .errno) (x .detail)) P Q w) e h)
 
 module _ (m : List ℕ) (h : MessageHeader) (P : List ℕ) where

@@ -30,47 +30,47 @@ refusalNumber Done = 0
 refusalNumber (Refused r) = numberOf r
 
 -- what is said: the kind, the next position and the bytes; the count is their length
-pub record Speech : Type 0 where
+pub record Response : Type 0 where
   pub kind : Kind
   pub next : ℕ
   pub bytes : List ℕ
 
 -- what is said, and the state after it
 pub record Outcome (S : Type 0) : Type 0 where
-  pub said : Speech
+  pub response : Response
   pub state : S
 
-abbrev pub speech : Kind → ℕ → List ℕ → Speech
-speech kind next bytes = record { kind = kind; next = next; bytes = bytes }
+abbrev pub responseOf : Kind → ℕ → List ℕ → Response
+responseOf kind next bytes = record { kind = kind; next = next; bytes = bytes }
 
 abbrev pub done : Kind
 done = Done
 
 -- "5 to 22 write one error message"
-abbrev pub refusal : List ℕ → ℕ → Refusal → Speech
-refusal message next r = speech (Refused r) next (errorMessage message (errnoOf r) (detailOf r))
+abbrev pub errorResponse : List ℕ → ℕ → Refusal → Response
+errorResponse message next r = responseOf (Refused r) next (errorMessage message (errnoOf r) (detailOf r))
 
 -- "an ACK if the ACK flag was set, else nothing"
 unfoldable pub ackBytes : List ℕ → MessageHeader → List ℕ
 ackBytes message h = cond (eqb (h .flags / 4 % 2) 1) (errorMessage message 0 Nothing) []
 
 -- what is said with nothing written
-abbrev pub quiet : Kind → ℕ → Speech
-quiet kind next = speech kind next []
+abbrev pub noBytes : Kind → ℕ → Response
+noBytes kind next = responseOf kind next []
 
 -- the state stays
-abbrev pub leaves : {S : Type 0} → Speech → S → Outcome S
-leaves s state = record { said = s; state = state }
+abbrev pub unchanged : {S : Type 0} → Response → S → Outcome S
+unchanged s state = record { response = s; state = state }
 
 -- the code's answer
-abbrev pub returned : Speech → Answer
-returned s = record { kind = s .kind; next = s .next; written = length (s .bytes) }
+abbrev pub answerOf : Response → Answer
+answerOf s = record { kind = s .kind; next = s .next; written = length (s .bytes) }
 
 -- the bytes stand at the front of the page; "Page bytes beyond that count keep their content"
-pub record Said (s : Speech) (before after : List ℕ) (r : Answer) : Type 0 where
-  pub result : r ≡ returned s
+pub record Responds (s : Response) (before after : List ℕ) (r : Answer) : Type 0 where
+  pub result : r ≡ answerOf s
   pub page : after ≡ put before (s .bytes)
 
-pub record Did {S : Type 0} (o : Outcome S) (before after : List ℕ) (state : S) (r : Answer) : Type 0 where
-  pub said : Said (o .said) before after r
+pub record Performs {S : Type 0} (o : Outcome S) (before after : List ℕ) (state : S) (r : Answer) : Type 0 where
+  pub response : Responds (o .response) before after r
   pub state-is : state ≡ o .state

@@ -7,24 +7,24 @@ use Rattle.basics.specs.Scan.{first}
 use Rattle.roll.specs.declared.find.Found.{Found}
 use Rattle.roll.specs.declared.find.Found.the-variants.{At, Nothing}
 use Rattle.roll.specs.Record.{portCount, indexOf, nameOf}
-use Rattle.roll.specs.Name.{isName}
+use Rattle.roll.specs.Name.{holdsName}
 
 -- the port at a position has the index x
-unfoldable pub isIndex : List ℕ → ℕ → ℕ → Bool
-isIndex roll x k = eqb (indexOf roll k) x
+unfoldable pub hasIndex : List ℕ → ℕ → ℕ → Bool
+hasIndex roll x k = eqb (indexOf roll k) x
 
 -- it has the name
-unfoldable pub isNamed : List ℕ → List ℕ → ℕ → Bool
-isNamed roll name k = isName (nameOf roll k) name
+unfoldable pub hasName : List ℕ → List ℕ → ℕ → Bool
+hasName roll name k = holdsName (nameOf roll k) name
 
 -- the first of n positions at which a test holds
-unfoldable pub find : ℕ → (ℕ → Bool) → Found
-find n f = cond (ltb (first n f) n) (At (first n f)) Nothing
+unfoldable pub findPort : ℕ → (ℕ → Bool) → Found
+findPort n f = cond (ltb (first n f) n) (At (first n f)) Nothing
 
 -- the first port of the index x
-unfoldable pub byIndex : List ℕ → ℕ → Found
-byIndex roll x = find (portCount roll) (isIndex roll x)
+unfoldable pub foundByIndex : List ℕ → ℕ → Found
+foundByIndex roll x = findPort (portCount roll) (hasIndex roll x)
 
 -- the first port of the name
-unfoldable pub byName : List ℕ → List ℕ → Found
-byName roll name = find (portCount roll) (isNamed roll name)
+unfoldable pub foundByName : List ℕ → List ℕ → Found
+foundByName roll name = findPort (portCount roll) (hasName roll name)

@@ -21,8 +21,8 @@ unfoldable pub sameName : List ℕ → List ℕ → Bool
 sameName a b = all 16 (sameByte a b)
 
 -- whether a field of 16 bytes holds the name; NULs may follow the name
-unfoldable pub isName : List ℕ → List ℕ → Bool
-isName field name = leb (length name) 16 && sameName field name
+unfoldable pub holdsName : List ℕ → List ℕ → Bool
+holdsName field name = leb (length name) 16 && sameName field name
 
 -- a NUL at j is followed by a NUL
 unfoldable pub nulThenNul : List ℕ → ℕ → Bool

@@ -36,20 +36,20 @@ recordAt roll at =
 
 -- the records in order, to the roll's end or to the first that is broken: of an unknown kind, or cut
 pub data Records : Type 0 where
-  done : Records
-  broken : Records
+  endOfRoll : Records
+  badRecord : Records
   port : Port → Records → Records
 
 -- what is read at a place, and then what stands from the next place on
 abbrev pub onRecord : List ℕ → RecordRead → (ℕ → Records) → Records
-onRecord roll R.End rest = done
-onRecord roll R.Unknown rest = broken
-onRecord roll R.Cut rest = broken
+onRecord roll R.End rest = endOfRoll
+onRecord roll R.Unknown rest = badRecord
+onRecord roll R.Cut rest = badRecord
 onRecord roll (R.Port i n e) rest = port (record { index = u32At roll i; name = nameAt roll n }) (rest e)
 
 -- at most so many records from a place on
 unfoldable pub recordsUpTo : ℕ → List ℕ → ℕ → Records
-recordsUpTo zero roll at = broken
+recordsUpTo zero roll at = badRecord
 recordsUpTo (suc k) roll at = onRecord roll (recordAt roll at) (λ next. recordsUpTo k roll next)
 
 -- the records from a place on: each takes a byte, so one more than the bytes is never reached (law `records-step`)
@@ -58,20 +58,20 @@ unfolding recordsUpTo
 records roll at = recordsUpTo (suc (length roll)) roll at
 
 -- no record is broken
-unfoldable pub whole : Records → Bool
-whole done = true
-whole broken = false
-whole (port p rest) = whole rest
+unfoldable pub allWhole : Records → Bool
+allWhole endOfRoll = true
+allWhole badRecord = false
+allWhole (port p rest) = allWhole rest
 
 -- the ports
-unfoldable pub portsIn : Records → List Port
-portsIn done = []
-portsIn broken = []
-portsIn (port p rest) = p ∷ portsIn rest
+unfoldable pub recordPorts : Records → List Port
+recordPorts endOfRoll = []
+recordPorts badRecord = []
+recordPorts (port p rest) = p ∷ recordPorts rest
 
 -- the ports of a roll in order, and how many there are
 unfoldable pub portsOf : List ℕ → List Port
-portsOf roll = portsIn (records roll 0)
+portsOf roll = recordPorts (records roll 0)
 
 unfoldable pub portCount : List ℕ → ℕ
 portCount roll = length (portsOf roll)

@@ -6,11 +6,11 @@ use mathlib.Core.Bool.{Bool, true, _&&_}
 use lib.ListN.{length, getD}
 use lib.Dec.{leb, ltb}
 use Rattle.roll.specs.Name.{nameAt}
-use Rattle.roll.specs.Record.{records, whole, portCount, indexOf, nameOf}
+use Rattle.roll.specs.Record.{records, allWhole, portCount, indexOf, nameOf}
 
 -- "1 to 64 ports", in whole records to the roll's end
-unfoldable pub listed : List ℕ → Bool
-listed roll = whole (records roll 0) && (leb 1 (portCount roll) && leb (portCount roll) 64)
+unfoldable pub portsListed : List ℕ → Bool
+portsListed roll = allWhole (records roll 0) && (leb 1 (portCount roll) && leb (portCount roll) 64)
 
 -- the two halves of a word
 abbrev pub lowOf : ℕ → ℕ
@@ -27,6 +27,6 @@ pub record Tabled (roll table : List ℕ) : Type 0 where
   pub name : (k : ℕ) → k < length table → nameAt roll (highOf (getD table k 0)) ≡ nameOf roll k
 
 -- a table as it is read: it is empty unless the roll has 1 to 64 ports in whole records, and then it holds them
-pub record Read (roll table : List ℕ) : Type 0 where
-  pub said : ltb 0 (length table) ≡ listed roll
+pub record TableRead (roll table : List ℕ) : Type 0 where
+  pub told : ltb 0 (length table) ≡ portsListed roll
   pub held : 0 < length table → Tabled roll table

@@ -1,8 +1,8 @@
 // The search for a port.
 ghost use mathlib.Core.Path.{_≡_};
 ghost use Rattle.roll.specs.Table.{Tabled};
-ghost use Rattle.roll.specs.Find.{byIndex, byName};
-use crate::name::is_name;
+ghost use Rattle.roll.specs.Find.{foundByIndex, foundByName};
+use crate::name::holds_name;
 use crate::table::index_of;
 use crate::table::name_of;
 
@@ -13,9 +13,9 @@ pub enum Found {
 }
 
 // The first port of an index.
-pub fn find_index(roll: &[u8], ports: &[u64], wanted: u32) -> Found
+pub fn port_of_index(roll: &[u8], ports: &[u64], wanted: u32) -> Found
     requires { ⌜ Tabled (now roll) (now ports) ⌝ }
-    ensures { λ r. ⌜ r ≡ byIndex (now (roll .entry)) wanted ⌝ }
+    ensures { λ r. ⌜ r ≡ foundByIndex (now (roll .entry)) wanted ⌝ }
 {
     for k in 0..ports.len() {
         if index_of(roll, ports, k) == wanted {
@@ -26,12 +26,12 @@ pub fn find_index(roll: &[u8], ports: &[u64], wanted: u32) -> Found
 }
 
 // The first port of a name, which may end in NULs.
-pub fn find_name(roll: &[u8], ports: &[u64], wanted: &[u8]) -> Found
+pub fn port_of_name(roll: &[u8], ports: &[u64], wanted: &[u8]) -> Found
     requires { ⌜ Tabled (now roll) (now ports) ⌝ }
-    ensures { λ r. ⌜ r ≡ byName (now (roll .entry)) (now (wanted .entry)) ⌝ }
+    ensures { λ r. ⌜ r ≡ foundByName (now (roll .entry)) (now (wanted .entry)) ⌝ }
 {
     for k in 0..ports.len() {
-        if is_name(name_of(roll, ports, k), wanted) {
+        if holds_name(name_of(roll, ports, k), wanted) {
             return Found::At(k);
         }
     }

@@ -5,9 +5,9 @@ pub mod record;
 pub mod table;
 
 pub use find::Found;
-pub use find::find_index;
-pub use find::find_name;
-pub use name::is_name;
+pub use find::port_of_index;
+pub use find::port_of_name;
+pub use name::holds_name;
 pub use table::index_of;
 pub use table::name_of;
 pub use table::read_ports;

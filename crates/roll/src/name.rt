@@ -1,7 +1,7 @@
 // The name of a port: a field of 16 bytes.
 ghost use mathlib.Core.Path.{_≡_};
 ghost use Prim.Native.Nat.{_<_};
-ghost use Rattle.roll.specs.Name.{nameAt, sameName, isName, nulThenNul, nameRight};
+ghost use Rattle.roll.specs.Name.{nameAt, sameName, holdsName, nulThenNul, nameRight};
 use netlink_attributes::payload;
 use numbers::byte_at;
 use numbers::u32_at;
@@ -36,8 +36,8 @@ pub fn same_name(a: &[u8], b: &[u8]) -> bool
 }
 
 // Whether a field holds the name, NULs after it.
-pub fn is_name(field: &[u8], name: &[u8]) -> bool
-    ensures { λ r. ⌜ r ≡ isName (now (field .entry)) (now (name .entry)) ⌝ }
+pub fn holds_name(field: &[u8], name: &[u8]) -> bool
+    ensures { λ r. ⌜ r ≡ holdsName (now (field .entry)) (now (name .entry)) ⌝ }
 {
     if 16 < name.len() {
         return false;

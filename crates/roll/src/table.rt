@@ -4,7 +4,7 @@ ghost use mathlib.Core.Path.{_≡_};
 ghost use Prim.Native.Nat.{_<_, _≤_};
 ghost use lib.ListN.{length, take};
 ghost use Rattle.roll.specs.Record.{indexOf, nameOf};
-ghost use Rattle.roll.specs.Table.{lowOf, highOf, Tabled, Read};
+ghost use Rattle.roll.specs.Table.{lowOf, highOf, Tabled, TableRead};
 use crate::name::name_at;
 use crate::record::RecordRead;
 use crate::record::read_record;
@@ -24,7 +24,7 @@ fn word(index: u32, name: usize) -> u64
 // Reads the records of a roll into a table, and answers how many ports there are: 0 where the records are not whole, or more than 64.
 pub fn read_ports(roll: &[u8], table: &mut [u64]) -> usize
     requires { ⌜ length (now table) ≡ 64 ⌝ }
-    ensures { λ r. ⌜ (r ≤ 64) × Read (now (roll .entry)) (take r (now (table .exit))) ⌝ }
+    ensures { λ r. ⌜ (r ≤ 64) × TableRead (now (roll .entry)) (take r (now (table .exit))) ⌝ }
 {
     let mut count = 0;
     let mut at = 0;

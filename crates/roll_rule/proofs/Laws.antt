@@ -8,12 +8,12 @@ use borrow.Author.Tests.{le-leb, lt-leb, lt-ltb, le-ltb, ltb-true, not-true, not
 use Rattle.basics.specs.Scan.{all}
 use Rattle.basics.proofs.Scan.{all-none, all-more, all-fails, all-done, all-each}
 use Rattle.basics.proofs.Truth.{both-true}
-use Rattle.roll.specs.Record.{records, whole, portCount, indexOf, nameOf}
+use Rattle.roll.specs.Record.{records, allWhole, portCount, indexOf, nameOf}
 use Rattle.roll.specs.Name.{nameRight}
-use Rattle.roll.specs.Table.{listed, Tabled, Read}
+use Rattle.roll.specs.Table.{portsListed, Tabled, TableRead}
 use lib.ListN.{length}
 use Rattle.roll.proofs.table.Laws.{listed-some}
-use Rattle.roll_rule.specs.Rule.{portRight, distinct, rollRight}
+use Rattle.roll_rule.specs.Rule.{portRight, portsDistinct, rollRight}
 
 -- a test of every port of a table
 abbrev pub Kept : (ℕ → Bool) → ℕ → Type 0
@@ -54,35 +54,35 @@ module _ (roll : List ℕ) (k x : ℕ) (ex : x ≡ indexOf roll k) where
 pub ruleset port-laws = (port-low, port-high, port-name)
 
 -- the roll
-module _ (roll : List ℕ) (t : List ℕ) (r : Read roll t) where
+module _ (roll : List ℕ) (t : List ℕ) (r : TableRead roll t) where
   pub roll-unlisted : length t < 1 → false ≡ rollRight roll
   unfolding rollRight
-  roll-unlisted h = sym (rw (← r .said, le-ltb 0 (length t) (omega arith)))
+  roll-unlisted h = sym (rw (← r .told, le-ltb 0 (length t) (omega arith)))
 
   module _ (h : 1 ≤ length t) where
     pub roll-tabled : Tabled roll t
     roll-tabled = r .held (omega arith)
 
     module _ (b : Bool) (eb : b ≡ all (portCount roll) (portRight roll)) where
-      rest : rollRight roll ≡ b && distinct roll
+      rest : rollRight roll ≡ b && portsDistinct roll
       unfolding rollRight
-      rest = rw (← r .said, lt-ltb 0 (length t) (omega arith), eb)
+      rest = rw (← r .told, lt-ltb 0 (length t) (omega arith), eb)
 
       pub roll-port : not b ≡ true → false ≡ rollRight roll
       roll-port q = sym (rest ∙ rw (not-true b q))
 
-      pub roll-rest : (d : Bool) → not b ≡ false → d ≡ distinct roll → d ≡ rollRight roll
+      pub roll-rest : (d : Bool) → not b ≡ false → d ≡ portsDistinct roll → d ≡ rollRight roll
       roll-rest d q ed = ed ∙ sym (rest ∙ rw (not-false b q))
 
 pub ruleset roll-laws = (roll-unlisted, roll-tabled, roll-port, roll-rest)
 
 -- what a right roll gives
 pub record Right (roll : List ℕ) : Type 0 where
-  pub listed : listed roll ≡ true
+  pub listed : portsListed roll ≡ true
   pub some : 1 ≤ portCount roll
   pub few : portCount roll ≤ 64
   pub ports : all (portCount roll) (portRight roll) ≡ true
-  pub apart : distinct roll ≡ true
+  pub apart : portsDistinct roll ≡ true
 
 pub right-means : (roll : List ℕ) → rollRight roll ≡ true → Right roll
 unfolding rollRight
@@ -93,5 +93,5 @@ right-means roll h =
     record { listed = a .0; some = c .1; few = c .2; ports = b .0; apart = b .1 }
 
 -- the table of a right roll holds its ports
-pub right-tabled : (roll t : List ℕ) → Read roll t → rollRight roll ≡ true → Tabled roll t
-right-tabled roll t r h = r .held (ltb-true 0 (length t) (r .said ∙ right-means roll h .listed))
+pub right-tabled : (roll t : List ℕ) → TableRead roll t → rollRight roll ≡ true → Tabled roll t
+right-tabled roll t r h = r .held (ltb-true 0 (length t) (r .told ∙ right-means roll h .listed))

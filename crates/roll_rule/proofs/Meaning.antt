@@ -12,7 +12,7 @@ use Rattle.roll.specs.declared.find.Found.{Found}
 use Rattle.roll.specs.declared.find.Found.the-variants.{At, Nothing}
 use Rattle.roll.specs.Record.{portCount, indexOf, nameOf}
 use Rattle.roll.specs.Name.{nameRight}
-use Rattle.roll.specs.Find.{byIndex, byName}
+use Rattle.roll.specs.Find.{foundByIndex, foundByName}
 use Rattle.roll_rule.specs.Rule.{portRight, rollRight}
 use Rattle.roll.proofs.name.Laws.{same-bytes, named-same, right-starts}
 use Rattle.roll.proofs.find.Laws.{index-is, name-is}
@@ -32,17 +32,17 @@ module _ (roll : List ℕ) (right : rollRight roll ≡ true) where
       let b = both-true _ _ (a .1) in
       record { positive = leb-true 1 _ (a .0); small = leb-true _ 2147483647 (b .0); name = b .1 }
 
-  pub zero-none : byIndex roll 0 ≡ Nothing
-  zero-none = go (byIndex roll 0) refl
+  pub zero-none : foundByIndex roll 0 ≡ Nothing
+  zero-none = go (foundByIndex roll 0) refl
     where
-      go : (f : Found) → byIndex roll 0 ≡ f → f ≡ Nothing
+      go : (f : Found) → foundByIndex roll 0 ≡ f → f ≡ Nothing
       go Nothing e = refl
       go (At k) e = let i = index-is roll 0 k e in let p = port-right k (i .0) .positive in absurd (omega (arith, i .1, p))
 
-  pub empty-none : (name : List ℕ) → byteAt name 0 ≡ 0 → byName roll name ≡ Nothing
-  empty-none name z = go (byName roll name) refl
+  pub empty-none : (name : List ℕ) → byteAt name 0 ≡ 0 → foundByName roll name ≡ Nothing
+  empty-none name z = go (foundByName roll name) refl
     where
-      go : (f : Found) → byName roll name ≡ f → f ≡ Nothing
+      go : (f : Found) → foundByName roll name ≡ f → f ≡ Nothing
       go Nothing e = refl
       go (At k) e =
           let i = name-is roll name k e in

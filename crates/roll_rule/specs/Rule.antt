@@ -6,7 +6,7 @@ use lib.Dec.{leb, eqb}
 use Rattle.basics.specs.Scan.{all}
 use Rattle.roll.specs.Record.{portCount, indexOf, nameOf}
 use Rattle.roll.specs.Name.{sameName, nameRight}
-use Rattle.roll.specs.Table.{listed}
+use Rattle.roll.specs.Table.{portsListed}
 
 -- "Index 1 to 2,147,483,647; name 1 to 15 bytes that aren't NUL, then NULs only"
 unfoldable pub portRight : List ℕ → ℕ → Bool
@@ -21,9 +21,9 @@ unfoldable pub isNew : List ℕ → ℕ → Bool
 isNew roll k = all k (another roll (indexOf roll k) (nameOf roll k))
 
 -- "Indexes distinct, names distinct"
-unfoldable pub distinct : List ℕ → Bool
-distinct roll = all (portCount roll) (isNew roll)
+unfoldable pub portsDistinct : List ℕ → Bool
+portsDistinct roll = all (portCount roll) (isNew roll)
 
 -- "1 to 64 ports" in whole records, each port right, and no two alike
 unfoldable pub rollRight : List ℕ → Bool
-rollRight roll = listed roll && (all (portCount roll) (portRight roll) && distinct roll)
+rollRight roll = portsListed roll && (all (portCount roll) (portRight roll) && portsDistinct roll)

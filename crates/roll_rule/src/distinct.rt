@@ -3,7 +3,7 @@ ghost use mathlib.Core.Path.{_≡_};
 ghost use lib.ListN.{length};
 ghost use Prim.Native.Nat.{_<_};
 ghost use Rattle.roll.specs.Table.{Tabled};
-ghost use Rattle.roll_rule.specs.Rule.{another, isNew, distinct};
+ghost use Rattle.roll_rule.specs.Rule.{another, isNew, portsDistinct};
 use roll::name::same_name;
 use roll::table::index_of;
 use roll::table::name_of;
@@ -39,7 +39,7 @@ pub fn is_new(roll: &[u8], ports: &[u64], k: usize) -> bool
 // Whether no two of few ports are alike.
 pub fn few_distinct(roll: &[u8], ports: &[u64]) -> bool
     requires { ⌜ Tabled (now roll) (now ports) ⌝ }
-    ensures { λ r. ⌜ r ≡ distinct (now (roll .entry)) ⌝ }
+    ensures { λ r. ⌜ r ≡ portsDistinct (now (roll .entry)) ⌝ }
 {
     for k in 0..ports.len() {
         if !is_new(roll, ports, k) {

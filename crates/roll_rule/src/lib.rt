@@ -7,7 +7,7 @@ ghost use lib.ListN.{length};
 ghost use Prim.Native.Nat.{_<_};
 ghost use Rattle.basics.specs.Scan.{all};
 ghost use Rattle.roll.specs.Record.{portCount};
-ghost use Rattle.roll.specs.Table.{Tabled, Read};
+ghost use Rattle.roll.specs.Table.{Tabled, TableRead};
 ghost use Rattle.roll_rule.specs.Rule.{portRight, rollRight};
 use crate::distinct::few_distinct;
 use crate::marks::many_distinct;
@@ -49,7 +49,7 @@ fn ports_right(roll: &[u8], ports: &[u64]) -> bool
 
 // Whether a roll, of which this is the table, breaks no rule.
 pub fn roll_right(roll: &[u8], ports: &[u64]) -> bool
-    requires { ⌜ Read (now roll) (now ports) ⌝ }
+    requires { ⌜ TableRead (now roll) (now ports) ⌝ }
     ensures { λ r. ⌜ r ≡ rollRight (now (roll .entry)) ⌝ }
 {
     if ports.len() < 1 {

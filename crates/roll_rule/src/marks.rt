@@ -3,7 +3,7 @@ ghost use mathlib.Core.Path.{_≡_};
 ghost use Prim.Native.Nat.{_<_, _+_};
 ghost use lib.ListN.{length, set};
 ghost use Rattle.roll.specs.Table.{Tabled};
-ghost use Rattle.roll_rule.specs.Rule.{isNew, distinct};
+ghost use Rattle.roll_rule.specs.Rule.{isNew, portsDistinct};
 ghost use Rattle.roll_rule.specs.Marks.{indexMark, nameMark, markOfIndex, markOfName, Marked};
 use crate::distinct::is_new;
 use numbers::u32_at;
@@ -107,7 +107,7 @@ fn distinct_by(roll: &[u8], ports: &[u64], indexes: &mut [u8], names: &mut [u8])
     requires { ⌜ Tabled (now roll) (now ports) ⌝ }
     requires { ⌜ Marked (markOfIndex (now roll)) 0 (now indexes) ⌝ }
     requires { ⌜ Marked (markOfName (now roll)) 0 (now names) ⌝ }
-    ensures { λ r. ⌜ r ≡ distinct (now (roll .entry)) ⌝ }
+    ensures { λ r. ⌜ r ≡ portsDistinct (now (roll .entry)) ⌝ }
 {
     for k in 0..ports.len() {
         if !take(roll, ports, k, indexes, names) {
@@ -120,7 +120,7 @@ fn distinct_by(roll: &[u8], ports: &[u64], indexes: &mut [u8], names: &mut [u8])
 // Whether no two of many ports are alike.
 pub fn many_distinct(roll: &[u8], ports: &[u64]) -> bool
     requires { ⌜ Tabled (now roll) (now ports) ⌝ }
-    ensures { λ r. ⌜ r ≡ distinct (now (roll .entry)) ⌝ }
+    ensures { λ r. ⌜ r ≡ portsDistinct (now (roll .entry)) ⌝ }
 {
     let mut indexes = [0u8; 1024];
     let mut names = [0u8; 1024];

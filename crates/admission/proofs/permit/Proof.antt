@@ -6,8 +6,8 @@ use Rattle.admission.proofs.permit.Tie as tie
 returns : tie.Need-returns
 returns c = search (needs, permit-laws)
 
-barred-requires : tie.Need-barred-requires
-barred-requires c κs = search needs
+not-permitted-requires : tie.Need-not-permitted-requires
+not-permitted-requires c κs = search needs
 
 returns-2 : tie.Need-returns-2
 returns-2 c = search (needs, permit-laws)
@@ -16,4 +16,4 @@ returns-3 : tie.Need-returns-3
 returns-3 c = search (needs, permit-laws)
 
 pub permit-spec : {M : Type 1} → statement M
-permit-spec = tie.close (tie.spec returns barred-requires returns-2 returns-3)
+permit-spec = tie.close (tie.spec returns not-permitted-requires returns-2 returns-3)

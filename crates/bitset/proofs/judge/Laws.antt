@@ -23,13 +23,13 @@ use Rattle.bitset_compact.specs.Compact.{compactReading}
 use Rattle.refusal.specs.Refusal.{onStop}
 use Rattle.bitset_list.specs.BitList.{listReading}
 use Rattle.bitset_form.specs.declared.Judged.{Judged}
-use Rattle.bitset.specs.Judge.{mixedAt, onMixing, partsReading, bitsetReading}
+use Rattle.bitset.specs.Judge.{mixedAt, onMixing, bitsetPartsReading, bitsetReading}
 use Rattle.bitset.specs.declared.judge.Mixing.{Mixing}
-use Rattle.bitset.specs.declared.judge.Mixing.the-variants.{Pure, At}
+use Rattle.bitset.specs.declared.judge.Mixing.the-variants.{Unmixed, At}
 
 -- the three causes of 18, by which attributes stand
 mixed-by : Bool → Bool → Bool → Bool → ℕ → ℕ → Mixing
-mixed-by nomask bits value mask a b = cond (bits && value) (At a) (cond (bits && mask) (At b) (cond (nomask && mask) (At b) Pure))
+mixed-by nomask bits value mask a b = cond (bits && value) (At a) (cond (bits && mask) (At b) (cond (nomask && mask) (At b) Unmixed))
 
 module _ (nomask bits value mask : Slot) where
   by : mixedAt nomask bits value mask ≡ mixed-by (nomask .present) (bits .present) (value .present) (mask .present) (value .start - 4) (mask .start - 4)
@@ -53,12 +53,12 @@ module _ (nomask bits value mask : Slot) where
             → mixed-by (nomask .present) x y z (value .start - 4) (mask .start - 4) ≡ At (mask .start - 4)
         go x y z p q r = rw (p, q, r)
 
-    pub mixed-list : value .present ≡ false → mask .present ≡ false → Pure ≡ mixedAt nomask bits value mask
+    pub mixed-list : value .present ≡ false → mask .present ≡ false → Unmixed ≡ mixedAt nomask bits value mask
     unfolding mixed-by
     mixed-list v m = sym (by ∙ go (nomask .present) (bits .present) (value .present) (mask .present) b v m)
       where
         go : (n x y z : Bool) → x ≡ true → y ≡ false → z ≡ false
-            → mixed-by n x y z (value .start - 4) (mask .start - 4) ≡ Pure
+            → mixed-by n x y z (value .start - 4) (mask .start - 4) ≡ Unmixed
         go true x y z p q r = rw (p, q, r)
         go false x y z p q r = rw (p, q, r)
 
@@ -71,42 +71,42 @@ module _ (nomask bits value mask : Slot) where
             → mixed-by n x (value .present) z (value .start - 4) (mask .start - 4) ≡ At (mask .start - 4)
         go n x z p q r = rw (p, q, r)
 
-    pub mixed-whole : nomask .present ≡ true → mask .present ≡ false → Pure ≡ mixedAt nomask bits value mask
+    pub mixed-whole : nomask .present ≡ true → mask .present ≡ false → Unmixed ≡ mixedAt nomask bits value mask
     unfolding mixed-by
     mixed-whole n m = sym (by ∙ go (nomask .present) (bits .present) (mask .present) n b m)
       where
         go : (n x z : Bool) → n ≡ true → x ≡ false → z ≡ false
-            → mixed-by n x (value .present) z (value .start - 4) (mask .start - 4) ≡ Pure
+            → mixed-by n x (value .present) z (value .start - 4) (mask .start - 4) ≡ Unmixed
         go n x z p q r = rw (p, q, r)
 
-    pub mixed-masked : nomask .present ≡ false → Pure ≡ mixedAt nomask bits value mask
+    pub mixed-masked : nomask .present ≡ false → Unmixed ≡ mixedAt nomask bits value mask
     unfolding mixed-by
     mixed-masked n = sym (by ∙ go (nomask .present) (bits .present) n b)
       where
         go : (n x : Bool) → n ≡ false → x ≡ false
-            → mixed-by n x (value .present) (mask .present) (value .start - 4) (mask .start - 4) ≡ Pure
+            → mixed-by n x (value .present) (mask .present) (value .start - 4) (mask .start - 4) ≡ Unmixed
         go n x p q = rw (p, q)
 
 pub ruleset mixed-laws = (mixed-value, mixed-mask, mixed-list, mixed-nomask, mixed-whole, mixed-masked)
 
 module _ (s : List ℕ) (nest : ℕ) (names : List ℕ) (nomask size bits value mask : Slot) (m : Mixing) (em : m ≡ mixedAt nomask bits value mask) where
-  pub parts-mixed : (at : ℕ) (r : Judged) → m ≡ At at → r ≡ refusedAs (Mixed at) → r ≡ judgedAs (count names) (partsReading s nest names nomask size bits value mask)
-  unfolding partsReading judgedAs
+  pub parts-mixed : (at : ℕ) (r : Judged) → m ≡ At at → r ≡ refusedAs (Mixed at) → r ≡ judgedAs (count names) (bitsetPartsReading s nest names nomask size bits value mask)
+  unfolding bitsetPartsReading judgedAs
   parts-mixed at r q e =
       e ∙ sym (ap (λ (x : Mixing). judgedAs (count names) (onMixing x (cond (bits .present) (listReading s names nomask bits) (compactReading s nest (count names) nomask size value mask)))) (sym em ∙ q))
 
-  module _ (q : m ≡ Pure) where
-    pure : partsReading s nest names nomask size bits value mask
+  module _ (q : m ≡ Unmixed) where
+    pure : bitsetPartsReading s nest names nomask size bits value mask
         ≡ cond (bits .present) (listReading s names nomask bits) (compactReading s nest (count names) nomask size value mask)
-    unfolding partsReading
+    unfolding bitsetPartsReading
     pure = ap (λ (x : Mixing). onMixing x (cond (bits .present) (listReading s names nomask bits) (compactReading s nest (count names) nomask size value mask))) (sym em ∙ q)
 
     pub parts-list : (r : Judged) → bits .present ≡ true → r ≡ judgedAs (count names) (listReading s names nomask bits)
-        → r ≡ judgedAs (count names) (partsReading s nest names nomask size bits value mask)
+        → r ≡ judgedAs (count names) (bitsetPartsReading s nest names nomask size bits value mask)
     parts-list r h e = e ∙ sym (ap (judgedAs (count names)) (pure ∙ cond-true (bits .present) _ _ h))
 
     pub parts-compact : (n : ℕ) (r : Judged) → n ≡ count names → bits .present ≡ false → r ≡ judgedAs n (compactReading s nest n nomask size value mask)
-        → r ≡ judgedAs (count names) (partsReading s nest names nomask size bits value mask)
+        → r ≡ judgedAs (count names) (bitsetPartsReading s nest names nomask size bits value mask)
     parts-compact n r en h e =
         e ∙ ap (λ (x : ℕ). judgedAs x (compactReading s nest x nomask size value mask)) en
         ∙ sym (ap (judgedAs (count names)) (pure ∙ cond-false (bits .present) _ _ h))
@@ -116,7 +116,7 @@ pub ruleset parts-laws = (parts-mixed, parts-list, parts-compact)
 module _ (s : List ℕ) (from : ℕ) (names : List ℕ) (p : List Rule) (ep : p ≡ bitsetPolicy) (w : Walked) (ew : w ≡ walked p s from) where
   rest : Walked → Reading
   rest x =
-      partsReading s (from - 4) names (getD (x .slots) 1 absent) (getD (x .slots) 2 absent) (getD (x .slots) 3 absent) (getD (x .slots) 4 absent)
+      bitsetPartsReading s (from - 4) names (getD (x .slots) 1 absent) (getD (x .slots) 2 absent) (getD (x .slots) 3 absent) (getD (x .slots) 4 absent)
       (getD (x .slots) 5 absent)
 
   by-walk : bitsetReading s from names ≡ onStop (w .stop) refused (rest w)
@@ -130,9 +130,9 @@ module _ (s : List ℕ) (from : ℕ) (names : List ℕ) (p : List Rule) (ep : p 
       er ∙ ap refusedAs ey ∙ sym (ap (judgedAs (count names)) (by-walk ∙ ap (λ (x : Stop). onStop x refused (rest w)) q))
 
   pub bitset-whole : (at : ℕ) (r : Judged) → w .stop ≡ S.Whole → at ≡ from - 4
-      → r ≡ judgedAs (count names) (partsReading s at names (getD (w .slots) 1 absent) (getD (w .slots) 2 absent) (getD (w .slots) 3 absent) (getD (w .slots) 4 absent) (getD (w .slots) 5 absent))
+      → r ≡ judgedAs (count names) (bitsetPartsReading s at names (getD (w .slots) 1 absent) (getD (w .slots) 2 absent) (getD (w .slots) 3 absent) (getD (w .slots) 4 absent) (getD (w .slots) 5 absent))
       → r ≡ judgedAs (count names) (bitsetReading s from names)
   unfolding rest
   bitset-whole at r q ea e =
-      e ∙ ap (λ (x : ℕ). judgedAs (count names) (partsReading s x names (getD (w .slots) 1 absent) (getD (w .slots) 2 absent) (getD (w .slots) 3 absent) (getD (w .slots) 4 absent) (getD (w .slots) 5 absent))) ea
+      e ∙ ap (λ (x : ℕ). judgedAs (count names) (bitsetPartsReading s x names (getD (w .slots) 1 absent) (getD (w .slots) 2 absent) (getD (w .slots) 3 absent) (getD (w .slots) 4 absent) (getD (w .slots) 5 absent))) ea
       ∙ sym (ap (judgedAs (count names)) (by-walk ∙ ap (λ (x : Stop). onStop x refused (rest w)) q))

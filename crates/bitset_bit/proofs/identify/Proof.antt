@@ -6,14 +6,14 @@ use Rattle.bitset_bit.proofs.identify.Tie as tie
 count-requires : tie.Need-count-requires
 count-requires c κs = search needs
 
-by-index-requires : tie.Need-by-index-requires
-by-index-requires c κs = search needs
+bit-by-index-requires : tie.Need-bit-by-index-requires
+bit-by-index-requires c κs = search needs
 
 returns : tie.Need-returns
 returns c = search (needs, identify-laws)
 
-by-name-requires : tie.Need-by-name-requires
-by-name-requires c κs = search needs
+bit-by-name-requires : tie.Need-bit-by-name-requires
+bit-by-name-requires c κs = search needs
 
 returns-2 : tie.Need-returns-2
 returns-2 c = search (needs, identify-laws)
@@ -24,4 +24,4 @@ returns-3 c = search (needs, identify-laws)
 pub identify-spec : {M : Type 1} → statement M
 identify-spec =
     tie.close
-    (tie.spec count-requires by-index-requires returns by-name-requires returns-2 returns-3)
+    (tie.spec count-requires bit-by-index-requires returns bit-by-name-requires returns-2 returns-3)

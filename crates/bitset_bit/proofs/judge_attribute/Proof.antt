@@ -3,17 +3,17 @@ use borrow.Author.Needs.{needs}
 use Rattle.bitset_bit.proofs.judge_attribute.Statement.{statement}
 use Rattle.bitset_bit.proofs.judge_attribute.Tie as tie
 
-judge-requires : tie.Need-judge-requires
-judge-requires c κs = search needs
+judge-by-rule-requires : tie.Need-judge-by-rule-requires
+judge-by-rule-requires c κs = search needs
 
-judge-requires-2 : tie.Need-judge-requires-2
-judge-requires-2 c κs = search needs
+judge-by-rule-requires-2 : tie.Need-judge-by-rule-requires-2
+judge-by-rule-requires-2 c κs = search needs
 
-judge-requires-3 : tie.Need-judge-requires-3
-judge-requires-3 c κs = search needs
+judge-by-rule-requires-3 : tie.Need-judge-by-rule-requires-3
+judge-by-rule-requires-3 c κs = search needs
 
-judge-requires-4 : tie.Need-judge-requires-4
-judge-requires-4 c κs = search needs
+judge-by-rule-requires-4 : tie.Need-judge-by-rule-requires-4
+judge-by-rule-requires-4 c κs = search needs
 
 returns : tie.Need-returns
 returns c = search (needs, rule-laws)
@@ -31,10 +31,10 @@ pub judge-attribute-spec : {M : Type 1} → statement M
 judge-attribute-spec =
     tie.close
     (tie.spec
-    judge-requires
-    judge-requires-2
-    judge-requires-3
-    judge-requires-4
+    judge-by-rule-requires
+    judge-by-rule-requires-2
+    judge-by-rule-requires-3
+    judge-by-rule-requires-4
     returns
     returns-2
     returns-3

@@ -15,8 +15,8 @@ enum-known-index c = search needs
 place-requires : tie.Need-place-requires
 place-requires c κs = search needs
 
-judge-parts-requires : tie.Need-judge-parts-requires
-judge-parts-requires c κs = search needs
+judge-bit-parts-requires : tie.Need-judge-bit-parts-requires
+judge-bit-parts-requires c κs = search needs
 
 returns : tie.Need-returns
 returns c = search (needs, judge-bit-laws)
@@ -32,6 +32,6 @@ judge-bit-spec =
     enum-known-why
     enum-known-index
     place-requires
-    judge-parts-requires
+    judge-bit-parts-requires
     returns
     returns-2)

@@ -21,8 +21,8 @@ slot-number-requires c κs = search needs
 cast-bits : tie.Need-cast-bits
 cast-bits c = search needs
 
-judge-whole-requires : tie.Need-judge-whole-requires
-judge-whole-requires c κs = search needs
+judge-nomask-requires : tie.Need-judge-nomask-requires
+judge-nomask-requires c κs = search needs
 
 returns-3 : tie.Need-returns-3
 returns-3 c = search (needs, compact-laws)
@@ -43,7 +43,7 @@ judge-compact-spec =
     returns-2
     slot-number-requires
     cast-bits
-    judge-whole-requires
+    judge-nomask-requires
     returns-3
     judge-masked-requires
     returns-4)

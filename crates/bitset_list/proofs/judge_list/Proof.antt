@@ -1,4 +1,4 @@
-use Rattle.bitset_list.proofs.Laws.{list-fault, list-only, list-listed}
+use Rattle.bitset_list.proofs.Laws.{list-fault, list-nomask, list-masked}
 use Rattle.entries.proofs.Chains.{head-zero}
 use borrow.Author.Needs.{needs}
 use Rattle.bitset_list.proofs.judge_list.Statement.{statement}
@@ -53,10 +53,10 @@ under-nomask-requires : tie.Need-under-nomask-requires
 under-nomask-requires c κs = search needs
 
 returns-2 : tie.Need-returns-2
-returns-2 c = search (needs, list-only)
+returns-2 c = search (needs, list-nomask)
 
 returns-3 : tie.Need-returns-3
-returns-3 c = search (needs, list-listed)
+returns-3 c = search (needs, list-masked)
 
 pub judge-list-spec : {M : Type 1} → statement M
 judge-list-spec =

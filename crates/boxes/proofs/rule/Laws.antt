@@ -5,7 +5,7 @@ use mathlib.Core.List.{List}
 use mathlib.Core.Bool.{Bool, true, false, _&&_, not}
 use borrow.Author.Tests.{le-leb, lt-leb, not-true, not-false}
 use Rattle.entries.specs.Entry.{count}
-use Rattle.roll.specs.Table.{Tabled, Read}
+use Rattle.roll.specs.Table.{Tabled, TableRead}
 use lib.ListN.{length}
 use Rattle.roll_rule.specs.Rule.{rollRight}
 use Rattle.roll_rule.proofs.Laws as R
@@ -18,7 +18,7 @@ use Rattle.boxes.specs.Rule.{familyRight, adminRight, listsRight, boxRig
 use Rattle.boxes.proofs.lists.Laws.{lists-few}
 
 -- the bounds by which the settings may be judged
-module _ (roll t : List ℕ) (r : Read roll t) (b : Bool) (e : b ≡ rollRight roll) (q : not b ≡ false) where
+module _ (roll t : List ℕ) (r : TableRead roll t) (b : Bool) (e : b ≡ rollRight roll) (q : not b ≡ false) where
   pub roll-tabled : Tabled roll t
   roll-tabled = R.right-tabled roll t r (sym e ∙ not-false b q)
 
@@ -56,7 +56,7 @@ module _ (box : Box) (state : State) (call : Call) where
             pub lists-wrong : not n ≡ true → false ≡ boxRight box state call
             lists-wrong h = sym (lists ∙ rw (← er, not-false r hr, ← en, not-true n h))
 
-            pub settings-decide : (t : List ℕ) (sizes : Sizes) (b : Bool) → Read (box .roll) t → not n ≡ false → sizes ≡ sizesIn box
+            pub settings-decide : (t : List ℕ) (sizes : Sizes) (b : Bool) → TableRead (box .roll) t → not n ≡ false → sizes ≡ sizesIn box
                 → b ≡ settingsRight (state .words) (length t) sizes → b ≡ boxRight box state call
             settings-decide t sizes b rd h es eb =
                 let ep : length t ≡ portsIn box = roll-tabled (box .roll) t rd r er hr .count in

@@ -14,7 +14,7 @@ use Rattle.bits.specs.Set.{noneFrom}
 use Rattle.layout.specs.declared.Set.{Set}
 use Rattle.layout.specs.declared.Set.the-variants.{Debug, Flags}
 use Rattle.layout.specs.declared.Sizes.{Sizes}
-use Rattle.layout.specs.Layout.{sizeOf, widths, place}
+use Rattle.layout.specs.Layout.{sizeOf, widthsOf, setPlace}
 use Rattle.layout.proofs.Laws.{each-every}
 use Rattle.boxes.specs.Settings.{setClear, portClear, settingsRight}
 use Rattle.layout.proofs.Kept.{change-length, change-own, change-other}
@@ -36,9 +36,9 @@ same-number p q =
     (lt-or-ge p q)
 
 module _ (settings : List ℕ) (ports : ℕ) (sizes : Sizes) (right : settingsRight settings ports sizes ≡ true) (position : ℕ) (h : position < ports) (set : Set)
-    (new : List ℕ) (fits : length new ≡ sizeOf (widths sizes) set) (clear : noneFrom new (sizeOf sizes set) ≡ true) where
+    (new : List ℕ) (fits : length new ≡ sizeOf (widthsOf sizes) set) (clear : noneFrom new (sizeOf sizes set) ≡ true) where
   abbrev changed : List ℕ
-  changed = splice (place ports (widths sizes) position set) settings new
+  changed = splice (setPlace ports (widthsOf sizes) position set) settings new
 
   means : Right settings ports sizes
   means = right-means settings ports sizes right
@@ -46,13 +46,13 @@ module _ (settings : List ℕ) (ports : ℕ) (sizes : Sizes) (right : settingsRi
   other-clear : (p : ℕ) (s : Set) → p < ports → (position ≡ p → set ≡ s → ⊥) → setClear changed ports sizes p s ≡ true
   unfolding setClear
   other-clear p s l n =
-      ap (λ (x : List ℕ). noneFrom x (sizeOf sizes s)) (change-other settings ports (widths sizes) (means .exact) position h set new fits p s l n)
+      ap (λ (x : List ℕ). noneFrom x (sizeOf sizes s)) (change-other settings ports (widthsOf sizes) (means .exact) position h set new fits p s l n)
       ∙ means .clear p l s
 
   own-clear : (p : ℕ) (s : Set) → position ≡ p → set ≡ s → setClear changed ports sizes p s ≡ true
   unfolding setClear
   own-clear p s ep es =
-      rw (← ep, ← es) (ap (λ (x : List ℕ). noneFrom x (sizeOf sizes set)) (change-own settings ports (widths sizes) (means .exact) position h set new fits) ∙ clear)
+      rw (← ep, ← es) (ap (λ (x : List ℕ). noneFrom x (sizeOf sizes set)) (change-own settings ports (widthsOf sizes) (means .exact) position h set new fits) ∙ clear)
 
   each-clear : (p : ℕ) → p < ports → (s : Set) → setClear changed ports sizes p s ≡ true
   each-clear p l s =
@@ -69,4 +69,4 @@ module _ (settings : List ℕ) (ports : ℕ) (sizes : Sizes) (right : settingsRi
   unfolding settingsRight
   change-right =
       rw
-      (eq-eqb _ _ (change-length settings ports (widths sizes) (means .exact) position h set new fits ∙ means .exact), all-of (portClear changed ports sizes) ports port-clear)
+      (eq-eqb _ _ (change-length settings ports (widthsOf sizes) (means .exact) position h set new fits ∙ means .exact), all-of (portClear changed ports sizes) ports port-clear)

@@ -12,17 +12,17 @@ use Rattle.bits.specs.Set.{noneFrom}
 use Rattle.layout.specs.declared.Set.{Set}
 use Rattle.layout.specs.declared.Set.the-variants.{Debug, Flags}
 use Rattle.layout.specs.declared.Sizes.{Sizes}
-use Rattle.layout.specs.Layout.{sizeOf, everySet, widths, words, setAt}
+use Rattle.layout.specs.Layout.{sizeOf, everySet, widthsOf, totalWords, setAt}
 use Rattle.layout.proofs.Laws.{every-each}
 use Rattle.boxes.specs.Settings.{setClear, portClear, settingsRight}
 
 -- the words of all ports by the widths of their sets
-pub words-by : (ports : ℕ) (sizes width : Sizes) (n : ℕ) → width ≡ widths sizes → n ≡ words ports (widths sizes) → n ≡ words ports width
+pub words-by : (ports : ℕ) (sizes width : Sizes) (n : ℕ) → width ≡ widthsOf sizes → n ≡ totalWords ports (widthsOf sizes) → n ≡ totalWords ports width
 words-by ports sizes width n ew e = rw ew e
 
 module _ (settings : List ℕ) (ports : ℕ) (sizes : Sizes) where
   -- one set
-  pub clear-set : (position : ℕ) (set : Set) (width : Sizes) (held : List ℕ) (n : ℕ) (b : Bool) → width ≡ widths sizes
+  pub clear-set : (position : ℕ) (set : Set) (width : Sizes) (held : List ℕ) (n : ℕ) (b : Bool) → width ≡ widthsOf sizes
       → held ≡ setAt settings ports width position set → n ≡ sizeOf sizes set → b ≡ noneFrom held n → b ≡ setClear settings ports sizes position set
   unfolding setClear
   clear-set position set width held n b ew eh en eb = eb ∙ rw (eh, ew, en)
@@ -45,8 +45,8 @@ module _ (settings : List ℕ) (ports : ℕ) (sizes : Sizes) where
       → all (p + 1) (portClear settings ports sizes) ≡ true
   all-next p b h e q = all-more (portClear settings ports sizes) p h (sym e ∙ not-false b q)
 
-  module _ (width : Sizes) (n : ℕ) (ew : width ≡ widths sizes) (en : n ≡ words ports width) where
-    exact : n ≡ words ports (widths sizes)
+  module _ (width : Sizes) (n : ℕ) (ew : width ≡ widthsOf sizes) (en : n ≡ totalWords ports width) where
+    exact : n ≡ totalWords ports (widthsOf sizes)
     exact = rw (en, ew)
 
     pub right-length : (length settings ≡ n → ⊥) → false ≡ settingsRight settings ports sizes
@@ -54,7 +54,7 @@ module _ (settings : List ℕ) (ports : ℕ) (sizes : Sizes) where
     right-length z = sym (rw (ne-eqb _ _ (λ q. z (q ∙ sym exact))))
 
     module _ (l : length settings ≡ n) where
-      pub right-words : length settings ≡ words ports (widths sizes)
+      pub right-words : length settings ≡ totalWords ports (widthsOf sizes)
       right-words = l ∙ exact
 
       rest : settingsRight settings ports sizes ≡ all ports (portClear settings ports sizes)
@@ -73,8 +73,8 @@ pub ruleset settings-laws = (all-start, all-next, right-length, right-words, rig
 
 -- what it means
 pub record Right (settings : List ℕ) (ports : ℕ) (sizes : Sizes) : Type 0 where
-  pub exact : length settings ≡ words ports (widths sizes)
-  pub clear : (position : ℕ) → position < ports → (set : Set) → noneFrom (setAt settings ports (widths sizes) position set) (sizeOf sizes set) ≡ true
+  pub exact : length settings ≡ totalWords ports (widthsOf sizes)
+  pub clear : (position : ℕ) → position < ports → (set : Set) → noneFrom (setAt settings ports (widthsOf sizes) position set) (sizeOf sizes set) ≡ true
 
 pub right-means : (settings : List ℕ) (ports : ℕ) (sizes : Sizes) → settingsRight settings ports sizes ≡ true → Right settings ports sizes
 unfolding settingsRight portClear setClear

@@ -9,8 +9,8 @@ read-top-requires c κs = search needs
 enum-known-why : tie.Need-enum-known-why
 enum-known-why c = search needs
 
-formless-requires : tie.Need-formless-requires
-formless-requires c κs = search needs
+without-form-requires : tie.Need-without-form-requires
+without-form-requires c κs = search needs
 
 returns : tie.Need-returns
 returns c = search (needs, decide-laws)
@@ -33,7 +33,7 @@ decide-spec =
     (tie.spec
     read-top-requires
     enum-known-why
-    formless-requires
+    without-form-requires
     returns
     enum-known-header
     names-of-requires

@@ -6,14 +6,14 @@ use Rattle.decision.proofs.decide_bitset.Tie as tie
 payload-requires : tie.Need-payload-requires
 payload-requires c κs = search needs
 
-judge-requires : tie.Need-judge-requires
-judge-requires c κs = search needs
+judge-bitset-requires : tie.Need-judge-bitset-requires
+judge-bitset-requires c κs = search needs
 
 enum-known-judgement : tie.Need-enum-known-judgement
 enum-known-judgement c = search needs
 
-formless-requires : tie.Need-formless-requires
-formless-requires c κs = search needs
+without-form-requires : tie.Need-without-form-requires
+without-form-requires c κs = search needs
 
 returns : tie.Need-returns
 returns c = search (needs, bitset-laws)
@@ -32,9 +32,9 @@ decide-bitset-spec =
     tie.close
     (tie.spec
     payload-requires
-    judge-requires
+    judge-bitset-requires
     enum-known-judgement
-    formless-requires
+    without-form-requires
     returns
     enum-told
     place-requires

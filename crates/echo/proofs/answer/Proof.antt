@@ -24,8 +24,8 @@ read-request-requires c κs = search needs
 enum-known-number : tie.Need-enum-known-number
 enum-known-number c = search needs
 
-put-reply-requires : tie.Need-put-reply-requires
-put-reply-requires c κs = search needs
+put-number-reply-requires : tie.Need-put-number-reply-requires
+put-number-reply-requires c κs = search needs
 
 enum-known-errno : tie.Need-enum-known-errno
 enum-known-errno c = search needs
@@ -56,7 +56,7 @@ answer-spec =
     returns-2
     read-request-requires
     enum-known-number
-    put-reply-requires
+    put-number-reply-requires
     enum-known-errno
     put-error-requires
     same-length

@@ -15,33 +15,33 @@ use Rattle.word_bytes.proofs.WordBytes.{length-wordsIn, length-bytesOf}
 use Rattle.refusal.specs.declared.Refusal.the-variants as R
 use Rattle.boxes.specs.Box.{Box, stateOf}
 use Rattle.boxes.specs.declared.Call.{Call}
-use Rattle.response.specs.Answer.{Did}
+use Rattle.response.specs.Answer.{Performs}
 use Rattle.response.specs.declared.Kind.the-variants.{Refused}
 use Rattle.response.specs.declared.Answer.{Answer}
 use Rattle.handler.specs.Call.{outcome}
-use Rattle.handler.specs.Bytes.{Stored, storedOf, read, asStored, wordsOutcome, areWords, bytesOutcome}
+use Rattle.handler.specs.Bytes.{Stored, storedOf, inWords, asStored, wordsOutcome, areWords, bytesOutcome}
 
 -- the words read, handled, and written back
 pub words-told : (box : Box) (stored : Stored) (call : Call) (datagram room ws new after P Q : List ℕ) (r : Answer)
     → length room ≡ length (stored .settings) / 4 → ws ≡ put room (wordsIn (stored .settings))
-    → Did (outcome box (stateOf ws) call datagram (length P)) P Q (stateOf new) r → length (stored .settings) ≤ length new * 4
-    → after ≡ put (stored .settings) (bytesOf new) → Did (wordsOutcome box stored call datagram (length P)) P Q (storedOf after) r
+    → Performs (outcome box (stateOf ws) call datagram (length P)) P Q (stateOf new) r → length (stored .settings) ≤ length new * 4
+    → after ≡ put (stored .settings) (bytesOf new) → Performs (wordsOutcome box stored call datagram (length P)) P Q (storedOf after) r
 unfolding wordsOutcome
 words-told box stored call datagram room ws new after P Q r l e d k a =
     let w : ws ≡ wordsIn (stored .settings) = e ∙ put-whole room (wordsIn (stored .settings)) (omega (arith, l, length-wordsIn (stored .settings))) in
-    let d2 : Did (outcome box (read stored) call datagram (length P)) P Q (stateOf new) r = rw w at d in
+    let d2 : Performs (outcome box (inWords stored) call datagram (length P)) P Q (stateOf new) r = rw w at d in
     record {
-      said = d2 .said;
+      response = d2 .response;
       state-is = ap storedOf (a ∙ put-whole (stored .settings) (bytesOf new) (omega (arith, k, length-bytesOf new))) ∙ ap asStored (d2 .state-is);
     }
 
 module _ (box : Box) (stored : Stored) (call : Call) (datagram P : List ℕ) (r : Answer) (b : Bool) (e : b ≡ areWords (stored .settings)) where
-  pub bytes-broken : not b ≡ true → r ≡ record { kind = Refused R.Box; next = call .position; written = 0 } → Did (bytesOutcome box stored call datagram (length P)) P P stored r
+  pub bytes-broken : not b ≡ true → r ≡ record { kind = Refused R.Box; next = call .position; written = 0 } → Performs (bytesOutcome box stored call datagram (length P)) P P stored r
   unfolding bytesOutcome
-  bytes-broken n q = rw (← e, not-true b n) (record { said = record { result = q; page = sym (put-nil P) }; state-is = refl })
+  bytes-broken n q = rw (← e, not-true b n) (record { response = record { result = q; page = sym (put-nil P) }; state-is = refl })
 
-  pub bytes-in : (Q : List ℕ) (after : Stored) → not b ≡ false → Did (wordsOutcome box stored call datagram (length P)) P Q after r
-      → Did (bytesOutcome box stored call datagram (length P)) P Q after r
+  pub bytes-in : (Q : List ℕ) (after : Stored) → not b ≡ false → Performs (wordsOutcome box stored call datagram (length P)) P Q after r
+      → Performs (bytesOutcome box stored call datagram (length P)) P Q after r
   unfolding bytesOutcome
   bytes-in Q after n a = rw (← e, not-false b n) a
 

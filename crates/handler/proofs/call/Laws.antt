@@ -24,38 +24,38 @@ use Rattle.boxes.specs.Box.{Box, State, setOf}
 use Rattle.boxes.specs.Rule.{boxRight}
 use Rattle.boxes.specs.declared.Call.{Call}
 use Rattle.boxes.proofs.rule.Meaning.{box-means}
-use Rattle.roll.specs.Table.{Tabled, Read}
+use Rattle.roll.specs.Table.{Tabled, TableRead}
 use Rattle.roll_rule.proofs.Laws.{right-tabled}
 use Rattle.admission.specs.Admission.{admitted}
 use Rattle.admission.specs.declared.commands.Command.{Command}
 use Rattle.admission.specs.declared.Admission.{Admission}
 use Rattle.admission.specs.declared.Admission.the-variants as A
-use Rattle.response.specs.Answer.{Outcome, quiet, refusal, leaves, Said, Did}
-use Rattle.obey.specs.Obey.{Fit, obeyed}
+use Rattle.response.specs.Answer.{Outcome, noBytes, errorResponse, unchanged, Responds, Performs}
+use Rattle.execute.specs.Execute.{Fit, requestOutcome}
 use Rattle.handler.specs.Call.{onAdmission, messageOutcome, onMessage, positionOutcome, outcome}
 use Rattle.response.specs.declared.Kind.{Kind}
 use Rattle.response.specs.declared.Kind.the-variants.{End, Skipped, Refused}
 use Rattle.response.specs.declared.Answer.{Answer}
-use Rattle.obey.proofs.Laws.{leaves-did}
+use Rattle.execute.proofs.Laws.{unchanged-performs}
 
 -- nothing is written, and the state stays
-pub quiet-did : (o : Outcome State) (k : Kind) (next : ℕ) (P : List ℕ) (state : State) (r : Answer) → r ≡ record { kind = k; next = next; written = 0 }
-    → o ≡ leaves (quiet k next) state → Did o P P state r
-quiet-did o k next P state r e q = rw q (record { said = record { result = e; page = sym (put-nil P) }; state-is = refl })
+pub no-bytes-performs : (o : Outcome State) (k : Kind) (next : ℕ) (P : List ℕ) (state : State) (r : Answer) → r ≡ record { kind = k; next = next; written = 0 }
+    → o ≡ unchanged (noBytes k next) state → Performs o P P state r
+no-bytes-performs o k next P state r e q = rw q (record { response = record { result = e; page = sym (put-nil P) }; state-is = refl })
 
 module _ (box : Box) (state : State) (m : List ℕ) (h : MessageHeader) (next : ℕ) (a : Admission) (P : List ℕ) (r : Answer) where
-  pub message-skipped : a ≡ A.Skipped → r ≡ record { kind = Skipped; next = next; written = 0 } → Did (onAdmission a box state m h next) P P state r
-  message-skipped q er = quiet-did _ Skipped next P state r er (rw q)
+  pub message-skipped : a ≡ A.Skipped → r ≡ record { kind = Skipped; next = next; written = 0 } → Performs (onAdmission a box state m h next) P P state r
+  message-skipped q er = no-bytes-performs _ Skipped next P state r er (rw q)
 
   module _ (Q : List ℕ) where
-    pub message-refused : (why : Refusal) → a ≡ A.Refused why → Said (refusal m next why) P Q r → Did (onAdmission a box state m h next) P Q state r
-    message-refused why q s = rw q (leaves-did (refusal m next why) P Q state r s)
+    pub message-refused : (why : Refusal) → a ≡ A.Refused why → Responds (errorResponse m next why) P Q r → Performs (onAdmission a box state m h next) P Q state r
+    message-refused why q s = rw q (unchanged-performs (errorResponse m next why) P Q state r s)
 
-    pub message-go : (c : Command) (new : State) → a ≡ A.Go c → Did (obeyed box state m (record { header = h; next = next; command = c })) P Q new r
-        → Did (onAdmission a box state m h next) P Q new r
-    message-go c new q d = rw q d
+    pub message-admitted : (c : Command) (new : State) → a ≡ A.Admitted c → Performs (requestOutcome box state m (record { header = h; next = next; command = c })) P Q new r
+        → Performs (onAdmission a box state m h next) P Q new r
+    message-admitted c new q d = rw q d
 
-pub ruleset message-laws = (message-skipped, message-refused, message-go)
+pub ruleset message-laws = (message-skipped, message-refused, message-admitted)
 
 -- a right box fits
 pub box-fit : (box : Box) (state : State) (call : Call) (b : Bool) → b ≡ boxRight box state call → not b ≡ false → Fit box state
@@ -65,7 +65,7 @@ box-fit box state call b e n =
     record { ports = right .ports-few; few = right .few; exact = right .settings .exact; clear = right .settings .clear }
 
 -- and its table holds its ports
-pub box-table : (box : Box) (state : State) (call : Call) (b : Bool) (t : List ℕ) → Read (box .roll) t → b ≡ boxRight box state call → not b ≡ false → Tabled (box .roll) t
+pub box-table : (box : Box) (state : State) (call : Call) (b : Bool) (t : List ℕ) → TableRead (box .roll) t → b ≡ boxRight box state call → not b ≡ false → Tabled (box .roll) t
 box-table box state call b t r e n = right-tabled (box .roll) t r (box-means box state call (sym e ∙ not-false b n) .roll-right)
 
 -- the message at the position
@@ -76,20 +76,20 @@ module _ (box : Box) (state : State) (call : Call) (datagram P : List ℕ) (x : 
   by-message = rw (← ex)
 
   module _ (r : Answer) where
-    pub at-outside : x ≡ Outside → r ≡ record { kind = Refused R.Datagram; next = call .position; written = 0 } → Did (positionOutcome box state call datagram) P P state r
-    at-outside q er = quiet-did _ (Refused R.Datagram) (call .position) P state r er (by-message ∙ rw q)
+    pub at-outside : x ≡ Outside → r ≡ record { kind = Refused R.Datagram; next = call .position; written = 0 } → Performs (positionOutcome box state call datagram) P P state r
+    at-outside q er = no-bytes-performs _ (Refused R.Datagram) (call .position) P state r er (by-message ∙ rw q)
 
-    pub at-end : x ≡ AtEnd → r ≡ record { kind = End; next = call .position; written = 0 } → Did (positionOutcome box state call datagram) P P state r
-    at-end q er = quiet-did _ End (call .position) P state r er (by-message ∙ rw q)
+    pub at-end : x ≡ AtEnd → r ≡ record { kind = End; next = call .position; written = 0 } → Performs (positionOutcome box state call datagram) P P state r
+    at-end q er = no-bytes-performs _ End (call .position) P state r er (by-message ∙ rw q)
 
-    pub at-cut : x ≡ Cut → r ≡ record { kind = Refused R.Datagram; next = call .position; written = 0 } → Did (positionOutcome box state call datagram) P P state r
-    at-cut q er = quiet-did _ (Refused R.Datagram) (call .position) P state r er (by-message ∙ rw q)
+    pub at-cut : x ≡ Cut → r ≡ record { kind = Refused R.Datagram; next = call .position; written = 0 } → Performs (positionOutcome box state call datagram) P P state r
+    at-cut q er = no-bytes-performs _ (Refused R.Datagram) (call .position) P state r er (by-message ∙ rw q)
 
-    pub at-misstated : x ≡ Misstated → r ≡ record { kind = Refused R.Length; next = call .position; written = 0 } → Did (positionOutcome box state call datagram) P P state r
-    at-misstated q er = quiet-did _ (Refused R.Length) (call .position) P state r er (by-message ∙ rw q)
+    pub at-misstated : x ≡ Misstated → r ≡ record { kind = Refused R.Length; next = call .position; written = 0 } → Performs (positionOutcome box state call datagram) P P state r
+    at-misstated q er = no-bytes-performs _ (Refused R.Length) (call .position) P state r er (by-message ∙ rw q)
 
     pub at-message : (h : MessageHeader) (end next : ℕ) (m Q : List ℕ) (new : State) (a : Admission) → x ≡ Message h end next → m ≡ partOf datagram (call .position) end
-        → a ≡ admitted m h (call .family) (eqb (call .admin) 1) → Did (onAdmission a box state m h next) P Q new r → Did (positionOutcome box state call datagram) P Q new r
+        → a ≡ admitted m h (call .family) (eqb (call .admin) 1) → Performs (onAdmission a box state m h next) P Q new r → Performs (positionOutcome box state call datagram) P Q new r
     unfolding messageOutcome
     at-message h end next m Q new a q em ea d = rw (by-message, q, ← em, ← ea) d
 
@@ -98,24 +98,24 @@ pub ruleset at-laws = (at-outside, at-end, at-cut, at-misstated, at-message)
 -- the box, the page, the datagram
 module _ (box : Box) (state : State) (call : Call) (datagram P : List ℕ) (b : Bool) (e : b ≡ boxRight box state call) where
   pub call-box : (r : Answer) → not b ≡ true → r ≡ record { kind = Refused R.Box; next = call .position; written = 0 }
-      → Did (outcome box state call datagram (length P)) P P state r
+      → Performs (outcome box state call datagram (length P)) P P state r
   unfolding outcome
-  call-box r z er = quiet-did _ (Refused R.Box) (call .position) P state r er (rw (← e, z))
+  call-box r z er = no-bytes-performs _ (Refused R.Box) (call .position) P state r er (rw (← e, z))
 
   module _ (right : not b ≡ false) where
     pub call-page : (r : Answer) → length P < 32768 → r ≡ record { kind = Refused R.Page; next = call .position; written = 0 }
-        → Did (outcome box state call datagram (length P)) P P state r
+        → Performs (outcome box state call datagram (length P)) P P state r
     unfolding outcome
-    call-page r l er = quiet-did _ (Refused R.Page) (call .position) P state r er (rw (← e, right, lt-ltb _ _ l))
+    call-page r l er = no-bytes-performs _ (Refused R.Page) (call .position) P state r er (rw (← e, right, lt-ltb _ _ l))
 
     module _ (room : 32768 ≤ length P) where
       pub call-long : (r : Answer) → 32768 < length datagram → r ≡ record { kind = Refused R.Datagram; next = call .position; written = 0 }
-          → Did (outcome box state call datagram (length P)) P P state r
+          → Performs (outcome box state call datagram (length P)) P P state r
       unfolding outcome
-      call-long r l er = quiet-did _ (Refused R.Datagram) (call .position) P state r er (rw (← e, right, le-ltb _ _ room, lt-ltb _ _ l))
+      call-long r l er = no-bytes-performs _ (Refused R.Datagram) (call .position) P state r er (rw (← e, right, le-ltb _ _ room, lt-ltb _ _ l))
 
-      pub call-at : length datagram ≤ 32768 → (Q : List ℕ) (new : State) (r : Answer) → Did (positionOutcome box state call datagram) P Q new r
-          → Did (outcome box state call datagram (length P)) P Q new r
+      pub call-at : length datagram ≤ 32768 → (Q : List ℕ) (new : State) (r : Answer) → Performs (positionOutcome box state call datagram) P Q new r
+          → Performs (outcome box state call datagram (length P)) P Q new r
       unfolding outcome
       call-at short Q new r d = rw (← e, right, le-ltb _ _ room, le-ltb _ _ short) d
 

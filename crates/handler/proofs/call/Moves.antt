@@ -24,66 +24,66 @@ use Rattle.layout.specs.Layout.{listOf}
 use Rattle.boxes.specs.Box.{Box, State}
 use Rattle.boxes.specs.Rule.{boxRight}
 use Rattle.boxes.specs.declared.Call.{Call}
-use Rattle.decision.specs.declared.Port.{Port}
+use Rattle.decision.specs.declared.Target.{Target}
 use Rattle.admission.specs.Admission.{admitted}
 use Rattle.admission.specs.declared.Admission.{Admission}
 use Rattle.admission.specs.declared.Admission.the-variants as A
 use Rattle.request.specs.Top.{topOf}
-use Rattle.request.specs.Aim.{aimOf}
+use Rattle.request.specs.Target.{targetOf}
 use Rattle.request.specs.declared.top.Top.{Top}
 use Rattle.request.specs.declared.top.Top.the-variants as T
-use Rattle.request.specs.declared.aim.Aim.{Aim}
-use Rattle.request.specs.declared.aim.Aim.the-variants as P
-use Rattle.response.specs.Answer.{Outcome, speech, done, leaves}
-use Rattle.obey.specs.declared.Asked.{Asked}
-use Rattle.obey.specs.Obey.{gotten, onReading, setOutcome, deed, onAim, aimed, onTop, obeyed}
-use Rattle.handler.specs.Call.{onAdmission, messageOutcome, stays, onMessage, positionOutcome, outcome, isOver}
+use Rattle.request.specs.declared.target.TargetRead.{TargetRead}
+use Rattle.request.specs.declared.target.TargetRead.the-variants as P
+use Rattle.response.specs.Answer.{Outcome, responseOf, done, unchanged}
+use Rattle.execute.specs.declared.Request.{Request}
+use Rattle.execute.specs.Execute.{getBytes, readingOutcome, setOutcome, portOutcome, targetOutcome, headerOutcome, topOutcome, requestOutcome}
+use Rattle.handler.specs.Call.{onAdmission, messageOutcome, refusedInPlace, onMessage, positionOutcome, outcome, endsRun}
 
 -- whatever is said of a message, the next position is the one after it
 module _ (box : Box) (state : State) (m : List ℕ) where
-  module _ (asked : Asked) where
-    set-next : (bitset : Slot) (position : ℕ) → setOutcome box state m asked bitset position .said .next ≡ asked .next
+  module _ (request : Request) where
+    set-next : (bitset : Slot) (position : ℕ) → setOutcome box state m request bitset position .response .next ≡ request .next
     unfolding setOutcome
-    set-next bitset position = by (bitsetReading (partOf m 0 (bitset .end)) (bitset .start) (listOf (box .names) (asked .command .set)))
+    set-next bitset position = by (bitsetReading (partOf m 0 (bitset .end)) (bitset .start) (listOf (box .names) (request .command .set)))
       where
-        by : (x : Reading) → onReading x box state m asked position .said .next ≡ asked .next
+        by : (x : Reading) → readingOutcome x box state m request position .response .next ≡ request .next
         by (refused r) = refl
         by (accepted b) = refl
 
-    deed-next : (bitset : Slot) (port : Port) → deed box state m asked bitset port .said .next ≡ asked .next
-    unfolding deed
-    deed-next bitset port = by (asked .command .change)
+    deed-next : (bitset : Slot) (port : Target) → portOutcome box state m request bitset port .response .next ≡ request .next
+    unfolding portOutcome
+    deed-next bitset port = by (request .command .change)
       where
         by : (t : Bool)
-            → cond t (setOutcome box state m asked bitset (port .position)) (leaves (speech done (asked .next) (gotten box state m asked port)) state) .said .next
-            ≡ asked .next
+            → cond t (setOutcome box state m request bitset (port .position)) (unchanged (responseOf done (request .next) (getBytes box state m request port)) state) .response .next
+            ≡ request .next
         by true = set-next bitset (port .position)
         by false = refl
 
-    aimed-next : (header bitset : Slot) → aimed box state m asked header bitset .said .next ≡ asked .next
-    unfolding aimed
-    aimed-next header bitset = by (aimOf m header (box .roll))
+    aimed-next : (header bitset : Slot) → headerOutcome box state m request header bitset .response .next ≡ request .next
+    unfolding headerOutcome
+    aimed-next header bitset = by (targetOf m header (box .roll))
       where
-        by : (x : Aim) → onAim x state m asked (deed box state m asked bitset) .said .next ≡ asked .next
+        by : (x : TargetRead) → targetOutcome x state m request (portOutcome box state m request bitset) .response .next ≡ request .next
         by (P.Refused r) = refl
         by (P.Port position flags) = deed-next bitset (record { position = position; flags = flags })
 
-    obeyed-next : obeyed box state m asked .said .next ≡ asked .next
-    unfolding obeyed
-    obeyed-next = by (topOf m (asked .command .change))
+    obeyed-next : requestOutcome box state m request .response .next ≡ request .next
+    unfolding requestOutcome
+    obeyed-next = by (topOf m (request .command .change))
       where
-        by : (x : Top) → onTop x state m asked (aimed box state m asked) .said .next ≡ asked .next
+        by : (x : Top) → topOutcome x state m request (headerOutcome box state m request) .response .next ≡ request .next
         by (T.Refused r) = refl
         by (T.Nests header bitset) = aimed-next header bitset
 
-  message-next : (call : Call) (h : MessageHeader) (next : ℕ) → messageOutcome box state call m h next .said .next ≡ next
+  message-next : (call : Call) (h : MessageHeader) (next : ℕ) → messageOutcome box state call m h next .response .next ≡ next
   unfolding messageOutcome
   message-next call h next = by (admitted m h (call .family) (eqb (call .admin) 1))
     where
-      by : (x : Admission) → onAdmission x box state m h next .said .next ≡ next
+      by : (x : Admission) → onAdmission x box state m h next .response .next ≡ next
       by A.Skipped = refl
       by (A.Refused r) = refl
-      by (A.Go command) = obeyed-next (record { header = h; next = next; command = command })
+      by (A.Admitted command) = obeyed-next (record { header = h; next = next; command = command })
 
 module _ (box : Box) (state : State) (call : Call) (datagram : List ℕ) (room : ℕ) where
   abbrev position : ℕ
@@ -99,7 +99,7 @@ module _ (box : Box) (state : State) (call : Call) (datagram : List ℕ) (room :
   answer = messageOutcome box state call (partOf datagram position (position + stated)) (messageHeader datagram position) after
 
   abbrev Moved : Outcome State → Type 0
-  Moved o = isOver (o .said .kind) ≡ false → (position + 16 ≤ o .said .next) × (o .said .next ≤ length datagram)
+  Moved o = endsRun (o .response .kind) ≡ false → (position + 16 ≤ o .response .next) × (o .response .next ≤ length datagram)
 
   answer-moved : 16 ≤ stated → position + stated ≤ length datagram → Moved answer
   answer-moved lo hi e =
@@ -114,9 +114,9 @@ module _ (box : Box) (state : State) (call : Call) (datagram : List ℕ) (room :
     where
       by : (right page long past end cut low high : Bool) → ltb stated 16 ≡ low → ltb (length datagram) (position + stated) ≡ high
           → Moved
-          (cond (not right) (stays R.Box call state)
-          (cond page (stays R.Page call state)
-          (cond long (stays R.Datagram call state)
+          (cond (not right) (refusedInPlace R.Box call state)
+          (cond page (refusedInPlace R.Page call state)
+          (cond long (refusedInPlace R.Datagram call state)
           (onMessage
           (cond past Outside (cond end AtEnd (cond cut Cut (cond (low || high) Misstated (Message (messageHeader datagram position) (position + stated) after)))))
           call state (λ h end next. messageOutcome box state call (partOf datagram position end) h next)))))

@@ -11,7 +11,7 @@ use native.Mathlib.Omega.{arith}
 use borrow.Author.Tests.{eq-eqb, ne-eqb, eqb-false}
 use Rattle.basics.specs.Scan.{any}
 use Rattle.basics.proofs.Scan.{any-not}
-use Rattle.netlink.specs.Policy.{ruleOf, nulAt, NulFrom, isNul, isName, plain, nested, judged}
+use Rattle.netlink.specs.Policy.{ruleOf, nulAt, NulFrom, isNul, isNamePayload, plain, nested, judged}
 use Rattle.netlink.specs.declared.policy.Rule.{Rule}
 use Rattle.netlink.specs.declared.policy.Rule.the-variants.{Unlisted, Nest, Number, Flag, Name, Bytes}
 use Rattle.netlink.specs.declared.policy.Fault.the-variants.{Unknown, Payload}
@@ -76,16 +76,16 @@ module _ (s : List ℕ) (at : ℕ) where
   some-done j n b e l u = let k : j ≡ n = omega arith in rw k at e
 
 module _ (max : ℕ) (s : List ℕ) (n : ℕ) (e : n ≡ nulAt s) where
-  pub name-open : length s ≤ n → false ≡ isName max s
-  unfolding isName
+  pub name-open : length s ≤ n → false ≡ isNamePayload max s
+  unfolding isNamePayload
   name-open h = simp (ne-eqb (nulAt s + 1) (length s) (λ q. omega arith))
 
-  pub name-else : (n + 1 ≡ length s → ⊥) → false ≡ isName max s
-  unfolding isName
+  pub name-else : (n + 1 ≡ length s → ⊥) → false ≡ isNamePayload max s
+  unfolding isNamePayload
   name-else h = simp (ne-eqb (nulAt s + 1) (length s) (λ q. h (ap (λ (k : ℕ). k + 1) e ∙ q)))
 
-  pub name-ends : n + 1 ≡ length s → leb (length s) max ≡ isName max s
-  unfolding isName
+  pub name-ends : n + 1 ≡ length s → leb (length s) max ≡ isNamePayload max s
+  unfolding isNamePayload
   name-ends h = simp (eq-eqb (nulAt s + 1) (length s) (ap (λ (k : ℕ). k + 1) (sym e) ∙ h))
 
 pub ruleset name-laws = (name-open, name-else, name-ends)
@@ -133,7 +133,7 @@ module _ (r : Rule) (bits : ℕ) (payload : List ℕ) where
     unfolding judged
     judge-flag q e = rw q e
 
-    pub judge-name : (max : ℕ) (t : Bool) → r ≡ Name max → t ≡ isName max payload → v ≡ plain bits t → v ≡ judged r bits payload
+    pub judge-name : (max : ℕ) (t : Bool) → r ≡ Name max → t ≡ isNamePayload max payload → v ≡ plain bits t → v ≡ judged r bits payload
     unfolding judged
     judge-name max t q f e = rw (q, ← f) e
 

@@ -14,7 +14,7 @@ use Rattle.basics.specs.Numbers.{u32At}
 use Rattle.netlink_attributes.specs.Attributes.{attributeAt, partOf, Attributes, onRead, attributes}
 use Rattle.netlink_attributes.specs.Attributes.Attributes.{attribute}
 use Rattle.netlink.specs.Policy.{ruleOf, judged}
-use Rattle.netlink.specs.Walk.{found, absent, absentAll, firstFault, lastOf, eachType, stopped, onStop, walked, slotNumber}
+use Rattle.netlink.specs.Walk.{found, absent, absentAll, firstFault, lastOfType, eachType, stopped, walkedTo, walked, slotNumber}
 use Rattle.netlink.specs.declared.policy.Rule.{Rule}
 use Rattle.netlink.specs.declared.policy.Rule.the-variants.{Unlisted}
 use Rattle.netlink.specs.declared.policy.Fault.{Fault}
@@ -42,7 +42,7 @@ pub ruleset slot-laws = (slot-there, slot-absent)
 
 -- the answer of a walk that has slots w and these attributes before it
 abbrev pub walkedOn : List Rule → List ℕ → List Slot → Attributes → Walked
-walkedOn p s w xs = onStop (firstFault p s xs) (eachType (λ kind. lastOf kind (getD w kind absent) xs))
+walkedOn p s w xs = walkedTo (firstFault p s xs) (eachType (λ kind. lastOfType kind (getD w kind absent) xs))
 
 -- what holds before the attribute at a place is read, with slots w
 abbrev pub WalkFrom : List Rule → List ℕ → ℕ → List Slot → ℕ → Type 0
@@ -78,7 +78,7 @@ module _ (p : List Rule) (s : List ℕ) (from : ℕ) (w : List Slot) (at : ℕ) 
   step = inv ∙ ap (walkedOn p s w) (attributes-step s at ∙ ap (λ (x : AttributeRead). onRead x at (attributes s)) (sym e))
 
   pub walk-end : length w ≡ 8 → r ≡ End → record { stop = Whole; slots = w } ≡ walked p s from
-  unfolding firstFault lastOf
+  unfolding firstFault lastOfType
   walk-end h q = sym (rw q at step ∙ ap (λ (x : List Slot). record { stop = Whole; slots = x }) (each-self w h))
 
   pub walk-broken : (z : Walked) → r ≡ Broken → z ≡ stopped Length at → z ≡ walked p s from
@@ -117,10 +117,10 @@ module _ (p : List Rule) (s : List ℕ) (from : ℕ) (w : List Slot) (at : ℕ) 
               omega arith
 
       pub walk-right : (x : Slot) → length w ≡ 8 → length p ≡ 8 → v ≡ Right → x ≡ found a z → WalkFrom p s from (set w k x) n
-      unfolding firstFault lastOf
+      unfolding firstFault lastOfType
       walk-right x l8 lp h ex =
           judged-step ∙ rw (verdict, h, ex)
-          (ap (λ (f : ℕ → Slot). onStop (firstFault p s (attributes s n)) (eachType f))
-          (fun-ext (λ kind. ap (λ (y : Slot). lastOf kind y (attributes s n)) (sym (set-slot w k kind (found a z) (rw (← l8) at (walk-kind lp h)))))))
+          (ap (λ (f : ℕ → Slot). walkedTo (firstFault p s (attributes s n)) (eachType f))
+          (fun-ext (λ kind. ap (λ (y : Slot). lastOfType kind y (attributes s n)) (sym (set-slot w k kind (found a z) (rw (← l8) at (walk-kind lp h)))))))
 
 pub ruleset walk-laws = (walk-start, walk-end, walk-broken, walk-less, walk-wrong, walk-kind, walk-right)

@@ -11,7 +11,7 @@ use borrow.Author.Tests.{eqb-true, eqb-false}
 use Rattle.netlink_attributes.specs.Attributes.{partOf, Attributes, attributes}
 use Rattle.netlink_attributes.specs.Attributes.Attributes.{done, broken, attribute}
 use Rattle.netlink.specs.Policy.{ruleOf, judged}
-use Rattle.netlink.specs.Walk.{found, absent, onVerdict, firstFault, lastOf, eachType, onStop, walked}
+use Rattle.netlink.specs.Walk.{found, absent, onVerdict, firstFault, lastOfType, eachType, walkedTo, walked}
 use Rattle.netlink.specs.Claims.{Passed, FaultyHere, None, LastIs}
 use Rattle.netlink.specs.Claims.Passed.{here, next}
 use Rattle.netlink.specs.declared.policy.Rule.{Rule}
@@ -66,25 +66,25 @@ first-fault p s f at (attribute k b a e rest) ys (next q r) h = rw q (first-faul
 
 -- the last attribute of a type, the slot given where none has it
 last-slot : (kind : ℕ) (slot : Slot) (xs : Attributes)
-    → ((lastOf kind slot xs ≡ slot) × None kind xs) ⊎ ((a : ℕ) × (e : ℕ) × (lastOf kind slot xs ≡ found a e) × LastIs kind a e xs)
-unfolding lastOf
+    → ((lastOfType kind slot xs ≡ slot) × None kind xs) ⊎ ((a : ℕ) × (e : ℕ) × (lastOfType kind slot xs ≡ found a e) × LastIs kind a e xs)
+unfolding lastOfType
 last-slot kind slot done = inl (refl, tt)
 last-slot kind slot (broken p) = inl (refl, tt)
 last-slot kind slot (attribute k b a e rest) =
     go (eqb k kind) refl (last-slot kind (cond (eqb k kind) (found a e) slot) rest)
   where
     go : (t : Bool) → eqb k kind ≡ t
-        → ((lastOf kind (cond t (found a e) slot) rest ≡ cond t (found a e) slot) × None kind rest)
-        ⊎ ((a′ : ℕ) × (e′ : ℕ) × (lastOf kind (cond t (found a e) slot) rest ≡ found a′ e′) × LastIs kind a′ e′ rest)
-        → ((lastOf kind (cond t (found a e) slot) rest ≡ slot) × ((k ≡ kind → ⊥) × None kind rest))
-        ⊎ ((a′ : ℕ) × (e′ : ℕ) × (lastOf kind (cond t (found a e) slot) rest ≡ found a′ e′)
+        → ((lastOfType kind (cond t (found a e) slot) rest ≡ cond t (found a e) slot) × None kind rest)
+        ⊎ ((a′ : ℕ) × (e′ : ℕ) × (lastOfType kind (cond t (found a e) slot) rest ≡ found a′ e′) × LastIs kind a′ e′ rest)
+        → ((lastOfType kind (cond t (found a e) slot) rest ≡ slot) × ((k ≡ kind → ⊥) × None kind rest))
+        ⊎ ((a′ : ℕ) × (e′ : ℕ) × (lastOfType kind (cond t (found a e) slot) rest ≡ found a′ e′)
         × (((k ≡ kind) × (a ≡ a′) × (e ≡ e′) × None kind rest) ⊎ LastIs kind a′ e′ rest))
     go t q (inr (a′, e′, l, r)) = inr (a′, e′, l, inr r)
     go true q (inl (l, n)) = inr (a, e, l, inl (eqb-true k kind q, refl, refl, n))
     go false q (inl (l, n)) = inl (l, (eqb-false k kind q, n))
 
 pub last-is : (kind : ℕ) (xs : Attributes)
-    → ((lastOf kind absent xs ≡ absent) × None kind xs) ⊎ ((a : ℕ) × (e : ℕ) × (lastOf kind absent xs ≡ found a e) × LastIs kind a e xs)
+    → ((lastOfType kind absent xs ≡ absent) × None kind xs) ⊎ ((a : ℕ) × (e : ℕ) × (lastOfType kind absent xs ≡ found a e) × LastIs kind a e xs)
 last-is kind xs = last-slot kind absent xs
 
 -- what a caller of walk learns of its stop and its slots
@@ -93,12 +93,12 @@ module _ (p : List Rule) (s : List ℕ) (from : ℕ) where
   unfolding walked
   stop-is = go (firstFault p s (attributes s from))
     where
-      go : (t : Stop) → onStop t (eachType (λ kind. lastOf kind absent (attributes s from))) .stop ≡ t
+      go : (t : Stop) → walkedTo t (eachType (λ kind. lastOfType kind absent (attributes s from))) .stop ≡ t
       go Whole = refl
       go (At f at) = refl
 
   pub slot-is : walked p s from .stop ≡ Whole → (kind : ℕ) → kind < 8
-      → getD (walked p s from .slots) kind absent ≡ lastOf kind absent (attributes s from)
+      → getD (walked p s from .slots) kind absent ≡ lastOfType kind absent (attributes s from)
   unfolding walked
   slot-is w kind l = go (firstFault p s (attributes s from)) (sym stop-is ∙ w)
     where
@@ -113,6 +113,6 @@ module _ (p : List Rule) (s : List ℕ) (from : ℕ) where
       each f (suc (suc (suc (suc (suc (suc (suc zero))))))) l = refl
       each f (suc (suc (suc (suc (suc (suc (suc (suc k)))))))) l = absurd (omega arith)
 
-      go : (t : Stop) → t ≡ Whole → getD (onStop t (eachType (λ i. lastOf i absent (attributes s from))) .slots) kind absent ≡ lastOf kind absent (attributes s from)
-      go Whole q = each (λ i. lastOf i absent (attributes s from)) kind l
+      go : (t : Stop) → t ≡ Whole → getD (walkedTo t (eachType (λ i. lastOfType i absent (attributes s from))) .slots) kind absent ≡ lastOfType kind absent (attributes s from)
+      go Whole q = each (λ i. lastOfType i absent (attributes s from)) kind l
       go (At f at) q = absurd (let z : _≡_ {A = ℕ} 0 1 = cc in omega arith)

@@ -16,7 +16,7 @@ use Rattle.basics.specs.Put.{put}
 use Rattle.page.specs.Page.{Wrote}
 use Rattle.netlink_write.specs.Headers.{attributeHeaderBytes}
 use Rattle.netlink_write.specs.Attributes.{padding, attr, filled, nest, nameBytes, named, identity, numbered}
-use Rattle.netlink_write.specs.Spelt.{spelt}
+use Rattle.netlink_write.specs.PaddedName.{paddedName}
 use Rattle.basics.proofs.Put.{then-rest}
 use Rattle.page.proofs.Page.{then-front, then-sized}
 use Rattle.netlink_write.proofs.headers.Laws.{length-attribute-header}
@@ -129,9 +129,9 @@ pub length-name : (name : List ℕ) (n : ℕ) → n ≡ nulAt name → length (t
 length-name name n e = length-take-le n name (omega (arith, nul-le name))
 
 pub name-wrote : (P B C name : List ℕ) (kind n next : ℕ) → length name + 8 ≤ length P → n ≡ nulAt name → next ≡ roundUp4 (n + 5)
-    → B ≡ put (take (length P - 4) (drop 4 P)) (spelt name) → C ≡ put (putMid 4 (length P - 4) P B) (attributeHeaderBytes (n + 5) kind)
+    → B ≡ put (take (length P - 4) (drop 4 P)) (paddedName name) → C ≡ put (putMid 4 (length P - 4) P B) (attributeHeaderBytes (n + 5) kind)
     → Wrote (attr kind (nameBytes name)) P C next
-unfolding nameBytes spelt
+unfolding nameBytes paddedName
 name-wrote P B C name kind n next room e en b c =
     let l = length-name name n e in
     let pad : 4 - n % 4 ≡ next - 4 - length (take n name) = omega arith in

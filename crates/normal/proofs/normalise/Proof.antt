@@ -6,20 +6,20 @@ use Rattle.normal.proofs.normalise.Tie as tie
 names-right-requires : tie.Need-names-right-requires
 names-right-requires c κs = search needs
 
-refused-requires : tie.Need-refused-requires
-refused-requires c κs = search needs
+refused-by-requires : tie.Need-refused-by-requires
+refused-by-requires c κs = search needs
 
 returns : tie.Need-returns
 returns c = search (needs, normal-box)
 
-refused-requires-2 : tie.Need-refused-requires-2
-refused-requires-2 c κs = search needs
+refused-by-requires-2 : tie.Need-refused-by-requires-2
+refused-by-requires-2 c κs = search needs
 
 returns-2 : tie.Need-returns-2
 returns-2 c = search (needs, normal-page)
 
-refused-requires-3 : tie.Need-refused-requires-3
-refused-requires-3 c κs = search needs
+refused-by-requires-3 : tie.Need-refused-by-requires-3
+refused-by-requires-3 c κs = search needs
 
 returns-3 : tie.Need-returns-3
 returns-3 c = search (needs, normal-long)
@@ -38,11 +38,11 @@ normalise-spec =
     tie.close
     (tie.spec
     names-right-requires
-    refused-requires
+    refused-by-requires
     returns
-    refused-requires-2
+    refused-by-requires-2
     returns-2
-    refused-requires-3
+    refused-by-requires-3
     returns-3
     put-normal-requires
     same-length

@@ -14,15 +14,15 @@ use Rattle.netlink_write.specs.Attributes.{numbered}
 use Rattle.page.proofs.Page.{wrote-then, then-sized}
 use Rattle.netlink_write.proofs.headers.Laws.{length-message-header, length-generic-header}
 use Rattle.bitset_reply.specs.Set.{setBytes}
-use Rattle.reply.specs.Message.{messageHeader, genericHeader, headersBytes, attributesBytes, replyBytes}
+use Rattle.reply.specs.Message.{replyMessageHeader, replyGenericHeader, headersBytes, attributesBytes, replyBytes}
 use Rattle.reply.specs.declared.message.Heading.{Heading}
 
-pub headers-put : (P A B : List ℕ) (h : Heading) (total : ℕ) → 20 ≤ length P → A ≡ put P (messageHeaderBytes (messageHeader h total))
-    → B ≡ put (take (length A - 16) (drop 16 A)) (genericHeaderBytes (genericHeader h)) → putMid 16 (length A - 16) A B ≡ put P (headersBytes h total)
+pub headers-put : (P A B : List ℕ) (h : Heading) (total : ℕ) → 20 ≤ length P → A ≡ put P (messageHeaderBytes (replyMessageHeader h total))
+    → B ≡ put (take (length A - 16) (drop 16 A)) (genericHeaderBytes (replyGenericHeader h)) → putMid 16 (length A - 16) A B ≡ put P (headersBytes h total)
 unfolding headersBytes
 headers-put P A B h total room a b =
-    let long = length-message-header (messageHeader h total) in
-    then-rest P (messageHeaderBytes (messageHeader h total)) (genericHeaderBytes (genericHeader h)) 16 long (omega arith) a b
+    let long = length-message-header (replyMessageHeader h total) in
+    then-rest P (messageHeaderBytes (replyMessageHeader h total)) (genericHeaderBytes (replyGenericHeader h)) 16 long (omega arith) a b
 
 pub length-headers : (h : Heading) (total : ℕ) → length (headersBytes h total) ≡ 20
 unfolding headersBytes

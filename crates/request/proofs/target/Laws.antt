@@ -1,92 +1,44 @@
--- Laws of the search for the port: one for each return.
-use Prim.Native.Nat.{ℕ, _-_, _<_}
+-- Laws of what a request is aimed at: one for each return.
+use Prim.Native.Nat.{ℕ}
 use mathlib.Core.Path.{_≡_, sym, ap, _∙_}
 use mathlib.Core.List.{List}
-use mathlib.Core.Bool.{Bool, true, false, _&&_, not, cond}
-use borrow.Author.Tests.{not-true, not-false}
-use Rattle.basics.proofs.Truth.{cond-true, cond-false}
-use Rattle.netlink_attributes.specs.Attributes.{partOf}
-use Rattle.netlink.specs.Walk.{slotNumber}
 use Rattle.netlink.specs.declared.walk.Slot.{Slot}
-use Rattle.refusal.specs.declared.Refusal.the-variants.{UnknownPort, OtherName}
-use Rattle.roll.specs.Find.{byIndex, byName}
-use Rattle.roll.specs.Name.{isName}
-use Rattle.roll.specs.Record.{portCount, nameOf}
-use Rattle.roll.specs.Table.{Tabled}
-use lib.ListN.{length}
-use Rattle.roll.proofs.find.Laws.{index-is}
-use Rattle.roll.specs.declared.find.Found.{Found}
-use Rattle.roll.specs.declared.find.Found.the-variants as F
-use Rattle.request.specs.Target.{onFound, otherName, portByIndex, portByName, targetOf}
-use Rattle.request.specs.declared.target.Target.{Target}
-use Rattle.request.specs.declared.target.Target.the-variants.{Port, Refused}
+use Rattle.refusal.specs.declared.Refusal.{Refusal}
+use Rattle.request.specs.Header.{headerOf}
+use Rattle.request.specs.Port.{portOf}
+use Rattle.request.specs.Target.{withFlags, onHeader, targetOf}
+use Rattle.request.specs.declared.header.Header.{Header}
+use Rattle.request.specs.declared.header.Header.the-variants as H
+use Rattle.request.specs.declared.port.PortRead.{PortRead}
+use Rattle.request.specs.declared.port.PortRead.the-variants as T
+use Rattle.request.specs.declared.target.TargetRead.{TargetRead}
+use Rattle.request.specs.declared.target.TargetRead.the-variants.{Port, Refused}
 
-module _ (m : List ℕ) (name : Slot) (roll : List ℕ) (k : ℕ) where
-  pub other-absent : not (name .present) ≡ true → false ≡ otherName m name roll k
-  unfolding otherName
-  other-absent h = sym (ap (λ (x : Bool). x && not (isName (nameOf roll k) (partOf m (name .start) (name .end)))) (not-true (name .present) h))
+module _ (t : PortRead) (flags : ℕ) where
+  pub flags-refused : (why : Refusal) → t ≡ T.Refused why → Refused why ≡ withFlags t flags
+  unfolding withFlags
+  flags-refused why q = sym (rw q)
 
-  pub other-given : (s p : List ℕ) (b : Bool) → not (name .present) ≡ false → s ≡ nameOf roll k → p ≡ partOf m (name .start) (name .end) → b ≡ isName s p
-      → not b ≡ otherName m name roll k
-  unfolding otherName
-  other-given s p b h es ep eb =
-      let e : b ≡ isName (nameOf roll k) (partOf m (name .start) (name .end)) = eb ∙ rw (es, ep) in
-      ap not e
-      ∙ sym (ap (λ (x : Bool). x && not (isName (nameOf roll k) (partOf m (name .start) (name .end)))) (not-false (name .present) h))
+  pub flags-port : (k : ℕ) → t ≡ T.Port k → Port k flags ≡ withFlags t flags
+  unfolding withFlags
+  flags-port k q = sym (rw q)
 
-pub ruleset other-laws = (other-absent, other-given)
+pub ruleset flags-laws = (flags-refused, flags-port)
 
-module _ (m : List ℕ) (header index name : Slot) (roll : List ℕ) (x : ℕ) (ex : x ≡ slotNumber m index) (f : Found) (ef : f ≡ byIndex roll x) where
-  judge : ℕ → Target
-  judge k = cond (otherName m name roll k) (Refused (OtherName (header .start - 4))) (Port k)
+module _ (m : List ℕ) (header : Slot) (roll : List ℕ) (h : Header) (eh : h ≡ headerOf m header) where
+  rest : Slot → Slot → ℕ → TargetRead
+  rest index name flags = withFlags (portOf m header index name roll) flags
 
-  by-index : portByIndex m header index name roll ≡ onFound f (Refused (UnknownPort (index .start - 4))) judge
-  unfolding portByIndex judge
-  by-index = sym (ap (λ (y : Found). onFound y (Refused (UnknownPort (index .start - 4))) judge) (ef ∙ ap (byIndex roll) ex))
+  by-header : targetOf m header roll ≡ onHeader h rest
+  unfolding targetOf rest
+  by-header = sym (ap (λ (x : Header). onHeader x rest) eh)
 
-  pub index-unknown : (at : ℕ) → at ≡ index .start - 4 → f ≡ F.Nothing → Refused (UnknownPort at) ≡ portByIndex m header index name roll
-  index-unknown at ea q =
-      ap (λ (y : ℕ). Refused (UnknownPort y)) ea ∙ sym (by-index ∙ ap (λ (y : Found). onFound y (Refused (UnknownPort (index .start - 4))) judge) q)
+  pub target-refused : (why : Refusal) → h ≡ H.Refused why → Refused why ≡ targetOf m header roll
+  target-refused why q = sym (by-header ∙ ap (λ (x : Header). onHeader x rest) q)
 
-  module _ (k : ℕ) (q : f ≡ F.At k) (b : Bool) (eb : b ≡ otherName m name roll k) where
-    found : portByIndex m header index name roll ≡ cond b (Refused (OtherName (header .start - 4))) (Port k)
-    unfolding judge
-    found =
-        by-index ∙ ap (λ (y : Found). onFound y (Refused (UnknownPort (index .start - 4))) judge) q
-        ∙ ap (λ (y : Bool). cond y (Refused (OtherName (header .start - 4))) (Port k)) (sym eb)
+  pub target-parts : (index name : Slot) (flags : ℕ) (t : PortRead) (r : TargetRead) → h ≡ H.Parts index name flags → t ≡ portOf m header index name roll
+      → r ≡ withFlags t flags → r ≡ targetOf m header roll
+  unfolding rest
+  target-parts index name flags t r q et er = er ∙ ap (λ (x : PortRead). withFlags x flags) et ∙ sym (by-header ∙ ap (λ (x : Header). onHeader x rest) q)
 
-    pub index-other : (at : ℕ) → at ≡ header .start - 4 → b ≡ true → Refused (OtherName at) ≡ portByIndex m header index name roll
-    index-other at ea h = ap (λ (y : ℕ). Refused (OtherName y)) ea ∙ sym (found ∙ cond-true b _ _ h)
-
-    pub index-found : b ≡ false → Port k ≡ portByIndex m header index name roll
-    index-found h = sym (found ∙ cond-false b _ _ h)
-
--- the port that is found stands in the table
-pub index-here : (roll : List ℕ) (x k : ℕ) (f : Found) (t : List ℕ) → f ≡ byIndex roll x → f ≡ F.At k → Tabled roll t → k < length t
-index-here roll x k f t ef q tab = rw (tab .count) (index-is roll x k (sym ef ∙ q) .0)
-
-pub ruleset index-laws = (index-unknown, index-other, index-found)
-
-module _ (m : List ℕ) (name : Slot) (roll p : List ℕ) (ep : p ≡ partOf m (name .start) (name .end)) (f : Found) (ef : f ≡ byName roll p) where
-  by-name : portByName m name roll ≡ onFound f (Refused (UnknownPort (name .start - 4))) Port
-  unfolding portByName
-  by-name = sym (ap (λ (y : Found). onFound y (Refused (UnknownPort (name .start - 4))) Port) (ef ∙ ap (byName roll) ep))
-
-  pub name-unknown : (at : ℕ) → at ≡ name .start - 4 → f ≡ F.Nothing → Refused (UnknownPort at) ≡ portByName m name roll
-  name-unknown at ea q = ap (λ (y : ℕ). Refused (UnknownPort y)) ea ∙ sym (rw q at by-name)
-
-  pub name-found : (k : ℕ) → f ≡ F.At k → Port k ≡ portByName m name roll
-  name-found k q = sym (rw q at by-name)
-
-pub ruleset name-laws = (name-unknown, name-found)
-
-module _ (m : List ℕ) (header index name : Slot) (roll : List ℕ) (t : Target) where
-  pub target-index : index .present ≡ true → t ≡ portByIndex m header index name roll → t ≡ targetOf m header index name roll
-  unfolding targetOf
-  target-index h e = e ∙ sym (cond-true (index .present) _ _ h)
-
-  pub target-name : index .present ≡ false → t ≡ portByName m name roll → t ≡ targetOf m header index name roll
-  unfolding targetOf
-  target-name h e = e ∙ sym (cond-false (index .present) _ _ h)
-
-pub ruleset target-laws = (target-index, target-name)
+pub ruleset target-laws = (target-refused, target-parts)

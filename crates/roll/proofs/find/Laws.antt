@@ -12,9 +12,9 @@ use Rattle.roll.specs.declared.find.Found.{Found}
 use Rattle.roll.specs.declared.find.Found.the-variants.{At, Nothing}
 use lib.ListN.{length}
 use Rattle.roll.specs.Record.{portCount, indexOf, nameOf}
-use Rattle.roll.specs.Name.{isName}
+use Rattle.roll.specs.Name.{holdsName}
 use Rattle.roll.specs.Table.{Tabled}
-use Rattle.roll.specs.Find.{isIndex, isNamed, find, byIndex, byName}
+use Rattle.roll.specs.Find.{hasIndex, hasName, findPort, foundByIndex, foundByName}
 
 -- the first k positions are passed
 abbrev pub Passed : (ℕ → Bool) → ℕ → Type 0
@@ -24,16 +24,16 @@ module _ (f : ℕ → Bool) where
   find-start : Passed f 0
   find-start = first-none f
 
-  find-here : (n k : ℕ) → k < n → Passed f k → f k ≡ true → At k ≡ find n f
-  unfolding find
+  find-here : (n k : ℕ) → k < n → Passed f k → f k ≡ true → At k ≡ findPort n f
+  unfolding findPort
   find-here n k l h e = let a = first-at f n k l h e in sym (rw (a, lt-ltb k n l))
 
-  find-none : (n k : ℕ) → Passed f k → k ≤ n → n ≤ k → Nothing ≡ find n f
-  unfolding find
+  find-none : (n k : ℕ) → Passed f k → k ≤ n → n ≤ k → Nothing ≡ findPort n f
+  unfolding findPort
   find-none n k h l u = let e : k ≡ n = omega arith in let a : first n f ≡ n = rw e at h in sym (rw (a, le-ltb n n (omega arith)))
 
-  find-is : (n k : ℕ) → find n f ≡ At k → (k < n) × (f k ≡ true)
-  unfolding find
+  find-is : (n k : ℕ) → findPort n f ≡ At k → (k < n) × (f k ≡ true)
+  unfolding findPort
   find-is n k h = go (ltb (first n f) n) refl h
     where
       go : (t : Bool) → ltb (first n f) n ≡ t → cond t (At (first n f)) Nothing ≡ At k → (k < n) × (f k ≡ true)
@@ -42,53 +42,53 @@ module _ (f : ℕ → Bool) where
 
 -- by index
 module _ (roll : List ℕ) (x : ℕ) where
-  pub index-start : Passed (isIndex roll x) 0
-  index-start = find-start (isIndex roll x)
+  pub index-start : Passed (hasIndex roll x) 0
+  index-start = find-start (hasIndex roll x)
 
-  module _ (k : ℕ) (h : Passed (isIndex roll x) k) where
-    pub index-next : (y : ℕ) → y ≡ indexOf roll k → (y ≡ x → ⊥) → Passed (isIndex roll x) (k + 1)
-    unfolding isIndex
-    index-next y ey n = first-more (isIndex roll x) k h (ne-eqb _ _ (λ (p : indexOf roll k ≡ x). n (ey ∙ p)))
+  module _ (k : ℕ) (h : Passed (hasIndex roll x) k) where
+    pub index-next : (y : ℕ) → y ≡ indexOf roll k → (y ≡ x → ⊥) → Passed (hasIndex roll x) (k + 1)
+    unfolding hasIndex
+    index-next y ey n = first-more (hasIndex roll x) k h (ne-eqb _ _ (λ (p : indexOf roll k ≡ x). n (ey ∙ p)))
 
     module _ (t : List ℕ) (tab : Tabled roll t) where
-      pub index-here : (y : ℕ) → k < length t → y ≡ indexOf roll k → y ≡ x → At k ≡ byIndex roll x
-      unfolding byIndex isIndex
-      index-here y l ey q = find-here (isIndex roll x) (portCount roll) k (rw (tab .count) at l) h (eq-eqb _ _ (sym ey ∙ q))
+      pub index-here : (y : ℕ) → k < length t → y ≡ indexOf roll k → y ≡ x → At k ≡ foundByIndex roll x
+      unfolding foundByIndex hasIndex
+      index-here y l ey q = find-here (hasIndex roll x) (portCount roll) k (rw (tab .count) at l) h (eq-eqb _ _ (sym ey ∙ q))
 
-      pub index-none : k ≤ length t → length t ≤ k → Nothing ≡ byIndex roll x
-      unfolding byIndex
-      index-none l u = find-none (isIndex roll x) (portCount roll) k h (rw (tab .count) at l) (rw (tab .count) at u)
+      pub index-none : k ≤ length t → length t ≤ k → Nothing ≡ foundByIndex roll x
+      unfolding foundByIndex
+      index-none l u = find-none (hasIndex roll x) (portCount roll) k h (rw (tab .count) at l) (rw (tab .count) at u)
 
-  pub index-is : (k : ℕ) → byIndex roll x ≡ At k → (k < portCount roll) × (indexOf roll k ≡ x)
-  unfolding byIndex isIndex
-  index-is k e = let r = find-is (isIndex roll x) (portCount roll) k e in (r .0, eqb-true _ _ (r .1))
+  pub index-is : (k : ℕ) → foundByIndex roll x ≡ At k → (k < portCount roll) × (indexOf roll k ≡ x)
+  unfolding foundByIndex hasIndex
+  index-is k e = let r = find-is (hasIndex roll x) (portCount roll) k e in (r .0, eqb-true _ _ (r .1))
 
 pub ruleset index-laws = (index-start, index-next, index-here, index-none)
 
 -- by name
 module _ (roll name : List ℕ) where
-  pub name-start : Passed (isNamed roll name) 0
-  name-start = find-start (isNamed roll name)
+  pub name-start : Passed (hasName roll name) 0
+  name-start = find-start (hasName roll name)
 
-  module _ (k : ℕ) (h : Passed (isNamed roll name) k) where
-    module _ (s : List ℕ) (b : Bool) (es : s ≡ nameOf roll k) (eb : b ≡ isName s name) where
-      named : b ≡ isNamed roll name k
-      unfolding isNamed
-      named = eb ∙ ap (λ (z : List ℕ). isName z name) es
+  module _ (k : ℕ) (h : Passed (hasName roll name) k) where
+    module _ (s : List ℕ) (b : Bool) (es : s ≡ nameOf roll k) (eb : b ≡ holdsName s name) where
+      named : b ≡ hasName roll name k
+      unfolding hasName
+      named = eb ∙ ap (λ (z : List ℕ). holdsName z name) es
 
-      pub name-next : b ≡ false → Passed (isNamed roll name) (k + 1)
-      name-next q = first-more (isNamed roll name) k h (sym named ∙ q)
+      pub name-next : b ≡ false → Passed (hasName roll name) (k + 1)
+      name-next q = first-more (hasName roll name) k h (sym named ∙ q)
 
-      pub name-here : (t : List ℕ) → Tabled roll t → k < length t → b ≡ true → At k ≡ byName roll name
-      unfolding byName
-      name-here t tab l q = find-here (isNamed roll name) (portCount roll) k (rw (tab .count) at l) h (sym named ∙ q)
+      pub name-here : (t : List ℕ) → Tabled roll t → k < length t → b ≡ true → At k ≡ foundByName roll name
+      unfolding foundByName
+      name-here t tab l q = find-here (hasName roll name) (portCount roll) k (rw (tab .count) at l) h (sym named ∙ q)
 
-    pub name-none : (t : List ℕ) → Tabled roll t → k ≤ length t → length t ≤ k → Nothing ≡ byName roll name
-    unfolding byName
-    name-none t tab l u = find-none (isNamed roll name) (portCount roll) k h (rw (tab .count) at l) (rw (tab .count) at u)
+    pub name-none : (t : List ℕ) → Tabled roll t → k ≤ length t → length t ≤ k → Nothing ≡ foundByName roll name
+    unfolding foundByName
+    name-none t tab l u = find-none (hasName roll name) (portCount roll) k h (rw (tab .count) at l) (rw (tab .count) at u)
 
-  pub name-is : (k : ℕ) → byName roll name ≡ At k → (k < portCount roll) × (isName (nameOf roll k) name ≡ true)
-  unfolding byName isNamed
-  name-is k e = find-is (isNamed roll name) (portCount roll) k e
+  pub name-is : (k : ℕ) → foundByName roll name ≡ At k → (k < portCount roll) × (holdsName (nameOf roll k) name ≡ true)
+  unfolding foundByName hasName
+  name-is k e = find-is (hasName roll name) (portCount roll) k e
 
 pub ruleset name-laws = (name-start, name-next, name-here, name-none)

@@ -16,7 +16,7 @@ use Rattle.basics.proofs.Scan.{all-none, all-more, all-fails, all-done, all-of,
 use Rattle.basics.proofs.Truth.{false-of, both-true, clash}
 use Rattle.netlink_attributes.specs.Attributes.{partOf}
 use Rattle.netlink_attributes.proofs.Laws.{part-past}
-use Rattle.roll.specs.Name.{nameAt, sameByte, sameName, isName, nulThenNul, nameRight}
+use Rattle.roll.specs.Name.{nameAt, sameByte, sameName, holdsName, nulThenNul, nameRight}
 
 -- the field at a place
 module _ (roll : List ℕ) (at : ℕ) where
@@ -94,16 +94,16 @@ module _ (a b : List ℕ) where
 
 -- a field that holds a name
 module _ (field name : List ℕ) where
-  pub name-long : 16 < length name → false ≡ isName field name
-  unfolding isName
+  pub name-long : 16 < length name → false ≡ holdsName field name
+  unfolding holdsName
   name-long h = sym (rw (lt-leb _ _ h))
 
-  pub name-fits : (b : Bool) → length name ≤ 16 → b ≡ sameName field name → b ≡ isName field name
-  unfolding isName
+  pub name-fits : (b : Bool) → length name ≤ 16 → b ≡ sameName field name → b ≡ holdsName field name
+  unfolding holdsName
   name-fits b h eb = eb ∙ sym (rw (le-leb _ _ h))
 
-  pub named-same : isName field name ≡ true → sameName field name ≡ true
-  unfolding isName
+  pub named-same : holdsName field name ≡ true → sameName field name ≡ true
+  unfolding holdsName
   named-same h = both-true (leb (length name) 16) (sameName field name) h .1
 
 pub ruleset named-laws = (name-long, name-fits)

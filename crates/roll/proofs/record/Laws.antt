@@ -14,7 +14,7 @@ use Rattle.basics.proofs.Order.{lt-or-ge}
 use Rattle.roll.specs.declared.record.RecordRead.{RecordRead}
 use Rattle.roll.specs.declared.record.RecordRead.the-variants.{Port, Unknown, Cut, End}
 use Rattle.roll.specs.Record.{recordSize, mostBytes, SizeFits, recordAt, Records, onRecord, recordsUpTo, records}
-use Rattle.roll.specs.Record.Records.{done, broken, port}
+use Rattle.roll.specs.Record.Records.{endOfRoll, badRecord, port}
 
 -- each kind
 module _ (kind : ℕ) where

@@ -16,9 +16,9 @@ use Rattle.basics.proofs.Truth.{both-true}
 use Rattle.netlink_attributes.proofs.Laws.{part-in}
 use lib.ListN.{length-take, length-drop}
 use Rattle.roll.specs.Name.{nameAt}
-use Rattle.roll.specs.Record.{Port, mostBytes, recordAt, Records, onRecord, recordsUpTo, records, whole, portsIn, portsOf, portCount, portAt, indexOf, nameOf}
-use Rattle.roll.specs.Record.Records.{done, broken, port}
-use Rattle.roll.specs.Table.{listed, lowOf, highOf, Tabled, Read}
+use Rattle.roll.specs.Record.{Port, mostBytes, recordAt, Records, onRecord, recordsUpTo, records, allWhole, recordPorts, portsOf, portCount, portAt, indexOf, nameOf}
+use Rattle.roll.specs.Record.Records.{endOfRoll, badRecord, port}
+use Rattle.roll.specs.Table.{portsListed, lowOf, highOf, Tabled, TableRead}
 use Rattle.roll.specs.declared.record.RecordRead.{RecordRead}
 use Rattle.roll.specs.declared.record.RecordRead.the-variants as R
 use Rattle.roll.proofs.record.Laws.{Bounded, bounded, turn, lies, port-less}
@@ -26,38 +26,38 @@ use Rattle.roll.proofs.record.Laws.{Bounded, bounded, turn, lies, port-
 -- the records behind the first k
 unfoldable pub behind : ℕ → Records → Records
 behind zero rs = rs
-behind (suc k) done = done
-behind (suc k) broken = broken
+behind (suc k) endOfRoll = endOfRoll
+behind (suc k) badRecord = badRecord
 behind (suc k) (port p rs) = behind k rs
 
 -- a port stands there: it is the one at k
 behind-port : (k : ℕ) (rs more : Records) (p d : Port) → behind k rs ≡ port p more
-    → (behind (suc k) rs ≡ more) × (k < length (portsIn rs)) × (getD (portsIn rs) k d ≡ p)
-unfolding behind portsIn
-behind-port zero done more p d h = absurd (let z : _≡_ {A = ℕ} 0 1 = cc in omega arith)
-behind-port zero broken more p d h = absurd (let z : _≡_ {A = ℕ} 0 1 = cc in omega arith)
+    → (behind (suc k) rs ≡ more) × (k < length (recordPorts rs)) × (getD (recordPorts rs) k d ≡ p)
+unfolding behind recordPorts
+behind-port zero endOfRoll more p d h = absurd (let z : _≡_ {A = ℕ} 0 1 = cc in omega arith)
+behind-port zero badRecord more p d h = absurd (let z : _≡_ {A = ℕ} 0 1 = cc in omega arith)
 behind-port zero (port q rs) more p d h = (cc, omega arith, cc)
-behind-port (suc k) done more p d h = absurd (let z : _≡_ {A = ℕ} 0 1 = cc in omega arith)
-behind-port (suc k) broken more p d h = absurd (let z : _≡_ {A = ℕ} 0 1 = cc in omega arith)
+behind-port (suc k) endOfRoll more p d h = absurd (let z : _≡_ {A = ℕ} 0 1 = cc in omega arith)
+behind-port (suc k) badRecord more p d h = absurd (let z : _≡_ {A = ℕ} 0 1 = cc in omega arith)
 behind-port (suc k) (port q rs) more p d h = let r = behind-port k rs more p d h in (r .0, omega (arith, r .1), r .2)
 
 -- the end stands there: there are k ports, and all records are whole
-behind-done : (k : ℕ) (rs : Records) → k ≤ length (portsIn rs) → behind k rs ≡ done → (whole rs ≡ true) × (length (portsIn rs) ≡ k)
-unfolding behind portsIn whole
-behind-done zero done l h = (refl, refl)
-behind-done zero broken l h = absurd (let z : _≡_ {A = ℕ} 0 1 = cc in omega arith)
+behind-done : (k : ℕ) (rs : Records) → k ≤ length (recordPorts rs) → behind k rs ≡ endOfRoll → (allWhole rs ≡ true) × (length (recordPorts rs) ≡ k)
+unfolding behind recordPorts allWhole
+behind-done zero endOfRoll l h = (refl, refl)
+behind-done zero badRecord l h = absurd (let z : _≡_ {A = ℕ} 0 1 = cc in omega arith)
 behind-done zero (port q rs) l h = absurd (let z : _≡_ {A = ℕ} 0 1 = cc in omega arith)
-behind-done (suc k) done l h = absurd (omega arith)
-behind-done (suc k) broken l h = absurd (omega arith)
+behind-done (suc k) endOfRoll l h = absurd (omega arith)
+behind-done (suc k) badRecord l h = absurd (omega arith)
 behind-done (suc k) (port q rs) l h = let r = behind-done k rs (omega arith) h in (r .0, omega (arith, r .1))
 
-behind-broken : (k : ℕ) (rs : Records) → behind k rs ≡ broken → whole rs ≡ false
-unfolding behind whole
-behind-broken zero done h = absurd (let z : _≡_ {A = ℕ} 0 1 = cc in omega arith)
-behind-broken zero broken h = refl
+behind-broken : (k : ℕ) (rs : Records) → behind k rs ≡ badRecord → allWhole rs ≡ false
+unfolding behind allWhole
+behind-broken zero endOfRoll h = absurd (let z : _≡_ {A = ℕ} 0 1 = cc in omega arith)
+behind-broken zero badRecord h = refl
 behind-broken zero (port q rs) h = absurd (let z : _≡_ {A = ℕ} 0 1 = cc in omega arith)
-behind-broken (suc k) done h = absurd (let z : _≡_ {A = ℕ} 0 1 = cc in omega arith)
-behind-broken (suc k) broken h = refl
+behind-broken (suc k) endOfRoll h = absurd (let z : _≡_ {A = ℕ} 0 1 = cc in omega arith)
+behind-broken (suc k) badRecord h = refl
 behind-broken (suc k) (port q rs) h = behind-broken k rs h
 
 -- the table as far as it is filled, before the record at a place
@@ -92,25 +92,25 @@ more A f g s n x u h e k l =
     (lt-or-ge k n)
 
 -- a table of nothing
-none-read : (roll table : List ℕ) → listed roll ≡ false → Read roll (take 0 table)
-none-read roll table e = record { said = sym e; held = λ h. absurd (omega arith) }
+none-read : (roll table : List ℕ) → portsListed roll ≡ false → TableRead roll (take 0 table)
+none-read roll table e = record { told = sym e; held = λ h. absurd (omega arith) }
 
 module _ (roll table : List ℕ) (count at : ℕ) (f : Filled roll table count at) (r : RecordRead) (e : r ≡ recordAt roll at) where
-  pub read-unknown : r ≡ R.Unknown → Read roll (take 0 table)
-  unfolding listed
+  pub read-unknown : r ≡ R.Unknown → TableRead roll (take 0 table)
+  unfolding portsListed
   read-unknown q = none-read roll table (rw (behind-broken count (records roll 0) (f .left ∙ rw q at (turn roll at r e))))
 
-  pub read-cut : r ≡ R.Cut → Read roll (take 0 table)
-  unfolding listed
+  pub read-cut : r ≡ R.Cut → TableRead roll (take 0 table)
+  unfolding portsListed
   read-cut q = none-read roll table (rw (behind-broken count (records roll 0) (f .left ∙ rw q at (turn roll at r e))))
 
-  pub read-end : r ≡ R.End → Read roll (take count table)
-  unfolding listed portCount portsOf
+  pub read-end : r ≡ R.End → TableRead roll (take count table)
+  unfolding portsListed portCount portsOf
   read-end q =
       let d = behind-done count (records roll 0) (f .counted) (f .left ∙ rw q at (turn roll at r e)) in
       let l : length (take count table) ≡ count = length-take-le count table (let w = f .room in let u = f .few in omega arith) in
       record {
-        said = ap (ltb 0) l ∙ sym (rw (d .0, d .1, le-leb count 64 (f .few)) (same (leb 1 count)));
+        told = ap (ltb 0) l ∙ sym (rw (d .0, d .1, le-leb count 64 (f .few)) (same (leb 1 count)));
         held = λ h. record {
           count = l ∙ sym (d .1);
           few = rw l (f .few);
@@ -127,14 +127,14 @@ module _ (roll table : List ℕ) (count at : ℕ) (f : Filled roll table count a
     abbrev here : Port
     here = record { index = u32At roll i; name = nameAt roll n }
 
-    stands : (behind (suc count) (records roll 0) ≡ records roll z) × (count < length (portsIn (records roll 0))) × (getD (portsIn (records roll 0)) count (record { index = 0; name = [] }) ≡ here)
+    stands : (behind (suc count) (records roll 0) ≡ records roll z) × (count < length (recordPorts (records roll 0))) × (getD (recordPorts (records roll 0)) count (record { index = 0; name = [] }) ≡ here)
     stands = behind-port count (records roll 0) (records roll z) here _ (f .left ∙ rw q at (turn roll at r e))
 
-    pub read-many : count ≡ 64 → Read roll (take 0 table)
-    unfolding listed portCount portsOf
+    pub read-many : count ≡ 64 → TableRead roll (take 0 table)
+    unfolding portsListed portCount portsOf
     read-many c =
         let s = stands in
-        let l : 64 < length (portsIn (records roll 0)) = omega (arith, s .1) in
+        let l : 64 < length (recordPorts (records roll 0)) = omega (arith, s .1) in
         none-read roll table (rw (lt-leb _ _ l, and-false, and-false))
 
     pub name-fits : n < 65536
@@ -165,8 +165,8 @@ module _ (roll table : List ℕ) (count at : ℕ) (f : Filled roll table count a
 pub ruleset table-laws = (filled-start, read-unknown, read-cut, read-end, read-many, filled-next, count-small, name-fits, port-less)
 
 -- what is listed
-pub listed-some : (roll : List ℕ) → listed roll ≡ true → (whole (records roll 0) ≡ true) × (1 ≤ portCount roll) × (portCount roll ≤ 64)
-unfolding listed
+pub listed-some : (roll : List ℕ) → portsListed roll ≡ true → (allWhole (records roll 0) ≡ true) × (1 ≤ portCount roll) × (portCount roll ≤ 64)
+unfolding portsListed
 listed-some roll h =
     let a = both-true _ _ h in
     let b = both-true (leb 1 (portCount roll)) (leb (portCount roll) 64) (a .1) in
@@ -178,14 +178,14 @@ module _ (roll : List ℕ) where
   unfolding nameAt
   whole-field n h = ap length (sym (part-in roll n (n + 16) (omega arith) (omega arith))) ∙ simp (length-take, length-drop) (omega arith)
 
-  names-long : (k at j : ℕ) (d : Port) → j < length (portsIn (recordsUpTo k roll at)) → length (getD (portsIn (recordsUpTo k roll at)) j d .name) ≡ 16
-  unfolding recordsUpTo portsIn
+  names-long : (k at j : ℕ) (d : Port) → j < length (recordPorts (recordsUpTo k roll at)) → length (getD (recordPorts (recordsUpTo k roll at)) j d .name) ≡ 16
+  unfolding recordsUpTo recordPorts
   names-long zero at j d l = absurd (omega arith)
   names-long (suc k) at j d l = go (recordAt roll at) (bounded roll at) j l (λ next j l. names-long k next j d l)
     where
-      go : (r : RecordRead) → Bounded roll at r → (j : ℕ) → j < length (portsIn (onRecord roll r (λ next. recordsUpTo k roll next)))
-          → ((next j : ℕ) → j < length (portsIn (recordsUpTo k roll next)) → length (getD (portsIn (recordsUpTo k roll next)) j d .name) ≡ 16)
-          → length (getD (portsIn (onRecord roll r (λ next. recordsUpTo k roll next))) j d .name) ≡ 16
+      go : (r : RecordRead) → Bounded roll at r → (j : ℕ) → j < length (recordPorts (onRecord roll r (λ next. recordsUpTo k roll next)))
+          → ((next j : ℕ) → j < length (recordPorts (recordsUpTo k roll next)) → length (getD (recordPorts (recordsUpTo k roll next)) j d .name) ≡ 16)
+          → length (getD (recordPorts (onRecord roll r (λ next. recordsUpTo k roll next))) j d .name) ≡ 16
       go R.End b j l f = absurd (omega arith)
       go R.Unknown b j l f = absurd (omega arith)
       go R.Cut b j l f = absurd (omega arith)

@@ -8,7 +8,7 @@ use Rattle.basics.specs.Scan.{all}
 use Rattle.basics.proofs.Scan.{all-fails, all-done}
 use Rattle.roll.specs.Record.{portCount, indexOf, nameOf}
 use Rattle.roll.specs.Name.{sameName}
-use Rattle.roll_rule.specs.Rule.{another, isNew, distinct}
+use Rattle.roll_rule.specs.Rule.{another, isNew, portsDistinct}
 use Rattle.roll_rule.proofs.Laws.{Kept}
 
 module _ (roll : List ℕ) (x : ℕ) (name : List ℕ) (j y : ℕ) (ey : y ≡ indexOf roll j) where
@@ -33,6 +33,6 @@ module _ (roll : List ℕ) (k x : ℕ) (name : List ℕ) (ex : x ≡ indexOf rol
 
 pub ruleset new-laws = (new-not, new-done)
 
-pub distinct-is : (roll : List ℕ) (b : Bool) → b ≡ all (portCount roll) (isNew roll) → b ≡ distinct roll
-unfolding distinct
+pub distinct-is : (roll : List ℕ) (b : Bool) → b ≡ all (portCount roll) (isNew roll) → b ≡ portsDistinct roll
+unfolding portsDistinct
 distinct-is roll b e = e

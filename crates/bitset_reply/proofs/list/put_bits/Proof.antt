@@ -18,17 +18,17 @@ abbrev μ-loop : tie.MeasureT-loop
 loop-holds : tie.Need-loop-holds Inv-loop μ-loop
 loop-holds c = search (needs, bits-laws)
 
-sub-put-bit : tie.Need-sub-put-bit Inv-loop μ-loop
-sub-put-bit c = search (needs, bits-laws)
+sub-put-listed-bit : tie.Need-sub-put-listed-bit Inv-loop μ-loop
+sub-put-listed-bit c = search (needs, bits-laws)
 
-part-put-bit-start : tie.Need-part-put-bit-start Inv-loop μ-loop
-part-put-bit-start c = search (needs, bits-laws)
+part-put-listed-bit-start : tie.Need-part-put-listed-bit-start Inv-loop μ-loop
+part-put-listed-bit-start c = search (needs, bits-laws)
 
-part-put-bit-end : tie.Need-part-put-bit-end Inv-loop μ-loop
-part-put-bit-end c = search (needs, bits-laws)
+part-put-listed-bit-end : tie.Need-part-put-listed-bit-end Inv-loop μ-loop
+part-put-listed-bit-end c = search (needs, bits-laws)
 
-put-bit-requires : tie.Need-put-bit-requires Inv-loop μ-loop
-put-bit-requires c κs = search (needs, bits-laws)
+put-listed-bit-requires : tie.Need-put-listed-bit-requires Inv-loop μ-loop
+put-listed-bit-requires c κs = search (needs, bits-laws)
 
 add-at : tie.Need-add-at Inv-loop μ-loop
 add-at c = search (needs, bits-laws)
@@ -55,10 +55,10 @@ put-bits-spec =
     Inv-loop
     μ-loop
     loop-holds
-    sub-put-bit
-    part-put-bit-start
-    part-put-bit-end
-    put-bit-requires
+    sub-put-listed-bit
+    part-put-listed-bit-start
+    part-put-listed-bit-end
+    put-listed-bit-requires
     add-at
     add-i
     loop-less

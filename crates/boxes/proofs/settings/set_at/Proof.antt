@@ -4,8 +4,8 @@ use borrow.Author.Needs.{needs}
 use Rattle.boxes.proofs.settings.set_at.Statement.{statement}
 use Rattle.boxes.proofs.settings.set_at.Tie as tie
 
-place-requires : tie.Need-place-requires
-place-requires c κs = search needs
+set-place-requires : tie.Need-set-place-requires
+set-place-requires c κs = search needs
 
 size-of-requires : tie.Need-size-of-requires
 size-of-requires c κs = search needs
@@ -32,7 +32,7 @@ pub set-at-spec : {M : Type 1} → statement M
 set-at-spec =
     tie.close
     (tie.spec
-    place-requires
+    set-place-requires
     size-of-requires
     add-end
     mul-result

@@ -18,8 +18,8 @@ abbrev μ-loop : tie.MeasureT-loop
 widths-requires : tie.Need-widths-requires Inv-loop μ-loop
 widths-requires c κs = search (needs, settings-laws)
 
-words-requires : tie.Need-words-requires Inv-loop μ-loop
-words-requires c κs = search (needs, widths-few)
+total-words-requires : tie.Need-total-words-requires Inv-loop μ-loop
+total-words-requires c κs = search (needs, widths-few)
 
 returns : tie.Need-returns Inv-loop μ-loop
 returns c = search (needs, settings-laws)
@@ -52,7 +52,7 @@ settings-right-spec =
     Inv-loop
     μ-loop
     widths-requires
-    words-requires
+    total-words-requires
     returns
     loop-holds
     port-clear-requires

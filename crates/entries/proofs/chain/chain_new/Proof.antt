@@ -7,10 +7,10 @@ use Rattle.entries.proofs.chain.chain_new.Statement.{statement}
 use Rattle.entries.proofs.chain.chain_new.Tie as tie
 
 abbrev Inv-loop : tie.InvT-loop
-Inv-loop list next i start p₀ p = Walk list i p
+Inv-loop list links i start p₀ p = Walk list i p
 
 abbrev μ-loop : tie.MeasureT-loop
-μ-loop list next i start p₀ p = p
+μ-loop list links i start p₀ p = p
 
 loop-holds : tie.Need-loop-holds Inv-loop μ-loop
 loop-holds c = let s = c .before .before in walk-start _ _ (s .pre .0 .0) _ (s .pre .1 .1)
@@ -31,10 +31,10 @@ place-in-requires : tie.Need-place-in-requires Inv-loop μ-loop
 place-in-requires c κs = search needs
 
 loop-less : tie.Need-loop-less Inv-loop μ-loop
-loop-less c = let s = c .before .before .before .before .before .before .before in walk-less _ _ (s .pre .0 .0) _ _ _ (s .args .next .now) (c .before .before .before .before .loop .inv) (c .before .before .before .if1 .left) refl (c .place-in .ensures) (s .pre .1 .0)
+loop-less c = let s = c .before .before .before .before .before .before .before in walk-less _ _ (s .pre .0 .0) _ _ _ (s .args .links .now) (c .before .before .before .before .loop .inv) (c .before .before .before .if1 .left) refl (c .place-in .ensures) (s .pre .1 .0)
 
 loop-again : tie.Need-loop-again Inv-loop μ-loop
-loop-again c = let s = c .before .before .before .before .before .before .before in walk-next _ _ (s .pre .0 .0) _ _ _ (s .args .next .now) (c .before .before .before .before .loop .inv) (c .before .before .before .if1 .left) refl (c .place-in .ensures) (s .pre .1 .0) _ (c .before .before .same-entry .ensures) (c .before .if2 .left)
+loop-again c = let s = c .before .before .before .before .before .before .before in walk-next _ _ (s .pre .0 .0) _ _ _ (s .args .links .now) (c .before .before .before .before .loop .inv) (c .before .before .before .if1 .left) refl (c .place-in .ensures) (s .pre .1 .0) _ (c .before .before .same-entry .ensures) (c .before .if2 .left)
 
 pub chain-new-spec : {M : Type 1} → statement M
 chain-new-spec =

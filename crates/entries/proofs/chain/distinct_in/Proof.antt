@@ -10,10 +10,10 @@ use Rattle.entries.proofs.chain.distinct_in.Statement.{statement}
 use Rattle.entries.proofs.chain.distinct_in.Tie as tie
 
 abbrev Inv-loop : tie.InvT-loop
-Inv-loop list head₀ next₀ i₀ i-end head next i = (i ≤ length list / 32) × Linked list head next i
+Inv-loop list head₀ links₀ i₀ i-end head links i = (i ≤ length list / 32) × Linked list head links i
 
 abbrev μ-loop : tie.MeasureT-loop
-μ-loop list head₀ next₀ i₀ i-end head next i = length list / 32 - i
+μ-loop list head₀ links₀ i₀ i-end head links i = length list / 32 - i
 
 loop-holds : tie.Need-loop-holds Inv-loop μ-loop
 loop-holds c = let s = c .before .before .before in (omega arith, linked-start _ _ _ (s .pre .1) (s .pre .0 .0) (s .pre .0 .1))
@@ -31,7 +31,7 @@ place-requires : tie.Need-place-requires Inv-loop μ-loop
 place-requires c κs = search needs
 
 entry-new-requires : tie.Need-entry-new-requires Inv-loop μ-loop
-entry-new-requires c κs = let l = c .before .before .before .before .before .loop in let g = c .before .before .before .hash in ((omega arith, omega arith), (l .inv .1 .nexts, c .place .ensures ∙ linked-place _ _ _ _ _ (l .inv .1) (g .ensures .0) (g .ensures .1)))
+entry-new-requires c κs = let l = c .before .before .before .before .before .loop in let g = c .before .before .before .hash in ((omega arith, omega arith), (l .inv .1 .linked, c .place .ensures ∙ linked-place _ _ _ _ _ (l .inv .1) (g .ensures .0) (g .ensures .1)))
 
 same-length : tie.Need-same-length Inv-loop μ-loop
 same-length c = search needs
@@ -42,11 +42,11 @@ same-length-2 c = search needs
 returns : tie.Need-returns Inv-loop μ-loop
 returns c = (distinct-not _ _ (omega arith) _ (c .before .entry-new .ensures) (c .if1 .taken), λ q. absurd (clash q refl))
 
-mul-next : tie.Need-mul-next Inv-loop μ-loop
-mul-next c = search needs
+mul-links : tie.Need-mul-links Inv-loop μ-loop
+mul-links c = search needs
 
-slice-write-next : tie.Need-slice-write-next Inv-loop μ-loop
-slice-write-next c = search needs
+slice-write-links : tie.Need-slice-write-links Inv-loop μ-loop
+slice-write-links c = search needs
 
 add-head : tie.Need-add-head Inv-loop μ-loop
 add-head c = search needs
@@ -95,8 +95,8 @@ distinct-in-spec =
     same-length
     same-length-2
     returns
-    mul-next
-    slice-write-next
+    mul-links
+    slice-write-links
     add-head
     cast-head
     mul-head

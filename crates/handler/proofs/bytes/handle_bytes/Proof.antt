@@ -8,8 +8,8 @@ use Rattle.handler.proofs.bytes.handle_bytes.Tie as tie
 are-words-requires : tie.Need-are-words-requires
 are-words-requires c κs = search needs
 
-stay-requires : tie.Need-stay-requires
-stay-requires c κs = search needs
+refuse-in-place-requires : tie.Need-refuse-in-place-requires
+refuse-in-place-requires c κs = search needs
 
 same-length : tie.Need-same-length
 same-length c = search needs
@@ -58,7 +58,7 @@ handle-bytes-spec =
     tie.close
     (tie.spec
     are-words-requires
-    stay-requires
+    refuse-in-place-requires
     same-length
     returns
     array-borrow-prefix-few

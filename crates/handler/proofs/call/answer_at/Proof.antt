@@ -9,8 +9,8 @@ read-message-requires c κs = search needs
 enum-told : tie.Need-enum-told
 enum-told c = search needs
 
-stay-requires : tie.Need-stay-requires
-stay-requires c κs = search needs
+refuse-in-place-requires : tie.Need-refuse-in-place-requires
+refuse-in-place-requires c κs = search needs
 
 returns : tie.Need-returns
 returns c = search (needs, at-laws)
@@ -18,8 +18,8 @@ returns c = search (needs, at-laws)
 enum-told-2 : tie.Need-enum-told-2
 enum-told-2 c = search needs
 
-quiet-requires : tie.Need-quiet-requires
-quiet-requires c κs = search needs
+no-bytes-requires : tie.Need-no-bytes-requires
+no-bytes-requires c κs = search needs
 
 returns-2 : tie.Need-returns-2
 returns-2 c = search (needs, at-laws)
@@ -27,8 +27,8 @@ returns-2 c = search (needs, at-laws)
 enum-told-3 : tie.Need-enum-told-3
 enum-told-3 c = search needs
 
-stay-requires-2 : tie.Need-stay-requires-2
-stay-requires-2 c κs = search needs
+refuse-in-place-requires-2 : tie.Need-refuse-in-place-requires-2
+refuse-in-place-requires-2 c κs = search needs
 
 returns-3 : tie.Need-returns-3
 returns-3 c = search (needs, at-laws)
@@ -36,8 +36,8 @@ returns-3 c = search (needs, at-laws)
 enum-told-4 : tie.Need-enum-told-4
 enum-told-4 c = search needs
 
-stay-requires-3 : tie.Need-stay-requires-3
-stay-requires-3 c κs = search needs
+refuse-in-place-requires-3 : tie.Need-refuse-in-place-requires-3
+refuse-in-place-requires-3 c κs = search needs
 
 returns-4 : tie.Need-returns-4
 returns-4 c = search (needs, at-laws)
@@ -69,16 +69,16 @@ answer-at-spec =
     (tie.spec
     read-message-requires
     enum-told
-    stay-requires
+    refuse-in-place-requires
     returns
     enum-told-2
-    quiet-requires
+    no-bytes-requires
     returns-2
     enum-told-3
-    stay-requires-2
+    refuse-in-place-requires-2
     returns-3
     enum-told-4
-    stay-requires-3
+    refuse-in-place-requires-3
     returns-4
     enum-known-h
     payload-requires

@@ -6,8 +6,8 @@ use Rattle.handler.proofs.call.answer_message.Tie as tie
 enum-told : tie.Need-enum-told
 enum-told c = search needs
 
-quiet-requires : tie.Need-quiet-requires
-quiet-requires c κs = search needs
+no-bytes-requires : tie.Need-no-bytes-requires
+no-bytes-requires c κs = search needs
 
 returns : tie.Need-returns
 returns c = search (needs, message-laws)
@@ -27,8 +27,8 @@ returns-2 c = search (needs, message-laws)
 enum-known-admission-2 : tie.Need-enum-known-admission-2
 enum-known-admission-2 c = search needs
 
-obey-requires : tie.Need-obey-requires
-obey-requires c κs = search needs
+execute-requires : tie.Need-execute-requires
+execute-requires c κs = search needs
 
 same-length-2 : tie.Need-same-length-2
 same-length-2 c = search needs
@@ -44,14 +44,14 @@ answer-message-spec =
     tie.close
     (tie.spec
     enum-told
-    quiet-requires
+    no-bytes-requires
     returns
     enum-known-admission
     refuse-requires
     same-length
     returns-2
     enum-known-admission-2
-    obey-requires
+    execute-requires
     same-length-2
     same-length-3
     returns-3)

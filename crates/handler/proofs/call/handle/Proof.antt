@@ -20,8 +20,8 @@ slice-aggregate-ports c = simp length-take (omega arith)
 box-right-requires : tie.Need-box-right-requires
 box-right-requires c κs = search needs
 
-stay-requires : tie.Need-stay-requires
-stay-requires c κs = search needs
+refuse-in-place-requires : tie.Need-refuse-in-place-requires
+refuse-in-place-requires c κs = search needs
 
 same-length : tie.Need-same-length
 same-length c = search needs
@@ -29,8 +29,8 @@ same-length c = search needs
 returns : tie.Need-returns
 returns c = search (needs, call-laws)
 
-stay-requires-2 : tie.Need-stay-requires-2
-stay-requires-2 c κs = search needs
+refuse-in-place-requires-2 : tie.Need-refuse-in-place-requires-2
+refuse-in-place-requires-2 c κs = search needs
 
 same-length-2 : tie.Need-same-length-2
 same-length-2 c = search needs
@@ -38,8 +38,8 @@ same-length-2 c = search needs
 returns-2 : tie.Need-returns-2
 returns-2 c = search (needs, call-laws)
 
-stay-requires-3 : tie.Need-stay-requires-3
-stay-requires-3 c κs = search needs
+refuse-in-place-requires-3 : tie.Need-refuse-in-place-requires-3
+refuse-in-place-requires-3 c κs = search needs
 
 same-length-3 : tie.Need-same-length-3
 same-length-3 c = search needs
@@ -68,13 +68,13 @@ handle-spec =
     array-share-prefix-table
     slice-aggregate-ports
     box-right-requires
-    stay-requires
+    refuse-in-place-requires
     same-length
     returns
-    stay-requires-2
+    refuse-in-place-requires-2
     same-length-2
     returns-2
-    stay-requires-3
+    refuse-in-place-requires-3
     same-length-3
     returns-3
     answer-at-requires

@@ -42,8 +42,8 @@ rule-of-requires c κs = search needs
 payload-requires : tie.Need-payload-requires Inv-loop μ-loop
 payload-requires c κs = search needs
 
-judge-requires : tie.Need-judge-requires Inv-loop μ-loop
-judge-requires c κs = search needs
+judge-by-rule-requires : tie.Need-judge-by-rule-requires Inv-loop μ-loop
+judge-by-rule-requires c κs = search needs
 
 enum-known-fault : tie.Need-enum-known-fault Inv-loop μ-loop
 enum-known-fault c = search needs
@@ -54,7 +54,7 @@ stopped-requires-2 c κs = search needs
 returns-3 : tie.Need-returns-3 Inv-loop μ-loop
 returns-3 c =
     let l = c .before .before .before .before .before .before .before .before .before .before .before .loop in
-    walk-wrong _ _ _ (l .slots) _ (l .inv .1) _ (c .before .before .before .before .before .before .before .before .before .before .read-attribute .ensures) _ _ _ _ _ (c .before .before .before .before .before .before .before .before .kind .given .1) _ _ _ (c .before .before .before .before .before .before .rule-of .ensures) (c .before .before .before .before .before .payload .ensures) (c .before .before .before .before .judge .ensures) _ _ (c .before .before .fault .given .1) (c .stopped2 .ensures)
+    walk-wrong _ _ _ (l .slots) _ (l .inv .1) _ (c .before .before .before .before .before .before .before .before .before .before .read-attribute .ensures) _ _ _ _ _ (c .before .before .before .before .before .before .before .before .kind .given .1) _ _ _ (c .before .before .before .before .before .before .rule-of .ensures) (c .before .before .before .before .before .payload .ensures) (c .before .before .before .before .judge-by-rule .ensures) _ _ (c .before .before .fault .given .1) (c .stopped2 .ensures)
 
 enum-told-3 : tie.Need-enum-told-3 Inv-loop μ-loop
 enum-told-3 c = search needs
@@ -93,7 +93,7 @@ walk-spec =
     enum-known-kind
     rule-of-requires
     payload-requires
-    judge-requires
+    judge-by-rule-requires
     enum-known-fault
     stopped-requires-2
     returns-3

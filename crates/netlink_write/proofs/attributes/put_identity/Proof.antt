@@ -7,8 +7,8 @@ use Rattle.netlink_write.proofs.attributes.put_identity.Tie as tie
 put-number-requires : tie.Need-put-number-requires
 put-number-requires c κs = search needs
 
-no-name-requires : tie.Need-no-name-requires
-no-name-requires c κs = search needs
+is-unnamed-requires : tie.Need-is-unnamed-requires
+is-unnamed-requires c κs = search needs
 
 same-length : tie.Need-same-length
 same-length c = search needs
@@ -16,7 +16,7 @@ same-length c = search needs
 returns : tie.Need-returns
 returns c =
     let one = c .before .before .before .before .put-number .ensures in
-    (identity-plain _ _ _ (c .before .no-name .ensures) _ _ _ (c .if1 .taken) (one .1) (one .0), omega arith)
+    (identity-plain _ _ _ (c .before .is-unnamed .ensures) _ _ _ (c .if1 .taken) (one .1) (one .0), omega arith)
 
 sub-put-name : tie.Need-sub-put-name
 sub-put-name c = search needs
@@ -41,14 +41,14 @@ returns-2 c =
     let one = c .before .before .before .before .before .before .before .before .put-number .ensures in
     let two = c .before .before .put-name .ensures in
     let start = c .before .before .before .before .before .before .before .before .before .before .before .before in
-    (identity-named _ _ _ (c .before .before .before .before .before .no-name .ensures) _ _ _ _ _ (c .before .before .before .before .if1 .left) (start .pre .1) (one .1) (one .0) (two .0), omega (arith, two .1))
+    (identity-named _ _ _ (c .before .before .before .before .before .is-unnamed .ensures) _ _ _ _ _ (c .before .before .before .before .if1 .left) (start .pre .1) (one .1) (one .0) (two .0), omega (arith, two .1))
 
 pub put-identity-spec : {M : Type 1} → statement M
 put-identity-spec =
     tie.close
     (tie.spec
     put-number-requires
-    no-name-requires
+    is-unnamed-requires
     same-length
     returns
     sub-put-name

@@ -36,8 +36,8 @@ element-copy-out-flags c = search needs
 place-requires : tie.Need-place-requires
 place-requires c κs = search needs
 
-judge-parts-requires : tie.Need-judge-parts-requires
-judge-parts-requires c κs = search needs
+judge-header-parts-requires : tie.Need-judge-header-parts-requires
+judge-header-parts-requires c κs = search needs
 
 returns-2 : tie.Need-returns-2
 returns-2 c = search (needs, header-laws)
@@ -57,5 +57,5 @@ read-header-spec =
     element-copy-out-name
     element-copy-out-flags
     place-requires
-    judge-parts-requires
+    judge-header-parts-requires
     returns-2)

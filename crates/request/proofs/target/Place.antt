@@ -1,0 +1,78 @@
+-- A port that a request is aimed at is one of the roll's.
+use Prim.Native.Nat.{ℕ, _≤_, _<_}
+use mathlib.Core.Path.{_≡_, refl, sym, _∙_}
+use mathlib.Core.List.{List}
+use mathlib.Core.Bool.{Bool, true, false, cond}
+use lib.ListN.{length}
+use native.Mathlib.Omega.{arith}
+use Rattle.netlink_attributes.specs.Attributes.{partOf}
+use Rattle.netlink.specs.Walk.{slotNumber}
+use Rattle.netlink.specs.declared.walk.Slot.{Slot}
+use Rattle.roll.specs.Record.{portCount}
+use Rattle.roll.specs.Find.{foundByIndex, foundByName}
+use Rattle.roll.specs.declared.find.Found.{Found}
+use Rattle.roll.specs.declared.find.Found.the-variants as F
+use Rattle.roll.proofs.find.Laws.{index-is, name-is}
+use Rattle.request.specs.Header.{headerOf}
+use Rattle.request.specs.Port.{onFound, otherName, portByIndex, portByName, portOf}
+use Rattle.request.specs.Target.{withFlags, onHeader, targetOf}
+use Rattle.request.specs.declared.header.Header.{Header}
+use Rattle.request.specs.declared.header.Header.the-variants as H
+use Rattle.request.specs.declared.port.PortRead.{PortRead}
+use Rattle.request.specs.declared.port.PortRead.the-variants as T
+use Rattle.request.specs.declared.target.TargetRead.{TargetRead}
+use Rattle.request.specs.declared.target.TargetRead.the-variants as A
+
+module _ (roll : List ℕ) where
+  abbrev TargetIn : PortRead → Type 0
+  TargetIn (T.Refused why) = 0 ≤ length roll
+  TargetIn (T.Port k) = k < portCount roll
+
+  keeps : {A : Type 0} (Q : A → Type 0) (t : Bool) (a b : A) → Q a → Q b → Q (cond t a b)
+  keeps Q true a b p q = p
+  keeps Q false a b p q = q
+
+  found-in : (f : Found) (none : PortRead) (some : ℕ → PortRead) → ((k : ℕ) → f ≡ F.At k → k < portCount roll) → TargetIn none
+      → ((k : ℕ) → k < portCount roll → TargetIn (some k)) → TargetIn (onFound f none some)
+  found-in F.Nothing none some b p g = p
+  found-in (F.At k) none some b p g = g k (b k refl)
+
+  by-index-in : (m : List ℕ) (header index name : Slot) → TargetIn (portByIndex m header index name roll)
+  unfolding portByIndex
+  by-index-in m header index name =
+      found-in (foundByIndex roll (slotNumber m index)) _ _ (λ k e. index-is roll (slotNumber m index) k e .0) (omega arith)
+      (λ k p. keeps TargetIn (otherName m name roll k) _ _ (omega arith) p)
+
+  by-name-in : (m : List ℕ) (name : Slot) → TargetIn (portByName m name roll)
+  unfolding portByName
+  by-name-in m name =
+      found-in (foundByName roll (partOf m (name .start) (name .end))) _ _ (λ k e. name-is roll (partOf m (name .start) (name .end)) k e .0) (omega arith)
+      (λ k p. p)
+
+  port-in : (m : List ℕ) (header index name : Slot) → TargetIn (portOf m header index name roll)
+  unfolding portOf
+  port-in m header index name =
+      keeps TargetIn (index .present) (portByIndex m header index name roll) (portByName m name roll)
+      (by-index-in m header index name) (by-name-in m name)
+
+  abbrev pub AimIn : TargetRead → Type 0
+  AimIn (A.Refused why) = 0 ≤ length roll
+  AimIn (A.Port k f) = k < portCount roll
+
+  with-flags-in : (t : PortRead) (flags : ℕ) → TargetIn t → AimIn (withFlags t flags)
+  unfolding withFlags
+  with-flags-in (T.Refused why) flags p = p
+  with-flags-in (T.Port k) flags p = p
+
+  -- whatever a request is aimed at
+  pub target-counted : (m : List ℕ) (header : Slot) → AimIn (targetOf m header roll)
+  unfolding targetOf
+  target-counted m header = go (headerOf m header)
+    where
+      go : (h : Header) → AimIn (onHeader h (λ index name flags. withFlags (portOf m header index name roll) flags))
+      go (H.Refused why) = omega arith
+      go (H.Parts index name flags) = with-flags-in (portOf m header index name roll) flags (port-in m header index name)
+
+  -- a port that a request is aimed at
+  pub target-inside : (m : List ℕ) (header : Slot) (r : TargetRead) (k f : ℕ) → r ≡ targetOf m header roll → r ≡ A.Port k f → k < portCount roll
+  target-inside m header r k f er q = rw (sym er ∙ q) at (target-counted m header)

@@ -1,0 +1,37 @@
+use Rattle.request.proofs.target.Laws.{target-laws}
+use borrow.Author.Needs.{needs}
+use Rattle.request.proofs.target.read_target.Statement.{statement}
+use Rattle.request.proofs.target.read_target.Tie as tie
+
+read-header-requires : tie.Need-read-header-requires
+read-header-requires c κs = search needs
+
+enum-known-why : tie.Need-enum-known-why
+enum-known-why c = search needs
+
+enum-known-index : tie.Need-enum-known-index
+enum-known-index c = search needs
+
+find-port-requires : tie.Need-find-port-requires
+find-port-requires c κs = search needs
+
+with-flags-requires : tie.Need-with-flags-requires
+with-flags-requires c κs = search needs
+
+returns : tie.Need-returns
+returns c = search (needs, target-laws)
+
+returns-2 : tie.Need-returns-2
+returns-2 c = search (needs, target-laws)
+
+pub read-target-spec : {M : Type 1} → statement M
+read-target-spec =
+    tie.close
+    (tie.spec
+    read-header-requires
+    enum-known-why
+    enum-known-index
+    find-port-requires
+    with-flags-requires
+    returns
+    returns-2)
