@@ -30,7 +30,8 @@ use Rattle.admission.specs.declared.commands.CommandRead.{CommandRead}
 use Rattle.admission.specs.declared.commands.CommandRead.the-variants.{Listed, Unlisted}
 use Rattle.request.specs.declared.top.Top.{Top}
 use Rattle.request.specs.declared.top.Top.the-variants as T
-use Rattle.response.specs.Answer.{Outcome, responseOf, done, unchanged}
+use Rattle.response.specs.Answer.{Outcome, responseOf, unchanged}
+use Rattle.response.specs.declared.Kind.the-variants.{Done}
 use Rattle.execute.specs.Execute.{getBytes, readingOutcome, setOutcome, portOutcome, targetOutcome, headerOutcome, topOutcome, requestOutcome}
 use Rattle.handler.specs.Call.{onAdmission, messageOutcome}
 use Rattle.demands.specs.Message.{Named, requestOf, MessageCase}
@@ -67,12 +68,12 @@ module _ (box : Box) (state : State) (m : List ℕ) (h : MessageHeader) (next : 
         go (refused why) e = messageRefused why refl
         go (accepted b) e = setDone n change b e refl
 
-    deed-case : MessageCase box state m h next (portOutcome box state m (requestOf h next (n .command)) (n .bitset) (n .port))
+    port-outcome-case : MessageCase box state m h next (portOutcome box state m (requestOf h next (n .command)) (n .bitset) (n .port))
     unfolding portOutcome
-    deed-case = go (n .command .change) refl
+    port-outcome-case = go (n .command .change) refl
       where
         shown : Outcome State
-        shown = unchanged (responseOf done next (getBytes box state m (requestOf h next (n .command)) (n .port))) state
+        shown = unchanged (responseOf Done next (getBytes box state m (requestOf h next (n .command)) (n .port))) state
 
         go : (t : Bool) → n .command .change ≡ t
             → MessageCase box state m h next (cond t (setOutcome box state m (requestOf h next (n .command)) (n .bitset) (n .port .position)) shown)
@@ -80,15 +81,15 @@ module _ (box : Box) (state : State) (m : List ℕ) (h : MessageHeader) (next : 
         go false e = getDone n e refl
 
   module _ (command : Command) (listed : commandOf (byteAt m 16) ≡ Listed command) where
-    aimed-case : (header bitset : Slot) → topOf m (command .change) ≡ T.Nests header bitset
+    header-case : (header bitset : Slot) → topOf m (command .change) ≡ T.Nests header bitset
         → MessageCase box state m h next (headerOutcome box state m (requestOf h next command) header bitset)
     unfolding headerOutcome
-    aimed-case header bitset nests = go (targetOf m header (box .roll)) refl
+    header-case header bitset nests = go (targetOf m header (box .roll)) refl
       where
         go : (a : TargetRead) → targetOf m header (box .roll) ≡ a → MessageCase box state m h next (targetOutcome a state m (requestOf h next command) (portOutcome box state m (requestOf h next command) bitset))
         go (P.Refused why) e = messageRefused why refl
         go (P.Port position request) e =
-            deed-case
+            port-outcome-case
             (record {
               command = command;
               listed = listed;
@@ -99,13 +100,13 @@ module _ (box : Box) (state : State) (m : List ℕ) (h : MessageHeader) (next : 
               found = e;
             })
 
-    obeyed-case : MessageCase box state m h next (requestOutcome box state m (requestOf h next command))
+    request-case : MessageCase box state m h next (requestOutcome box state m (requestOf h next command))
     unfolding requestOutcome
-    obeyed-case = go (topOf m (command .change)) refl
+    request-case = go (topOf m (command .change)) refl
       where
         go : (t : Top) → topOf m (command .change) ≡ t → MessageCase box state m h next (topOutcome t state m (requestOf h next command) (headerOutcome box state m (requestOf h next command)))
         go (T.Refused why) e = messageRefused why refl
-        go (T.Nests header bitset) e = aimed-case header bitset e
+        go (T.Nests header bitset) e = header-case header bitset e
 
   pub message-case : (call : Call) → MessageCase box state m h next (messageOutcome box state call m h next)
   unfolding messageOutcome
@@ -115,4 +116,4 @@ module _ (box : Box) (state : State) (m : List ℕ) (h : MessageHeader) (next : 
           → MessageCase box state m h next (onAdmission a box state m h next)
       go A.Skipped e = messageSkipped refl
       go (A.Refused why) e = messageRefused why refl
-      go (A.Admitted command) e = obeyed-case command (go-listed m h (call .family) (eqb (call .admin) 1) command e)
+      go (A.Admitted command) e = request-case command (go-listed m h (call .family) (eqb (call .admin) 1) command e)

@@ -44,7 +44,7 @@ use Rattle.request.specs.Top.{nestsOf, topOf}
 use Rattle.request.specs.declared.top.Top.{Top}
 use Rattle.request.specs.declared.top.Top.the-variants as T
 use Rattle.request.specs.declared.target.TargetRead.{TargetRead}
-use Rattle.response.specs.Answer.{Outcome, responseOf, done, unchanged}
+use Rattle.response.specs.Answer.{Outcome, responseOf, unchanged}
 use Rattle.response.specs.declared.Kind.the-variants.{Done}
 use Rattle.execute.specs.declared.Request.{Request}
 use Rattle.execute.specs.Execute.{getBytes, readingOutcome, setOutcome, portOutcome, targetOutcome, headerOutcome, topOutcome, requestOutcome}
@@ -148,9 +148,9 @@ module _ (box : Box) (state : State) (call : Call) (datagram : List ℕ) (room :
 
       -- a SET that is admitted, names a port and so comes to its bitset
       module _ (change : n .command .change ≡ true) (admit : admitted m h (call .family) (eqb (call .admin) 1) ≡ A.Admitted (n .command)) where
-        deed-kind : (next : ℕ) → kind (messageOutcome box state call m h next) ≡ kindOf reading
+        set-kind : (next : ℕ) → kind (messageOutcome box state call m h next) ≡ kindOf reading
         unfolding messageOutcome requestOutcome headerOutcome portOutcome setOutcome
-        deed-kind next =
+        set-kind next =
             ap (λ (a : Admission). kind (onAdmission a box state m h next)) admit
             ∙ ap (λ (t : Top). kind (topOutcome t state m request (headerOutcome box state m request))) (n .nests)
             ∙ ap (λ (a : TargetRead). kind (targetOutcome a state m request (portOutcome box state m request (n .bitset)))) (n .found)
@@ -161,7 +161,7 @@ module _ (box : Box) (state : State) (call : Call) (datagram : List ℕ) (room :
             request = requestOf h next (n .command)
 
             shown : Outcome State
-            shown = unchanged (responseOf done next (getBytes box state m request (n .port))) state
+            shown = unchanged (responseOf Done next (getBytes box state m request (n .port))) state
 
             read-kind : (r : Reading) → kind (readingOutcome r box state m request (n .port .position)) ≡ kindOf r
             read-kind (refused why) = refl
@@ -173,7 +173,7 @@ module _ (box : Box) (state : State) (call : Call) (datagram : List ℕ) (room :
             by : CallCase box state call datagram o → o .response .kind ≡ kindOf reading
             by (ended e) = absurd (clash (ap (λ (x : Outcome State). endsRun (x .response .kind)) e) going)
             by (notRead w l e) = absurd (clash (ap (λ (x : Outcome State). endsRun (x .response .kind)) e ∙ lt-ltb (numberOf w) 5 (omega arith)) going)
-            by (messageAnswered next right lo hi long first c) = first ∙ sym (message-first box state m h next call) ∙ deed-kind next
+            by (messageAnswered next right lo hi long first c) = first ∙ sym (message-first box state m h next call) ∙ set-kind next
 
         pub set-alike : (page : ℕ) → 144 ≤ page → AnsweredAlike box m n page (o .response .kind)
         set-alike page wide = go reading refl

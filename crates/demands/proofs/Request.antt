@@ -41,7 +41,7 @@ use Rattle.request.specs.declared.port.PortRead.{PortRead}
 use Rattle.request.specs.declared.port.PortRead.the-variants as P
 use Rattle.request.specs.declared.top.Top.{Top}
 use Rattle.request.specs.declared.top.Top.the-variants as T
-use Rattle.response.specs.Answer.{Outcome, responseOf, done, unchanged}
+use Rattle.response.specs.Answer.{Outcome, responseOf, unchanged}
 use Rattle.decision.specs.declared.Target.{Target}
 use Rattle.execute.specs.declared.Request.{Request}
 use Rattle.demands.specs.Message.{requestOf}
@@ -83,7 +83,7 @@ module _ (box : Box) (state : State) (m : List ℕ) (h : MessageHeader) (next : 
 
     port-outcome-first : (port : Target) → kind (portOutcome box state m request bitset port) ≡ firstKind Done (after (command .change) (command .set) bitset)
     unfolding portOutcome
-    port-outcome-first port = go (command .change) (unchanged (responseOf done next (getBytes box state m request port)) state) refl
+    port-outcome-first port = go (command .change) (unchanged (responseOf Done next (getBytes box state m request port)) state) refl
       where
         go : (t : Bool) (got : Outcome State) → kind got ≡ Done
             → kind (cond t (setOutcome box state m request bitset (port .position)) got) ≡ firstKind Done (after t (command .set) bitset)

@@ -22,10 +22,10 @@ use Rattle.decision.specs.declared.Target.{Target}
 use Rattle.admission.specs.declared.commands.Command.{Command}
 use Rattle.admission.specs.declared.commands.CommandRead.the-variants.{Listed}
 use Rattle.request.specs.declared.top.Top.the-variants.{Nests}
-use Rattle.response.specs.Answer.{Outcome, responseOf, done, noBytes, errorResponse, ackBytes, unchanged}
+use Rattle.response.specs.Answer.{Outcome, responseOf, noBytes, errorResponse, ackBytes, unchanged}
 use Rattle.execute.specs.declared.Request.{Request}
 use Rattle.execute.specs.Execute.{withSet, getBytes}
-use Rattle.response.specs.declared.Kind.the-variants.{Skipped}
+use Rattle.response.specs.declared.Kind.the-variants.{Skipped, Done}
 
 -- what the request m names: a listed command, its header and bitset, and the port of the roll that its header gives
 pub record Named (roll m : List ℕ) : Type 0 where
@@ -51,12 +51,12 @@ pub data MessageCase (box : Box) (state : State) (m : List ℕ) (h : MessageHead
   messageSkipped : o ≡ unchanged (noBytes Skipped next) state → MessageCase box state m h next o
   messageRefused : (why : Refusal) → o ≡ unchanged (errorResponse m next why) state → MessageCase box state m h next o
   getDone : (n : Named (box .roll) m) → n .command .change ≡ false
-      → o ≡ unchanged (responseOf done next (getBytes box state m (requestOf h next (n .command)) (n .port))) state
+      → o ≡ unchanged (responseOf Done next (getBytes box state m (requestOf h next (n .command)) (n .port))) state
       → MessageCase box state m h next o
   setDone : (n : Named (box .roll) m) → n .command .change ≡ true → (b : Bitset) → Carries box m n b
       → o
       ≡ record {
-        response = responseOf done next (ackBytes m h);
+        response = responseOf Done next (ackBytes m h);
         state =
             withSet box state (n .port .position) (n .command .set)
             (wordsOf (widthIn box (n .command .set)) (effect b (has (setOf box state (n .port .position) (n .command .set)))));

@@ -1,4 +1,4 @@
--- An admitted request decided by value and then carried out is the request obeyed: level by level, and for a SET since the form has the bitset's effect.
+-- An admitted request decided by value and then carried out is the request executed: level by level, and for a SET since the form has the bitset's effect.
 use Prim.Native.Nat.{ℕ, _*_, _<_, _-_, _≤_}
 use mathlib.Core.Path.{_≡_, refl, sym, ap, ap₂, _∙_}
 use mathlib.Core.List.{List}
@@ -32,7 +32,8 @@ use Rattle.decision.specs.Decision.{bitsetDecision, headerDecision, decided}
 use Rattle.decision.specs.declared.Decision.{Decision}
 use Rattle.decision.specs.declared.Target.{Target}
 use Rattle.decision.specs.declared.Plan.the-variants as P
-use Rattle.response.specs.Answer.{Outcome, responseOf, done, ackBytes, unchanged, Performs}
+use Rattle.response.specs.Answer.{Outcome, responseOf, ackBytes, unchanged, Performs}
+use Rattle.response.specs.declared.Kind.the-variants.{Done}
 use Rattle.response.specs.declared.Answer.{Answer}
 use Rattle.execute.specs.declared.Request.{Request}
 use Rattle.execute.specs.Execute.{Fit, withSet, changedBy, getBytes, readingOutcome, setOutcome, portOutcome, targetOutcome, headerOutcome, topOutcome, requestOutcome, carriedOut}
@@ -86,7 +87,7 @@ module _ (box : Box) (state : State) (fit : Fit box state) where
             → carriedOut box state m request (D.readingDecision x (count names-here) position (bitset .start - 4)) ≡ readingOutcome x box state m request position
         go (refused why) e = refl
         go (accepted b) e =
-            ap (unchanged (responseOf done (request .next) (ackBytes m (request .header))))
+            ap (unchanged (responseOf Done (request .next) (ackBytes m (request .header))))
             (changed position here (request .command .set) (partOf m 0 (bitset .end)) (bitset .start) b e)
 
     -- GET or SET
@@ -97,7 +98,7 @@ module _ (box : Box) (state : State) (fit : Fit box state) where
       where
         go : (change : Bool)
             → carriedOut box state m request (cond change (bitsetDecision m bitset names-here (port .position)) (D.withoutForm (P.Get port)))
-            ≡ cond change (setOutcome box state m request bitset (port .position)) (unchanged (responseOf done (request .next) (getBytes box state m request port)) state)
+            ≡ cond change (setOutcome box state m request bitset (port .position)) (unchanged (responseOf Done (request .next) (getBytes box state m request port)) state)
         go true = bitset-is bitset (port .position) here
         go false = refl
 
@@ -123,7 +124,7 @@ module _ (box : Box) (state : State) (fit : Fit box state) where
     unfolding decided requestOutcome
     carried-is = top-is (topOf m (request .command .change))
 
--- the return of `obey`
+-- the return of `execute`
 pub execute-told : (box : Box) (state : State) (m : List ℕ) (request : Request) (d : Decision) (P Q : List ℕ) (new : State) (r : Answer)
     → Fit box state → d ≡ decided m (request .command) (box .roll) (box .names) → Performs (carriedOut box state m request d) P Q new r → Performs (requestOutcome box state m request) P Q new r
 execute-told box state m request d P Q new r fit e did = rw (← carried-is box state fit m request, ← e) did

@@ -18,7 +18,8 @@ use Rattle.layout.proofs.Laws.{sizes-of, size-few, widths-few, place-inside, se
 use Rattle.boxes.specs.Box.{Box, State, stateOf, portsIn, sizesIn, widthsIn, placeIn, widthIn, setOf}
 use Rattle.bitset_form.specs.declared.Form.{Form}
 use Rattle.reply.specs.declared.message.Heading.{Heading}
-use Rattle.response.specs.Answer.{Response, responseOf, done, errorResponse, ackBytes, unchanged, Responds, Performs}
+use Rattle.response.specs.Answer.{Response, responseOf, errorResponse, ackBytes, unchanged, Responds, Performs}
+use Rattle.response.specs.declared.Kind.the-variants.{Done}
 use Rattle.decision.specs.declared.Target.{Target}
 use Rattle.decision.specs.declared.Plan.{Plan}
 use Rattle.decision.specs.declared.Plan.the-variants as Pl
@@ -72,8 +73,8 @@ pub get-responds : (box : Box) (state : State) (m : List ℕ) (request : Request
     (P Q : List ℕ) (r : Answer) → hd ≡ headingOf (request .header) (request .command .reply)
     → x ≡ indexOf (box .roll) (port .position) → nm ≡ nameOf (box .roll) (port .position) → ns ≡ listOf (box .names) (request .command .set) → sizes ≡ sizesIn box
     → held ≡ setOf box state (port .position) (request .command .set) → n ≡ sizeOf sizes (request .command .set)
-    → Responds (responseOf done (request .next) (replyAndAck m (request .header) hd x nm (eqb (port .flags % 2) 1) ns held n)) P Q r
-    → Responds (responseOf done (request .next) (getBytes box state m request port)) P Q r
+    → Responds (responseOf Done (request .next) (replyAndAck m (request .header) hd x nm (eqb (port .flags % 2) 1) ns held n)) P Q r
+    → Responds (responseOf Done (request .next) (getBytes box state m request port)) P Q r
 unfolding getBytes
 get-responds box state m request port hd x nm ns held sizes n P Q r ehd ex enm ens es eh en s =
     let bits : n ≡ sizeOf (sizesIn box) (request .command .set) = en ∙ rw es in
@@ -110,7 +111,7 @@ module _ (box : Box) (state : State) (m : List ℕ) (request : Request) (d : Dec
       go : (p : Plan) → p ≡ Pl.Refused why → Performs (planOutcome p (d .form) box state m request) P Q state r
       go p e = rw e (unchanged-performs (errorResponse m (request .next) why) P Q state r s)
 
-  pub carry-get : (port : Target) → d .plan ≡ Pl.Get port → Responds (responseOf done (request .next) (getBytes box state m request port)) P Q r
+  pub carry-get : (port : Target) → d .plan ≡ Pl.Get port → Responds (responseOf Done (request .next) (getBytes box state m request port)) P Q r
       → Performs (carriedOut box state m request d) P Q state r
   unfolding carriedOut
   carry-get port q s = go (d .plan) q
@@ -119,7 +120,7 @@ module _ (box : Box) (state : State) (m : List ℕ) (request : Request) (d : Dec
       go p e = rw e (unchanged-performs _ P Q state r s)
 
   pub carry-set : (position nest : ℕ) (new : State) → d .plan ≡ Pl.Set position nest → new ≡ changedBy box state position (request .command .set) (d .form)
-      → Responds (responseOf done (request .next) (ackBytes m (request .header))) P Q r → Performs (carriedOut box state m request d) P Q new r
+      → Responds (responseOf Done (request .next) (ackBytes m (request .header))) P Q r → Performs (carriedOut box state m request d) P Q new r
   unfolding carriedOut
   carry-set position nest new q e s = go (d .plan) q
     where

@@ -31,7 +31,8 @@ use Rattle.request.specs.declared.top.Top.{Top}
 use Rattle.request.specs.declared.top.Top.the-variants as T
 use Rattle.request.specs.declared.target.TargetRead.{TargetRead}
 use Rattle.request.specs.declared.target.TargetRead.the-variants as A
-use Rattle.response.specs.Answer.{Outcome, responseOf, done, errorResponse, ackBytes, unchanged}
+use Rattle.response.specs.Answer.{Outcome, responseOf, errorResponse, ackBytes, unchanged}
+use Rattle.response.specs.declared.Kind.the-variants.{Done}
 use Rattle.execute.specs.declared.Request.{Request}
 
 -- what a right box says of its parts
@@ -69,7 +70,7 @@ abbrev pub readingOutcome : Reading → Box → State → List ℕ → Request �
 readingOutcome (refused r) box state m request position = unchanged (errorResponse m (request .next) r) state
 readingOutcome (accepted b) box state m request position =
     record {
-      response = responseOf done (request .next) (ackBytes m (request .header));
+      response = responseOf Done (request .next) (ackBytes m (request .header));
       state =
           withSet box state position (request .command .set)
           (wordsOf (widthIn box (request .command .set)) (effect b (has (setOf box state position (request .command .set)))));
@@ -85,9 +86,9 @@ unfoldable pub portOutcome : Box → State → List ℕ → Request → Slot →
 portOutcome box state m request bitset port =
     cond (request .command .change)
     (setOutcome box state m request bitset (port .position))
-    (unchanged (responseOf done (request .next) (getBytes box state m request port)) state)
+    (unchanged (responseOf Done (request .next) (getBytes box state m request port)) state)
 
--- the header level, then the deed
+-- the header level, then GET or SET
 abbrev pub targetOutcome : TargetRead → State → List ℕ → Request → (Target → Outcome State) → Outcome State
 targetOutcome (A.Refused r) state m request f = unchanged (errorResponse m (request .next) r) state
 targetOutcome (A.Port position flags) state m request f = f (record { position = position; flags = flags })
@@ -106,9 +107,9 @@ requestOutcome box state m request = topOutcome (topOf m (request .command .chan
 -- what a decision comes to: "5 to 22 write one error message"; a GET is answered; a SET changes the set by its form and is acknowledged
 abbrev pub planOutcome : Plan → Form → Box → State → List ℕ → Request → Outcome State
 planOutcome (P.Refused why) form box state m request = unchanged (errorResponse m (request .next) why) state
-planOutcome (P.Get port) form box state m request = unchanged (responseOf done (request .next) (getBytes box state m request port)) state
+planOutcome (P.Get port) form box state m request = unchanged (responseOf Done (request .next) (getBytes box state m request port)) state
 planOutcome (P.Set position nest) form box state m request =
-    record { response = responseOf done (request .next) (ackBytes m (request .header)); state = changedBy box state position (request .command .set) form }
+    record { response = responseOf Done (request .next) (ackBytes m (request .header)); state = changedBy box state position (request .command .set) form }
 
 unfoldable pub carriedOut : Box → State → List ℕ → Request → Decision → Outcome State
 carriedOut box state m request d = planOutcome (d .plan) (d .form) box state m request

@@ -7,7 +7,8 @@ ghost use lib.ListN.{length};
 ghost use Rattle.roll.specs.Record.{portCount};
 ghost use Rattle.roll.specs.Table.{Tabled};
 ghost use Rattle.boxes.specs.Box.{boxOf, stateOf, setOf};
-ghost use Rattle.response.specs.Answer.{Responds, Performs, responseOf, done};
+ghost use Rattle.response.specs.Answer.{Responds, Performs, responseOf};
+ghost use Rattle.response.specs.declared.Kind.the-variants.{Done};
 ghost use Rattle.decision.specs.Decision.{PortIn};
 ghost use Rattle.execute.specs.Execute.{Fit, changedBy, getBytes, requestOutcome, carriedOut};
 use crate::show::show;
@@ -77,7 +78,7 @@ fn get<'a>(
     requires { ⌜ (32768 ≤ length (now page)) × (16 ≤ length (now m)) × (port .position < portCount (now roll)) ⌝ }
     requires { ⌜ Tabled (now roll) (now ports) ⌝ }
     requires { ⌜ Fit (boxOf (now roll) (now debug) (now flags)) (stateOf (now settings)) ⌝ }
-    ensures { λ r. ⌜ Responds (responseOf done (request .next) (getBytes (boxOf (now (roll .entry)) (now (debug .entry)) (now (flags .entry))) (stateOf (now (settings .entry))) (now (m .entry)) request port)) (now (page .entry)) (now (page .exit)) r ⌝ }
+    ensures { λ r. ⌜ Responds (responseOf Done (request .next) (getBytes (boxOf (now (roll .entry)) (now (debug .entry)) (now (flags .entry))) (stateOf (now (settings .entry))) (now (m .entry)) request port)) (now (page .entry)) (now (page .exit)) r ⌝ }
 {
     let position = port.position;
     let index = index_of(roll, ports, position);

@@ -3,7 +3,8 @@ ghost use mathlib.Core.Path.{_≡_};
 ghost use Prim.Native.Nat.{_≤_};
 ghost use lib.ListN.{length};
 ghost use Rattle.bits.specs.Set.{wordsFor};
-ghost use Rattle.response.specs.Answer.{Responds, responseOf, done};
+ghost use Rattle.response.specs.Answer.{Responds, responseOf};
+ghost use Rattle.response.specs.declared.Kind.the-variants.{Done};
 ghost use Rattle.execute.specs.Execute.{replyAndAck};
 use netlink_headers::headers::MessageHeader;
 use reply::message::Heading;
@@ -27,7 +28,7 @@ pub fn show(
     n: usize,
 ) -> Answer
     requires { ⌜ (32768 ≤ length (now page)) × (16 ≤ length (now message)) × (length (now name) ≤ 16) × (length (now words) ≡ wordsFor n) × (n ≤ 512) ⌝ }
-    ensures { λ r. ⌜ Responds (responseOf done next (replyAndAck (now (message .entry)) h heading index (now (name .entry)) compact (now (names .entry)) (now (words .entry)) n)) (now (page .entry)) (now (page .exit)) r ⌝ }
+    ensures { λ r. ⌜ Responds (responseOf Done next (replyAndAck (now (message .entry)) h heading index (now (name .entry)) compact (now (names .entry)) (now (words .entry)) n)) (now (page .entry)) (now (page .exit)) r ⌝ }
 {
     let reply = put_reply(page, heading, index, name, compact, names, words, n);
     let ack = put_ack_if_asked(&mut page[reply..], message, h);

@@ -23,7 +23,7 @@ use Rattle.execute.specs.Execute.{requestOutcome}
 use Rattle.response.specs.declared.Kind.{Kind}
 use Rattle.response.specs.declared.Kind.the-variants.{End, Skipped, Done, Refused}
 
--- skipped, 5 to 9, or the command obeyed
+-- skipped, 5 to 9, or the command executed
 abbrev pub onAdmission : Admission → Box → State → List ℕ → MessageHeader → ℕ → Outcome State
 onAdmission A.Skipped box state m h next = unchanged (noBytes Skipped next) state
 onAdmission (A.Refused r) box state m h next = unchanged (errorResponse m next r) state

@@ -48,7 +48,7 @@ pub fn refuse_in_place(why: Refusal, position: usize) -> Answer
     no_bytes(Kind::Refused(why), position)
 }
 
-// Answers the message m, whose header is h: skipped, refused by 5 to 9, or obeyed.
+// Answers the message m, whose header is h: skipped, refused by 5 to 9, or executed.
 fn answer_message<'a>(
     page: &mut [u8],
     settings: &mut [u32],

@@ -1,4 +1,4 @@
-// What a request is aimed at, from its header nest: refusals 10 to 12 in it, and 14 to 17.
+// The port that a request names, and the flags of its header, from its header nest: refusals 10 to 12 in it, and 14 to 17.
 ghost use mathlib.Core.Path.{_≡_};
 ghost use Rattle.roll.specs.Table.{Tabled};
 ghost use Rattle.request.specs.Target.{withFlags, targetOf};

@@ -3,7 +3,8 @@ ghost use mathlib.Core.Path.{_≡_};
 ghost use Prim.Native.Nat.{_≤_};
 ghost use lib.ListN.{length};
 ghost use Rattle.page.specs.Page.{Wrote};
-ghost use Rattle.response.specs.Answer.{kindNumber, refusalNumber, Responds, errorResponse, responseOf, done, ackBytes};
+ghost use Rattle.response.specs.Answer.{kindNumber, refusalNumber, Responds, errorResponse, responseOf, ackBytes};
+ghost use Rattle.response.specs.declared.Kind.the-variants.{Done};
 use netlink_error::put_ack;
 use netlink_error::put_error;
 use netlink_headers::headers::MessageHeader;
@@ -80,7 +81,7 @@ pub fn put_ack_if_asked(page: &mut [u8], message: &[u8], h: MessageHeader) -> us
 // A done SET: an ACK if asked, else nothing.
 pub fn acknowledge(page: &mut [u8], message: &[u8], h: MessageHeader, next: usize) -> Answer
     requires { ⌜ (32768 ≤ length (now page)) × (16 ≤ length (now message)) ⌝ }
-    ensures { λ r. ⌜ Responds (responseOf done next (ackBytes (now (message .entry)) h)) (now (page .entry)) (now (page .exit)) r ⌝ }
+    ensures { λ r. ⌜ Responds (responseOf Done next (ackBytes (now (message .entry)) h)) (now (page .entry)) (now (page .exit)) r ⌝ }
 {
     let written = put_ack_if_asked(page, message, h);
     Answer {

@@ -34,7 +34,8 @@ use Rattle.request.specs.declared.top.Top.{Top}
 use Rattle.request.specs.declared.top.Top.the-variants as T
 use Rattle.request.specs.declared.target.TargetRead.{TargetRead}
 use Rattle.request.specs.declared.target.TargetRead.the-variants as P
-use Rattle.response.specs.Answer.{Outcome, responseOf, done, unchanged}
+use Rattle.response.specs.Answer.{Outcome, responseOf, unchanged}
+use Rattle.response.specs.declared.Kind.the-variants.{Done}
 use Rattle.execute.specs.declared.Request.{Request}
 use Rattle.execute.specs.Execute.{getBytes, readingOutcome, setOutcome, portOutcome, targetOutcome, headerOutcome, topOutcome, requestOutcome}
 use Rattle.handler.specs.Call.{onAdmission, messageOutcome, refusedInPlace, onMessage, positionOutcome, outcome, endsRun}
@@ -50,31 +51,31 @@ module _ (box : Box) (state : State) (m : List ℕ) where
         by (refused r) = refl
         by (accepted b) = refl
 
-    deed-next : (bitset : Slot) (port : Target) → portOutcome box state m request bitset port .response .next ≡ request .next
+    port-outcome-next : (bitset : Slot) (port : Target) → portOutcome box state m request bitset port .response .next ≡ request .next
     unfolding portOutcome
-    deed-next bitset port = by (request .command .change)
+    port-outcome-next bitset port = by (request .command .change)
       where
         by : (t : Bool)
-            → cond t (setOutcome box state m request bitset (port .position)) (unchanged (responseOf done (request .next) (getBytes box state m request port)) state) .response .next
+            → cond t (setOutcome box state m request bitset (port .position)) (unchanged (responseOf Done (request .next) (getBytes box state m request port)) state) .response .next
             ≡ request .next
         by true = set-next bitset (port .position)
         by false = refl
 
-    aimed-next : (header bitset : Slot) → headerOutcome box state m request header bitset .response .next ≡ request .next
+    header-next : (header bitset : Slot) → headerOutcome box state m request header bitset .response .next ≡ request .next
     unfolding headerOutcome
-    aimed-next header bitset = by (targetOf m header (box .roll))
+    header-next header bitset = by (targetOf m header (box .roll))
       where
         by : (x : TargetRead) → targetOutcome x state m request (portOutcome box state m request bitset) .response .next ≡ request .next
         by (P.Refused r) = refl
-        by (P.Port position flags) = deed-next bitset (record { position = position; flags = flags })
+        by (P.Port position flags) = port-outcome-next bitset (record { position = position; flags = flags })
 
-    obeyed-next : requestOutcome box state m request .response .next ≡ request .next
+    request-next : requestOutcome box state m request .response .next ≡ request .next
     unfolding requestOutcome
-    obeyed-next = by (topOf m (request .command .change))
+    request-next = by (topOf m (request .command .change))
       where
         by : (x : Top) → topOutcome x state m request (headerOutcome box state m request) .response .next ≡ request .next
         by (T.Refused r) = refl
-        by (T.Nests header bitset) = aimed-next header bitset
+        by (T.Nests header bitset) = header-next header bitset
 
   message-next : (call : Call) (h : MessageHeader) (next : ℕ) → messageOutcome box state call m h next .response .next ≡ next
   unfolding messageOutcome
@@ -83,7 +84,7 @@ module _ (box : Box) (state : State) (m : List ℕ) where
       by : (x : Admission) → onAdmission x box state m h next .response .next ≡ next
       by A.Skipped = refl
       by (A.Refused r) = refl
-      by (A.Admitted command) = obeyed-next (record { header = h; next = next; command = command })
+      by (A.Admitted command) = request-next (record { header = h; next = next; command = command })
 
 module _ (box : Box) (state : State) (call : Call) (datagram : List ℕ) (room : ℕ) where
   abbrev position : ℕ

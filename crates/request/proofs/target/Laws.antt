@@ -1,4 +1,4 @@
--- Laws of what a request is aimed at: one for each return.
+-- Laws of the port that a request names: one for each return.
 use Prim.Native.Nat.{ℕ}
 use mathlib.Core.Path.{_≡_, sym, ap, _∙_}
 use mathlib.Core.List.{List}

@@ -1,4 +1,4 @@
--- A port that a request is aimed at is one of the roll's.
+-- A port that a request names is one of the roll's.
 use Prim.Native.Nat.{ℕ, _≤_, _<_}
 use mathlib.Core.Path.{_≡_, refl, sym, _∙_}
 use mathlib.Core.List.{List}
@@ -64,7 +64,7 @@ module _ (roll : List ℕ) where
   with-flags-in (T.Refused why) flags p = p
   with-flags-in (T.Port k) flags p = p
 
-  -- whatever a request is aimed at
+  -- whatever a request names
   pub target-counted : (m : List ℕ) (header : Slot) → AimIn (targetOf m header roll)
   unfolding targetOf
   target-counted m header = go (headerOf m header)
