@@ -73,7 +73,14 @@ fn bit_by_index(s: &[u8], n: usize, index: Slot) -> IdentityRead
     IdentityRead::Read(Identity::Number(number))
 }
 
-fn bit_by_name(s: &[u8], names: &[u8], indexed: bool, head: &[u16], links: &[u16], name: Slot) -> IdentityRead
+fn bit_by_name(
+    s: &[u8],
+    names: &[u8],
+    indexed: bool,
+    head: &[u16],
+    links: &[u16],
+    name: Slot,
+) -> IdentityRead
     requires { ⌜ IndexedIf indexed (now names) (now head) (now links) ⌝ }
     ensures { λ r. ⌜ r ≡ bitByName (now (s .entry)) (now (names .entry)) name ⌝ }
 {
@@ -169,25 +176,22 @@ fn walk_bit(s: &[u8], from: usize) -> BitWalk
             AttributeRead::Broken => {
                 return BitWalk::Refused(of_fault(Fault::Length, at));
             }
-            AttributeRead::Attribute {
-                kind,
-                bits,
-                start,
-                end,
-                next: after,
-            } => match judge_attribute(kind, bits, payload(s, start, end)) {
-                Verdict::Wrong(fault) => {
-                    return BitWalk::Refused(of_fault(fault, at));
-                }
-                Verdict::Right => {
-                    at = after;
-                    match kind {
-                        1 => index = found(start, end),
-                        2 => name = found(start, end),
-                        _ => on = found(start, end),
+            AttributeRead::Attribute(x) => {
+                let kind = x.kind;
+                match judge_attribute(kind, x.bits, payload(s, x.start, x.end)) {
+                    Verdict::Wrong(fault) => {
+                        return BitWalk::Refused(of_fault(fault, at));
+                    }
+                    Verdict::Right => {
+                        at = x.next;
+                        match kind {
+                            1 => index = found(x.start, x.end),
+                            2 => name = found(x.start, x.end),
+                            _ => on = found(x.start, x.end),
+                        }
                     }
                 }
-            },
+            }
         }
     }
 }
