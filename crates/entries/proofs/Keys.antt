@@ -9,7 +9,8 @@ use lib.ListN.{length, getD, set, length-set}
 use lib.Seq.{getD-set-same, getD-set-other}
 use Rattle.basics.specs.Numbers.{u32At, u64At}
 use Rattle.basics.proofs.Order.{lt-or-ge}
-use Rattle.entries.specs.Entry.{sameEntry, KeyStarts}
+use Rattle.entries.specs.Entry.{sameEntry}
+use Rattle.entries.specs.Key.{KeyStarts}
 use Rattle.entries.proofs.Entries.{same-of}
 
 -- one byte more

@@ -1,4 +1,4 @@
--- How equal entries are found: each entry leads to the last one before it that has the same hash. No promise rests on the hash.
+-- No promise rests on this file: how equal entries are found. Each entry leads to the last one before it that has the same hash.
 use Prim.Native.Nat.{ℕ, zero, suc, _+_, _-_, _*_, _/_, _%_, _^_, _<_, _≤_}
 use mathlib.Core.Path.{_≡_}
 use mathlib.Core.Bool.{Bool, true, cond}

@@ -8,7 +8,8 @@ use native.Mathlib.Omega.{arith}
 use lib.ListN.{length, getD}
 use Rattle.basics.proofs.Order.{lt-or-ge}
 use Rattle.basics.proofs.Truth.{false-of}
-use Rattle.entries.specs.Entry.{count, entryAt, sameEntry, KeyStarts}
+use Rattle.entries.specs.Entry.{count, entryAt, sameEntry}
+use Rattle.entries.specs.Key.{KeyStarts}
 use Rattle.entries.specs.Chain.{hashOf, lastOfHash, Indexed}
 use Rattle.entries.proofs.Chains.{hash-same, last-none, last-le, last-fix, last-hash}
 use Rattle.entries.proofs.Keys.{key-same}

@@ -3,7 +3,7 @@ use Prim.Native.Nat.{_≤_, _-_}
 use mathlib.Core.Path.{refl}
 use native.Mathlib.Omega.{arith}
 use borrow.Author.Needs.{needs}
-use Rattle.entries.specs.Entry.{KeyStarts}
+use Rattle.entries.specs.Key.{KeyStarts}
 use Rattle.names.proofs.Search.{SameBefore, name-barred, same-start}
 use Rattle.name_index.proofs.Along.{Along, Looking, along-start, along-look, along-found, along-on, along-more, along-end}
 use Rattle.name_index.proofs.find.Statement.{statement}
