@@ -46,5 +46,5 @@ pub fn put_bits_nest(page: &mut [u8], names: &[u8], words: &[u32], n: usize) -> 
     ensures { λ r. ⌜ r ≤ n * 52 + 4 ⌝ }
 {
     let contents = put_bits(&mut page[4..], names, words, n);
-    close_nest(page, BITS as u16, contents)
+    close_nest(page, BITS as u16, contents).bytes()
 }

@@ -40,13 +40,13 @@ pub fn read_attribute(s: &[u8], at: usize) -> AttributeRead
     if s.len() - at < stated {
         return AttributeRead::Broken;
     }
-    let step = Stated(header.length as u32).step();
+    let step = Stated::of(header.length as u32).step();
     AttributeRead::Attribute {
         kind: header.kind % 16384,
         bits: header.kind / 16384,
         start: at + AttributeHeader::SIZE,
         end: at + stated,
-        next: capped(at + step.0, s.len()),
+        next: capped(at + step.bytes(), s.len()),
     }
 }
 

@@ -22,7 +22,7 @@ use Rattle.netlink_write.proofs.attributes.Laws.{length-attr}
 use Rattle.bitset_form.specs.Policies.{bitPolicy}
 use Rattle.bitset_bit.specs.Bit.{bitByIndex, identified, bitPartsReading, bitReading}
 use Rattle.bitset_bit.specs.declared.BitRead.the-variants.{Bit}
-use Rattle.bitset_reply.proofs.list.Lengths.{length-nameBytes}
+use Rattle.netlink_write.proofs.attributes.Lengths.{length-nameBytes}
 use Rattle.read_back.proofs.Places.{payload-at, attribute-at, walked-by}
 
 module _ (s front names name : List ℕ) (i at : ℕ) (ea : at ≡ length front) (few : i < 4294967296) (l : i < count names) where

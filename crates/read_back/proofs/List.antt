@@ -20,7 +20,8 @@ use Rattle.bitset_form.specs.Policies.{bitsPolicy}
 use Rattle.bitset_list.specs.BitList.{bitsReading}
 use Rattle.bitset_list.specs.BitList.ListReading.{listEntries}
 use Rattle.bitset_reply.specs.List.{bitIn, bitsBytes}
-use Rattle.bitset_reply.proofs.list.Lengths.{identity-whole, identity-most, Short}
+use Rattle.netlink_write.proofs.attributes.Lengths.{identity-whole, identity-most}
+use Rattle.bitset_reply.proofs.list.Lengths.{Short}
 use Rattle.read_back.proofs.Places.{upTo, nest-at, contents-at, cut-at}
 use Rattle.read_back.proofs.Bit.{bit-back}
 

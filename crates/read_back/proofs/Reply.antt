@@ -22,7 +22,8 @@ use Rattle.reply.specs.Message.{headersBytes, attributesBytes, replyBytes}
 use Rattle.read_back.specs.Claims.{ReadsBack}
 use Rattle.reply.specs.declared.message.Heading.{Heading}
 use Rattle.read_back.proofs.Places.{part-all, upTo, nest-at, contents-at, cut-at}
-use Rattle.bitset_reply.proofs.list.Lengths.{Short, right-short, identity-whole, identity-most, length-numbered}
+use Rattle.netlink_write.proofs.attributes.Lengths.{identity-whole, identity-most, length-numbered}
+use Rattle.bitset_reply.proofs.list.Lengths.{Short, right-short}
 use Rattle.bitset_reply.proofs.set.Lengths.{contents-whole, contents-most}
 use Rattle.read_back.proofs.Set.{set-back}
 use Rattle.reply.proofs.message.Laws.{length-headers}

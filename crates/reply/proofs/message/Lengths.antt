@@ -15,7 +15,8 @@ use Rattle.netlink_write.proofs.attributes.Laws.{length-nest}
 use Rattle.bitset_reply.specs.Set.{contentsBytes, setBytes}
 use Rattle.reply.specs.Message.{headersBytes, attributesBytes, replyBytes}
 use Rattle.reply.specs.declared.message.Heading.{Heading}
-use Rattle.bitset_reply.proofs.list.Lengths.{Short, right-short, identity-whole, identity-most, length-numbered}
+use Rattle.netlink_write.proofs.attributes.Lengths.{identity-whole, identity-most, length-numbered}
+use Rattle.bitset_reply.proofs.list.Lengths.{Short, right-short}
 use Rattle.bitset_reply.proofs.set.Lengths.{contents-whole, contents-most}
 use Rattle.reply.proofs.message.Laws.{length-headers}
 

@@ -1,4 +1,5 @@
-use native.Mathlib.Omega.{arith}
+use Rattle.netlink_headers.proofs.lengths.Laws.{bytes-of}
+use Rattle.netlink_write.proofs.attributes.Lengths.{identity-close}
 use Rattle.netlink_write.proofs.attributes.Laws.{numbered-wrote}
 use borrow.Author.Needs.{needs}
 use Rattle.netlink_write.proofs.attributes.put_numbered.Statement.{statement}
@@ -17,17 +18,16 @@ put-identity-requires : tie.Need-put-identity-requires
 put-identity-requires c κs = search needs
 
 close-nest-requires : tie.Need-close-nest-requires
-close-nest-requires c κs = search needs
+close-nest-requires c κs = search (needs, identity-close)
+
+bytes-requires : tie.Need-bytes-requires
+bytes-requires c κs = search needs
 
 same-length : tie.Need-same-length
 same-length c = search needs
 
 returns : tie.Need-returns
-returns c =
-    let contents = c .before .before .before .before .before .before .put-identity .ensures in
-    let nest = c .before .before .close-nest .ensures in
-    let start = c .before .before .before .before .before .before .before .before .before .before in
-    (numbered-wrote _ _ _ _ _ _ _ _ (start .pre .2) (contents .0) (nest .0) (nest .1), omega (arith, contents .1, nest .0))
+returns c = search (needs, numbered-wrote, bytes-of)
 
 pub put-numbered-spec : {M : Type 1} → statement M
 put-numbered-spec =
@@ -38,5 +38,6 @@ put-numbered-spec =
     part-put-identity-end
     put-identity-requires
     close-nest-requires
+    bytes-requires
     same-length
     returns)

@@ -1,14 +1,20 @@
-use native.Mathlib.Omega.{arith}
+use Rattle.netlink_headers.proofs.lengths.Laws.{step-bytes}
 use Rattle.netlink_write.proofs.attributes.Laws.{filled-cut}
 use borrow.Author.Needs.{needs}
 use Rattle.netlink_write.proofs.attributes.put_stated.Statement.{statement}
 use Rattle.netlink_write.proofs.attributes.put_stated.Tie as tie
 
-cast-t8 : tie.Need-cast-t8
-cast-t8 c = search needs
+cast-of : tie.Need-cast-of
+cast-of c = search needs
+
+of-requires : tie.Need-of-requires
+of-requires c κs = search needs
 
 step-requires : tie.Need-step-requires
 step-requires c κs = search needs
+
+bytes-requires : tie.Need-bytes-requires
+bytes-requires c κs = search needs
 
 sub-put-filled : tie.Need-sub-put-filled
 sub-put-filled c = search needs
@@ -35,14 +41,16 @@ same-length : tie.Need-same-length
 same-length c = search needs
 
 returns : tie.Need-returns
-returns c = let s = c .before .before .before .before .before .before .before .before .before .before .before in let step = c .before .before .before .before .before .before .before .before .step .ensures in (filled-cut _ _ _ _ _ _ _ _ (s .pre .0) (s .pre .1) (s .pre .3) step (c .before .before .before .before .before .before .put-filled .ensures) (c .before .before .put-attribute-header .ensures), omega (arith, step))
+returns c = search (needs, filled-cut, step-bytes)
 
 pub put-stated-spec : {M : Type 1} → statement M
 put-stated-spec =
     tie.close
     (tie.spec
-    cast-t8
+    cast-of
+    of-requires
     step-requires
+    bytes-requires
     sub-put-filled
     part-put-filled-start
     part-put-filled-end
