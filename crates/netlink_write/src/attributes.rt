@@ -2,14 +2,12 @@
 ghost use mathlib.Core.Path.{_≡_};
 ghost use Prim.Native.Nat.{_+_, _%_, _≤_, _<_};
 ghost use mathlib.Core.List.{[]};
-ghost use lib.Dec.{eqb};
 ghost use lib.ListN.{length, take};
 ghost use Rattle.basics.specs.Numbers.{le32};
 ghost use Rattle.basics.specs.Put.{put};
-ghost use Rattle.netlink.specs.Policy.{nulAt};
 ghost use Rattle.page.specs.Page.{Wrote};
 ghost use Rattle.netlink_write.specs.Headers.{attributeHeaderBytes};
-ghost use Rattle.netlink_write.specs.Attributes.{attr, filled, nameBytes, identity, numbered};
+ghost use Rattle.netlink_write.specs.Attributes.{attr, filled, nameBytes};
 use crate::headers::put_attribute_header;
 use crate::padded_name::put_padded_name;
 use netlink_headers::headers::AttributeHeader;
@@ -108,38 +106,4 @@ pub fn close_nest(page: &mut [u8], kind: u16, contents: usize) -> Step
     ensures { λ _. ⌜ now (page .exit) ≡ put (now (page .entry)) (attributeHeaderBytes (contents + 4) (kind + 32768)) ⌝ }
 {
     close_attribute(page, kind + NEST, contents)
-}
-
-// A nest that identifies a thing by its number and, where it has one, its name.
-pub fn put_numbered(page: &mut [u8], kind: u16, number: u32, name: &[u8]) -> usize
-    requires { ⌜ (kind < 16384) × (length (now name) ≤ 256) × (length (now name) + 20 ≤ length (now page)) ⌝ }
-    ensures { λ r. ⌜ Wrote (numbered kind number (now (name .entry))) (now (page .entry)) (now (page .exit)) r ⌝ }
-    ensures { λ r. ⌜ r ≤ length (now (name .entry)) + 20 ⌝ }
-{
-    let contents = put_identity(&mut page[AttributeHeader::SIZE..], number, name);
-    close_nest(page, kind, contents).bytes()
-}
-
-// What that nest holds.
-fn put_identity(page: &mut [u8], number: u32, name: &[u8]) -> usize
-    requires { ⌜ (length (now name) ≤ 256) × (length (now name) + 16 ≤ length (now page)) ⌝ }
-    ensures { λ r. ⌜ Wrote (identity number (now (name .entry))) (now (page .entry)) (now (page .exit)) r ⌝ }
-    ensures { λ r. ⌜ r ≤ length (now (name .entry)) + 16 ⌝ }
-{
-    put_number(page, 1, number);
-    if is_unnamed(name) {
-        return 8;
-    }
-    let m = put_name(&mut page[8..], 2, name);
-    m + 8
-}
-
-// Whether no byte stands before the first NUL.
-fn is_unnamed(name: &[u8]) -> bool
-    ensures { λ r. ⌜ r ≡ eqb (nulAt (now (name .entry))) 0 ⌝ }
-{
-    if name.len() == 0 {
-        return true;
-    }
-    name[0] == 0
 }

@@ -12,8 +12,8 @@ use Rattle.names.specs.Rule.{entryRight, namesRight}
 use Rattle.names.proofs.Rules.{right-means}
 use Rattle.netlink.specs.Policy.{nulAt}
 use Rattle.page.specs.Page.{Wrote}
-use Rattle.netlink_write.specs.Attributes.{numbered}
-use Rattle.netlink_write.proofs.attributes.Lengths.{identity-whole, identity-most, length-numbered}
+use Rattle.index_name.specs.IndexName.{indexNest}
+use Rattle.index_name.proofs.Laws.{index-name-whole, index-name-most, length-index-nest}
 use Rattle.bitset_reply.specs.List.{bitIn, bitsBytes}
 
 -- each entry below n has a NUL
@@ -39,12 +39,12 @@ module _ (names : List ℕ) (listed : ℕ → Bool) where
   unfolding bitIn
   bit-length i = go (listed i)
     where
-      go : (t : Bool) → (length (cond t (numbered 1 i (entryAt names i)) []) % 4 ≡ 0)
-          × (nulAt (entryAt names i) < 32 → length (cond t (numbered 1 i (entryAt names i)) []) ≤ 48)
+      go : (t : Bool) → (length (cond t (indexNest 1 i (entryAt names i)) []) % 4 ≡ 0)
+          × (nulAt (entryAt names i) < 32 → length (cond t (indexNest 1 i (entryAt names i)) []) ≤ 48)
       go true =
-          let l = length-numbered i (entryAt names i) 1 in
-          let m = identity-most i (entryAt names i) in
-          (omega (arith, identity-whole i (entryAt names i)), λ h. omega arith)
+          let l = length-index-nest i (entryAt names i) 1 in
+          let m = index-name-most i (entryAt names i) in
+          (omega (arith, index-name-whole i (entryAt names i)), λ h. omega arith)
       go false = (refl, λ h. omega arith)
 
   pub bits-whole : (n : ℕ) → length (bitsBytes names listed n) % 4 ≡ 0

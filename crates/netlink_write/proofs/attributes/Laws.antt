@@ -1,13 +1,10 @@
 -- Laws of attributes and nests: their lengths, and one for the return of each writer.
 use Prim.Native.Nat.{ℕ, zero, suc, _+_, _-_, _%_, _≤_}
 use mathlib.Core.Path.{_≡_, refl, sym, ap, _∙_}
-use mathlib.Core.Bool.{Bool, true, false}
 use mathlib.Core.List.{List, [], _∷_, _++_, append-assoc, append-nil}
 use native.Mathlib.Omega.{arith}
 use borrow.Rule.Slice.PartMut.{putMid}
-use borrow.Author.Tests.{ne-eqb}
-use lib.Dec.{eqb}
-use lib.ListN.{length, take, drop, getD, replicate, length-append, length-replicate}
+use lib.ListN.{length, take, drop, replicate, length-append, length-replicate}
 use lib.Seq.{length-take-le, take-all}
 use Rattle.basics.specs.Numbers.{le32}
 use Rattle.netlink_headers.specs.Lengths.{roundUp4}
@@ -15,9 +12,8 @@ use Rattle.netlink.specs.Policy.{nulAt}
 use Rattle.basics.specs.Put.{put}
 use Rattle.page.specs.Page.{Wrote}
 use Rattle.netlink_write.specs.Headers.{attributeHeaderBytes}
-use Rattle.netlink_write.specs.Attributes.{padding, attr, filled, nest, nameBytes, named, identity, numbered}
+use Rattle.netlink_write.specs.Attributes.{padding, attr, filled, nest, nameBytes}
 use Rattle.netlink_write.specs.PaddedName.{paddedName}
-use Rattle.basics.proofs.Put.{then-rest}
 use Rattle.page.proofs.Page.{then-front, then-sized}
 use Rattle.netlink_write.proofs.headers.Laws.{length-attribute-header}
 
@@ -128,6 +124,10 @@ nul-le (suc b ∷ s) = omega (arith, nul-le s)
 pub length-name : (name : List ℕ) (n : ℕ) → n ≡ nulAt name → length (take n name) ≡ n
 length-name name n e = length-take-le n name (omega (arith, nul-le name))
 
+pub length-nameBytes : (name : List ℕ) → length (nameBytes name) ≡ nulAt name + 1
+unfolding nameBytes
+length-nameBytes name = omega (arith, length-append (take (nulAt name) name) (0 ∷ []), length-name name (nulAt name) refl)
+
 pub name-wrote : (P B C name : List ℕ) (kind n next : ℕ) → length name + 8 ≤ length P → n ≡ nulAt name → next ≡ roundUp4 (n + 5)
     → B ≡ put (take (length P - 4) (drop 4 P)) (paddedName name) → C ≡ put (putMid 4 (length P - 4) P B) (attributeHeaderBytes (n + 5) kind)
     → Wrote (attr kind (nameBytes name)) P C next
@@ -138,39 +138,3 @@ name-wrote P B C name kind n next room e en b c =
     let stated : n + 5 ≡ length (take n name) + 5 = omega arith in
     let body : B ≡ put (take (length P - 4) (drop 4 P)) (take n name ++ replicate (next - 4 - length (take n name)) 0) = rw (← pad, e) b in
     rw (← e) (rw (stated, filled-nul kind (take n name)) at (filled-wrote P (take n name) B C kind (n + 5) next (omega (arith, nul-le name)) (omega arith) en body c))
-
--- whether there is one, by its first byte
-pub name-empty : (s : List ℕ) → length s ≡ 0 → true ≡ eqb (nulAt s) 0
-unfolding nulAt
-name-empty [] e = refl
-name-empty (b ∷ s) e = absurd (omega arith)
-
-pub name-first : (s : List ℕ) → eqb (getD s 0 0) 0 ≡ eqb (nulAt s) 0
-unfolding nulAt
-name-first [] = refl
-name-first (zero ∷ s) = refl
-name-first (suc b ∷ s) = ne-eqb (suc b) 0 (λ q. omega arith) ∙ sym (ne-eqb (suc (nulAt s)) 0 (λ q. omega arith))
-
--- what identifies a thing, without a name and with one
-module _ (name : List ℕ) (number : ℕ) (b : Bool) (e : b ≡ eqb (nulAt name) 0) where
-  pub identity-plain : (P Q : List ℕ) (k : ℕ) → b ≡ true → k ≡ 8 → Wrote (attr 1 (le32 number)) P Q k → Wrote (identity number name) P Q 8
-  unfolding identity named
-  identity-plain P Q k t ek w = rw (← e, t, append-nil (attr 1 (le32 number)), ← ek) w
-
-  pub identity-named : (P A B : List ℕ) (k m : ℕ) → b ≡ false → length name + 16 ≤ length P → k ≡ 8 → Wrote (attr 1 (le32 number)) P A k
-      → Wrote (attr 2 (nameBytes name)) (take (length A - 8) (drop 8 A)) B m → Wrote (identity number name) P (putMid 8 (length A - 8) A B) (m + 8)
-  unfolding identity named
-  identity-named P A B k m f room ek a w =
-      let one = attr 1 (le32 number) in
-      let two = attr 2 (nameBytes name) in
-      rw (← e, f)
-      (record {
-        count = omega (arith, a .count, w .count, length-append one two);
-        page = then-rest P one two 8 (sym (a .count) ∙ ek) (omega (arith, a .count)) (a .page) (w .page);
-      })
-
--- the nest of it
-pub numbered-wrote : (P ys zs name : List ℕ) (kind number n r : ℕ) → length name + 20 ≤ length P → Wrote (identity number name) (take (length P - 4) (drop 4 P)) ys n
-    → r ≡ n + 4 → zs ≡ put (putMid 4 (length P - 4) P ys) (attributeHeaderBytes (n + 4) (kind + 32768)) → Wrote (numbered kind number name) P zs r
-unfolding numbered
-numbered-wrote P ys zs name kind number n r room w er q = nest-wrote P ys zs (identity number name) kind n r (omega arith) w er q
