@@ -1,9 +1,8 @@
 -- Document 01, "Sizes on the wire", from the table of types on: what each attribute must be.
 use Prim.Native.Nat.{ℕ, zero, suc, _+_}
-use mathlib.Core.Path.{_≡_}
 use mathlib.Core.List.{List, [], _∷_}
 use mathlib.Core.Bool.{Bool, true, cond, _&&_}
-use lib.ListN.{length, getD, drop}
+use lib.ListN.{length, getD}
 use lib.Dec.{eqb, leb}
 use Rattle.netlink.specs.declared.policy.Rule.{Rule}
 use Rattle.netlink.specs.declared.policy.Rule.the-variants.{Unlisted, Nest, Number, Flag, Name, Bytes}
@@ -20,14 +19,6 @@ unfoldable pub nulAt : List ℕ → ℕ
 nulAt [] = 0
 nulAt (zero ∷ s) = 0
 nulAt (suc b ∷ s) = suc (nulAt s)
-
--- no byte before i is NUL: the first NUL of the whole is the first from i on
-abbrev pub NulFrom : List ℕ → ℕ → Type 0
-NulFrom s i = nulAt s ≡ i + nulAt (drop i s)
-
--- whether the byte j places past another is NUL
-unfoldable pub isNul : List ℕ → ℕ → ℕ → Bool
-isNul s at j = eqb (getD s (at + j) 0) 0
 
 -- a name: the last byte is NUL and no other, and there are at most max bytes
 unfoldable pub isNamePayload : ℕ → List ℕ → Bool

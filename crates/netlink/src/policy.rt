@@ -3,7 +3,8 @@ ghost use mathlib.Core.Path.{_≡_};
 ghost use Prim.Native.Nat.{_+_, _≤_};
 ghost use lib.ListN.{length};
 ghost use Rattle.basics.specs.Scan.{any};
-ghost use Rattle.netlink.specs.Policy.{nulAt, NulFrom, isNul, isNamePayload, plain, nested, ruleOf, judged};
+ghost use Rattle.netlink.specs.Policy.{nulAt, isNamePayload, plain, nested, ruleOf, judged};
+ghost use Rattle.netlink.specs.NulSearch.{NulFrom, isNul};
 
 // The rule for the payload of a type: a nest must carry the nest bit, the others no bit.
 pub enum Rule {

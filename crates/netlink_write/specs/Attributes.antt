@@ -19,10 +19,6 @@ attr kind payload = attributeHeaderBytes (length payload + 4) kind ++ (payload +
 unfoldable pub nest : ℕ → List ℕ → List ℕ
 nest kind contents = attributeHeaderBytes (length contents + 4) (kind + 32768) ++ contents
 
--- a header that states a length, what stands of the payload, and zeros up to the step
-unfoldable pub filled : ℕ → ℕ → List ℕ → List ℕ
-filled kind stated payload = attributeHeaderBytes stated kind ++ (payload ++ replicate (roundUp4 stated - 4 - length payload) 0)
-
 -- "Replies": a name goes out with one NUL, behind its bytes before the first
 unfoldable pub nameBytes : List ℕ → List ℕ
 nameBytes name = take (nulAt name) name ++ (0 ∷ [])

@@ -2,12 +2,12 @@
 ghost use mathlib.Core.Path.{_≡_};
 ghost use Prim.Native.Nat.{_+_, _%_, _≤_, _<_};
 ghost use mathlib.Core.List.{[]};
-ghost use lib.ListN.{length, take};
+ghost use lib.ListN.{length};
 ghost use Rattle.basics.specs.Numbers.{le32};
 ghost use Rattle.basics.specs.Put.{put};
 ghost use Rattle.page.specs.Page.{Wrote};
 ghost use Rattle.netlink_write.specs.Headers.{attributeHeaderBytes};
-ghost use Rattle.netlink_write.specs.Attributes.{attr, filled, nameBytes};
+ghost use Rattle.netlink_write.specs.Attributes.{attr, nameBytes};
 use crate::headers::put_attribute_header;
 use crate::padded_name::put_padded_name;
 use netlink_headers::headers::AttributeHeader;
@@ -26,7 +26,16 @@ pub fn put_attribute(page: &mut [u8], kind: u16, payload: &[u8]) -> usize
     ensures { λ r. ⌜ r ≤ length (now (payload .entry)) + 7 ⌝ }
 {
     let n = payload.len();
-    put_stated(page, kind, payload, n, n + AttributeHeader::SIZE)
+    let stated = n + AttributeHeader::SIZE;
+    let next = Stated::of(stated as u32).step().bytes();
+    put_filled(
+        &mut page[AttributeHeader::SIZE..],
+        payload,
+        n,
+        next - AttributeHeader::SIZE,
+    );
+    put_attribute_header(page, stated as u16, kind);
+    next
 }
 
 // A name: its bytes before the first NUL, and one NUL.
@@ -41,23 +50,6 @@ pub fn put_name(page: &mut [u8], kind: u16, name: &[u8]) -> usize
     put_attribute_header(page, stated as u16, kind);
     let step = Stated::of(stated as u32).step();
     step.bytes()
-}
-
-// An attribute of a stated length: the first k bytes, then zeros up to the step.
-fn put_stated(page: &mut [u8], kind: u16, bytes: &[u8], k: usize, stated: usize) -> usize
-    requires { ⌜ (k ≤ length (now bytes)) × (k + 4 ≤ stated) × (stated ≤ 65535) × (stated + 3 ≤ length (now page)) ⌝ }
-    ensures { λ r. ⌜ Wrote (filled kind stated (take k (now (bytes .entry)))) (now (page .entry)) (now (page .exit)) r ⌝ }
-    ensures { λ r. ⌜ r ≤ stated + 3 ⌝ }
-{
-    let next = Stated::of(stated as u32).step().bytes();
-    put_filled(
-        &mut page[AttributeHeader::SIZE..],
-        bytes,
-        k,
-        next - AttributeHeader::SIZE,
-    );
-    put_attribute_header(page, stated as u16, kind);
-    next
 }
 
 // A flag: no payload.

@@ -12,5 +12,3 @@ step-bytes n bytes stated step e f g = g ∙ f ∙ ap roundUp4 e
 -- the bytes of a step that is known
 pub bytes-of : (step : Step) (n bytes : ℕ) → step .0 ≡ n → bytes ≡ step .0 → bytes ≡ n
 bytes-of step n bytes e f = f ∙ e
-
-pub ruleset length-laws = (step-bytes, bytes-of)
