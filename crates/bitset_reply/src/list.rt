@@ -6,8 +6,8 @@ ghost use Rattle.page.specs.Page.{Wrote};
 ghost use Rattle.netlink_write.specs.Attributes.{nest};
 ghost use Rattle.bitset_reply.specs.List.{bitIn, bitsBytes};
 use bitset_form::policies::BITS;
+use index_name::put_index_nest;
 use netlink_write::attributes::close_nest;
-use netlink_write::attributes::put_numbered;
 
 // The type of a BIT in BITS.
 const BIT: u16 = 1;
@@ -21,7 +21,7 @@ fn put_listed_bit(page: &mut [u8], names: &[u8], words: &[u32], i: usize) -> usi
     if !bits::test_bit(words, i) {
         return 0;
     }
-    put_numbered(page, BIT, i as u32, entries::entry(names, i))
+    put_index_nest(page, BIT, i as u32, entries::entry(names, i))
 }
 
 // The BITs of the bits below n that the words hold, rising.
@@ -46,5 +46,5 @@ pub fn put_bits_nest(page: &mut [u8], names: &[u8], words: &[u32], n: usize) -> 
     ensures { λ r. ⌜ r ≤ n * 52 + 4 ⌝ }
 {
     let contents = put_bits(&mut page[4..], names, words, n);
-    close_nest(page, BITS as u16, contents)
+    close_nest(page, BITS as u16, contents).bytes()
 }

@@ -68,5 +68,5 @@ pub fn put_set(page: &mut [u8], compact: bool, names: &[u8], words: &[u32], n: u
     ensures { λ r. ⌜ r ≤ 26644 ⌝ }
 {
     let contents = put_contents(&mut page[4..], compact, names, words, n);
-    close_nest(page, BITSET, contents)
+    close_nest(page, BITSET, contents).bytes()
 }

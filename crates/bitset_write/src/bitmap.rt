@@ -13,5 +13,5 @@ pub fn put_bitmap(page: &mut [u8], kind: u16, words: &[u32]) -> usize
     ensures { λ r. ⌜ r ≡ length (now (words .entry)) * 4 + 4 ⌝ }
 {
     word_bytes::write_words(words, &mut page[4..]);
-    netlink_write::attributes::close_attribute(page, kind, words.len() * 4)
+    netlink_write::attributes::close_attribute(page, kind, words.len() * 4).bytes()
 }

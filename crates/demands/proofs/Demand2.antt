@@ -22,7 +22,7 @@ use Rattle.names.specs.Rule.{namesRight}
 use Rattle.netlink_headers.specs.Headers.{messageHeader}
 use Rattle.netlink.specs.Policy.{nulAt}
 use Rattle.netlink_headers.specs.declared.headers.MessageHeader.{MessageHeader}
-use Rattle.netlink_write.specs.Attributes.{numbered}
+use Rattle.index_name.specs.IndexName.{indexNest}
 use Rattle.refusal.specs.Refusal.{errnoOf, detailOf}
 use Rattle.bitset_form.specs.Bitset.{Bitset}
 use Rattle.normal.specs.Claims.{Fits}
@@ -170,13 +170,13 @@ module _ (box : Box) (state : State) (call : Call) (datagram : List ℕ) (room :
         let named = names-right box state call right (n .port .position) inside setDone in
         let long = stored-long box state call right (n .port .position) inside setDone in
         let parts = reply-attributes (headingOf h (n .command .reply)) x name-of compact names words-of bits-of named (sym (lists-of count (box .names) setDone)) long short in
-        let at : 24 + length (numbered 1 x name-of) - 4 ≡ 20 + length (numbered 1 x name-of) = omega arith in
+        let at : 24 + length (indexNest 1 x name-of) - 4 ≡ 20 + length (indexNest 1 x name-of) = omega arith in
         record {
           named = n;
           is-get = change;
           keeps = ew;
           bytes = eb ∙ got-bytes next;
-          contents = 24 + length (numbered 1 x name-of);
+          contents = 24 + length (indexNest 1 x name-of);
           parts = rw at parts;
           reads-back =
               reply-back (headingOf h (n .command .reply)) x name-of compact names words-of bits-of named (sym (lists-of count (box .names) setDone)) long

@@ -7,6 +7,7 @@ use lib.ListN.{length, getD, take, drop}
 use native.Mathlib.Omega.{arith}
 use borrow.Author.Tests.{lt-ltb, le-ltb, eq-eqb, ne-eqb}
 use borrow.Rule.Slice.PartMut.{putMid}
+use Rattle.basics.specs.Numbers.{le32}
 use Rattle.basics.specs.Put.{put}
 use Rattle.basics.proofs.Put.{put-nil, then-rest}
 use Rattle.netlink_headers.specs.Headers.{messageHeaderAt, genericHeaderAt}
@@ -27,8 +28,9 @@ use Rattle.netlink.specs.declared.walk.Stop.the-variants.{Whole, At}
 use Rattle.netlink.specs.declared.walk.Walked.{Walked}
 use Rattle.netlink_headers.proofs.headers.Laws.{message-fits}
 use Rattle.page.specs.Page.{Wrote}
-use Rattle.netlink_write.specs.Headers.{messageHeaderBytes, genericHeaderBytes}
-use Rattle.netlink_write.specs.Attributes.{numbered}
+use Rattle.netlink_write.specs.Headers.{messageHeaderBytes, genericHeaderBytes, attributeHeaderBytes}
+use Rattle.netlink_write.specs.Attributes.{attr, nest}
+use Rattle.netlink_write.proofs.attributes.Laws.{nest-wrote}
 use Rattle.netlink_error.specs.Error.{errorMessage}
 use Rattle.netlink_error.specs.declared.Detail.{Detail}
 use Rattle.netlink_error.specs.declared.Detail.the-variants.{Nothing, Offset, MissTop, MissIn}
@@ -92,11 +94,16 @@ module _ (request : List ℕ) (g : GenericHeaderRead) (eg : g ≡ genericHeaderA
 
 pub ruleset request-laws = (request-short, request-command, request-fault, request-missing, request-nest)
 
+-- the nest around the number
+pub number-nest-wrote : (P A B : List ℕ) (x n r : ℕ) → 12 ≤ length P → Wrote (attr 1 (le32 x)) (take (length P - 4) (drop 4 P)) A n → r ≡ n + 4
+    → B ≡ put (putMid 4 (length P - 4) P A) (attributeHeaderBytes (n + 4) 32769) → Wrote (nest 1 (attr 1 (le32 x))) P B r
+number-nest-wrote P A B x n r room w er q = nest-wrote P A B (attr 1 (le32 x)) 1 n r (omega arith) w er q
+
 -- three writers in a row
 pub reply-wrote : (P : List ℕ) (h : MessageHeader) (x n : ℕ) (A B C : List ℕ) → 52 ≤ length P
     → A ≡ put P (messageHeaderBytes (record { length = 32; kind = h .kind; flags = 0; sequence = h .sequence; port = h .port }))
     → B ≡ put (take (length A - 16) (drop 16 A)) (genericHeaderBytes (record { command = 1; version = 1; reserved = 0 }))
-    → Wrote (numbered 1 x []) (take (length (putMid 16 (length A - 16) A B) - 20) (drop 20 (putMid 16 (length A - 16) A B))) C n
+    → Wrote (nest 1 (attr 1 (le32 x))) (take (length (putMid 16 (length A - 16) A B) - 20) (drop 20 (putMid 16 (length A - 16) A B))) C n
     → Wrote (numberReply h x) P (putMid 20 (length (putMid 16 (length A - 16) A B) - 20) (putMid 16 (length A - 16) A B) C) (n + 20)
 unfolding numberReply messageHeaderBytes genericHeaderBytes
 reply-wrote P h x n A B C room a b w =
@@ -105,7 +112,7 @@ reply-wrote P h x n A B C room a b w =
     let two = then-rest P head generic 16 refl (omega arith) a b in
     record {
       count = omega (arith, w .count);
-      page = then-rest P (head ++ generic) (numbered 1 x []) 20 refl (omega arith) two (w .page);
+      page = then-rest P (head ++ generic) (nest 1 (attr 1 (le32 x))) 20 refl (omega arith) two (w .page);
     }
 
 module _ (request before : List ℕ) where

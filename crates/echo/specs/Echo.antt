@@ -4,6 +4,7 @@ use mathlib.Core.List.{List, [], _∷_, _++_}
 use mathlib.Core.Bool.{cond, not}
 use lib.ListN.{getD}
 use lib.Dec.{eqb, ltb}
+use Rattle.basics.specs.Numbers.{le32}
 use Rattle.netlink_headers.specs.Headers.{messageHeaderAt, genericHeaderAt}
 use Rattle.netlink_attributes.specs.Attributes.{partOf}
 use Rattle.netlink.specs.Walk.{absent, walked, slotNumber}
@@ -18,7 +19,7 @@ use Rattle.netlink.specs.declared.walk.Slot.{Slot}
 use Rattle.netlink.specs.declared.walk.Stop.{Stop}
 use Rattle.netlink.specs.declared.walk.Stop.the-variants.{Whole, At}
 use Rattle.netlink_write.specs.Headers.{messageHeaderBytes, genericHeaderBytes}
-use Rattle.netlink_write.specs.Attributes.{numbered}
+use Rattle.netlink_write.specs.Attributes.{attr, nest}
 use Rattle.netlink_error.specs.Error.{errorMessage}
 use Rattle.netlink_error.specs.declared.Detail.the-variants.{Nothing, Offset, MissTop, MissIn}
 use Rattle.echo.specs.declared.RequestRead.{RequestRead}
@@ -61,7 +62,7 @@ requestReading request = onGeneric request (genericHeaderAt request 16)
 unfoldable pub numberReply : MessageHeader → ℕ → List ℕ
 numberReply h number =
     messageHeaderBytes (record { length = 32; kind = h .kind; flags = 0; sequence = h .sequence; port = h .port })
-    ++ (genericHeaderBytes (record { command = 1; version = 1; reserved = 0 }) ++ numbered 1 number [])
+    ++ (genericHeaderBytes (record { command = 1; version = 1; reserved = 0 }) ++ nest 1 (attr 1 (le32 number)))
 
 abbrev pub readAnswer : RequestRead → List ℕ → MessageHeader → List ℕ
 readAnswer (Number number) request h = numberReply h number

@@ -2,7 +2,9 @@
 ghost use mathlib.Core.Path.{_≡_};
 ghost use Prim.Native.Nat.{_≤_};
 ghost use lib.ListN.{length};
+ghost use Rattle.basics.specs.Numbers.{le32};
 ghost use Rattle.page.specs.Page.{Wrote};
+ghost use Rattle.netlink_write.specs.Attributes.{attr, nest};
 ghost use Rattle.echo.specs.Echo.{policy, nestReading, requestReading, numberReply, answerWritten};
 use netlink::policy::Rule;
 use netlink::walk::Slot;
@@ -13,11 +15,13 @@ use netlink_attributes::payload;
 use netlink_attributes::place;
 use netlink_error::Detail;
 use netlink_error::put_error;
+use netlink_headers::headers::AttributeHeader;
 use netlink_headers::headers::GenericHeader;
 use netlink_headers::headers::GenericHeaderRead;
 use netlink_headers::headers::MessageHeader;
 use netlink_headers::headers::MessageHeaderRead;
-use netlink_write::attributes::put_numbered;
+use netlink_write::attributes::close_nest;
+use netlink_write::attributes::put_number;
 use netlink_write::headers::put_generic_header;
 use netlink_write::headers::put_message_header;
 
@@ -96,7 +100,17 @@ fn put_number_reply(page: &mut [u8], h: MessageHeader, number: u32) -> usize
             reserved: 0,
         },
     );
-    put_numbered(&mut page[20..], 1, number, b"") + 20
+    put_number_nest(&mut page[20..], number) + 20
+}
+
+// The nest, type 1, with the number, type 1 in it: 12 bytes.
+fn put_number_nest(page: &mut [u8], number: u32) -> usize
+    requires { ⌜ 12 ≤ length (now page) ⌝ }
+    ensures { λ r. ⌜ Wrote (nest 1 (attr 1 (le32 number))) (now (page .entry)) (now (page .exit)) r ⌝ }
+    ensures { λ r. ⌜ r ≡ 12 ⌝ }
+{
+    let contents = put_number(&mut page[AttributeHeader::SIZE..], 1, number);
+    close_nest(page, 1, contents).bytes()
 }
 
 // Answers a request, one message of a datagram. With fewer than 16 bytes of it, or a page below 52, nothing is written.

@@ -1,3 +1,4 @@
 pub mod Policy
+pub mod NulSearch
 pub mod Walk
 pub mod Claims

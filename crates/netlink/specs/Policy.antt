@@ -1,22 +1,14 @@
--- Document 01, "Sizes on the wire", from the table of types on: what each attribute must be, and the numbers 10 to 12.
+-- Document 01, "Sizes on the wire", from the table of types on: what each attribute must be.
 use Prim.Native.Nat.{ℕ, zero, suc, _+_}
-use mathlib.Core.Path.{_≡_}
 use mathlib.Core.List.{List, [], _∷_}
 use mathlib.Core.Bool.{Bool, true, cond, _&&_}
-use lib.ListN.{length, getD, drop}
+use lib.ListN.{length, getD}
 use lib.Dec.{eqb, leb}
 use Rattle.netlink.specs.declared.policy.Rule.{Rule}
 use Rattle.netlink.specs.declared.policy.Rule.the-variants.{Unlisted, Nest, Number, Flag, Name, Bytes}
-use Rattle.netlink.specs.declared.policy.Fault.{Fault}
-use Rattle.netlink.specs.declared.policy.Fault.the-variants.{Length, Unknown, Payload}
+use Rattle.netlink.specs.declared.policy.Fault.the-variants.{Unknown, Payload}
 use Rattle.netlink.specs.declared.policy.Verdict.{Verdict}
 use Rattle.netlink.specs.declared.policy.Verdict.the-variants.{Right, Wrong}
-
--- the number of a fault in document 01's table
-abbrev pub numberOf : Fault → ℕ
-numberOf Length = 10
-numberOf Unknown = 11
-numberOf Payload = 12
 
 -- the rule for a type under a policy; what is past the policy's end is not listed
 unfoldable pub ruleOf : List Rule → ℕ → Rule
@@ -28,19 +20,11 @@ nulAt [] = 0
 nulAt (zero ∷ s) = 0
 nulAt (suc b ∷ s) = suc (nulAt s)
 
--- no byte before i is NUL: the first NUL of the whole is the first from i on
-abbrev pub NulFrom : List ℕ → ℕ → Type 0
-NulFrom s i = nulAt s ≡ i + nulAt (drop i s)
-
--- whether the byte j places past another is NUL
-unfoldable pub isNul : List ℕ → ℕ → ℕ → Bool
-isNul s at j = eqb (getD s (at + j) 0) 0
-
 -- a name: the last byte is NUL and no other, and there are at most max bytes
 unfoldable pub isNamePayload : ℕ → List ℕ → Bool
 isNamePayload max s = eqb (nulAt s + 1) (length s) && leb (length s) max
 
--- right, or the fault of number 12
+-- right, or the fault of the payload
 abbrev pub rightIf : Bool → Verdict
 rightIf fits = cond fits Right (Wrong Payload)
 
@@ -52,7 +36,7 @@ plain bits fits = rightIf (eqb bits 0 && fits)
 unfoldable pub nested : ℕ → Verdict
 nested bits = rightIf (eqb bits 2)
 
--- whether an attribute's bits and payload are as the rule for its type wants them: 11 before 12
+-- whether an attribute's bits and payload are as the rule for its type wants them; a type that is not listed is told before all else
 unfoldable pub judged : Rule → ℕ → List ℕ → Verdict
 judged Unlisted bits payload = Wrong Unknown
 judged Nest bits payload = nested bits

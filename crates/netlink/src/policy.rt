@@ -3,7 +3,8 @@ ghost use mathlib.Core.Path.{_≡_};
 ghost use Prim.Native.Nat.{_+_, _≤_};
 ghost use lib.ListN.{length};
 ghost use Rattle.basics.specs.Scan.{any};
-ghost use Rattle.netlink.specs.Policy.{nulAt, NulFrom, isNul, isNamePayload, plain, nested, ruleOf, judged, numberOf};
+ghost use Rattle.netlink.specs.Policy.{nulAt, isNamePayload, plain, nested, ruleOf, judged};
+ghost use Rattle.netlink.specs.NulSearch.{NulFrom, isNul};
 
 // The rule for the payload of a type: a nest must carry the nest bit, the others no bit.
 pub enum Rule {
@@ -29,19 +30,6 @@ pub enum Fault {
 pub enum Verdict {
     Right,
     Wrong(Fault),
-}
-
-impl Fault {
-    // Document 01's number.
-    pub fn number(self) -> u32
-        ensures { λ r. ⌜ r ≡ numberOf self ⌝ }
-    {
-        match self {
-            Fault::Length => 10,
-            Fault::Unknown => 11,
-            Fault::Payload => 12,
-        }
-    }
 }
 
 // Whether one of the n bytes from `at` on is NUL. No early exit: where n is known, all are compared at once.

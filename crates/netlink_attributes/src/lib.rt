@@ -55,9 +55,9 @@ pub fn read_attribute(s: &[u8], at: usize) -> AttributeRead
     if s.len() - at < stated {
         return AttributeRead::Broken;
     }
-    let step = Stated(header.length as u32).step();
+    let step = Stated::of(header.length as u32).step();
     let start = at + AttributeHeader::SIZE;
-    let next = capped(at + step.0, s.len());
+    let next = capped(at + step.bytes(), s.len());
     AttributeRead::Attribute(headed(header, start, at + stated, next))
 }
 

@@ -43,10 +43,10 @@ pub fn read_message(s: &[u8], at: usize) -> MessageRead
     if s.len() - at < stated {
         return MessageRead::Misstated;
     }
-    let step = Stated(header.length).step();
+    let step = Stated::of(header.length).step();
     MessageRead::Message {
         header,
         end: at + stated,
-        next: capped(at + step.0, s.len()),
+        next: capped(at + step.bytes(), s.len()),
     }
 }

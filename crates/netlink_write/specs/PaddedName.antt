@@ -1,10 +1,11 @@
--- Document 01, "Sizes on the wire": a name as it stands behind its attribute's header, with its NUL and the padding.
+-- No promise rests on this file: a name behind its attribute's header, with its NUL and the padding, as it is written word by word.
 use Prim.Native.Nat.{ℕ, _-_, _%_, _≤_}
 use mathlib.Core.Path.{_≡_}
 use mathlib.Core.List.{List, _++_}
 use lib.ListN.{length, take, replicate}
 use Rattle.basics.specs.Put.{put}
-use Rattle.netlink.specs.Policy.{nulAt, NulFrom}
+use Rattle.netlink.specs.Policy.{nulAt}
+use Rattle.netlink.specs.NulSearch.{NulFrom}
 
 -- the first k bytes, and NULs up to four
 unfoldable pub paddedWord : ℕ → List ℕ → List ℕ

@@ -1,19 +1,18 @@
 // Attributes and nests. All padding is written, as 0, and counted.
 ghost use mathlib.Core.Path.{_≡_};
-ghost use Prim.Native.Nat.{_+_, _≤_, _<_};
+ghost use Prim.Native.Nat.{_+_, _%_, _≤_, _<_};
 ghost use mathlib.Core.List.{[]};
-ghost use lib.Dec.{eqb};
-ghost use lib.ListN.{length, take};
+ghost use lib.ListN.{length};
 ghost use Rattle.basics.specs.Numbers.{le32};
 ghost use Rattle.basics.specs.Put.{put};
-ghost use Rattle.netlink.specs.Policy.{nulAt};
 ghost use Rattle.page.specs.Page.{Wrote};
 ghost use Rattle.netlink_write.specs.Headers.{attributeHeaderBytes};
-ghost use Rattle.netlink_write.specs.Attributes.{attr, filled, nameBytes, identity, numbered};
+ghost use Rattle.netlink_write.specs.Attributes.{attr, nameBytes};
 use crate::headers::put_attribute_header;
 use crate::padded_name::put_padded_name;
 use netlink_headers::headers::AttributeHeader;
 use netlink_headers::lengths::Stated;
+use netlink_headers::lengths::Step;
 use page::bytes::put_filled;
 use page::put_low;
 
@@ -27,7 +26,16 @@ pub fn put_attribute(page: &mut [u8], kind: u16, payload: &[u8]) -> usize
     ensures { λ r. ⌜ r ≤ length (now (payload .entry)) + 7 ⌝ }
 {
     let n = payload.len();
-    put_stated(page, kind, payload, n, n + AttributeHeader::SIZE)
+    let stated = n + AttributeHeader::SIZE;
+    let next = Stated::of(stated as u32).step().bytes();
+    put_filled(
+        &mut page[AttributeHeader::SIZE..],
+        payload,
+        n,
+        next - AttributeHeader::SIZE,
+    );
+    put_attribute_header(page, stated as u16, kind);
+    next
 }
 
 // A name: its bytes before the first NUL, and one NUL.
@@ -40,26 +48,8 @@ pub fn put_name(page: &mut [u8], kind: u16, name: &[u8]) -> usize
     // four bytes of header, and the NUL
     let stated = n + 5;
     put_attribute_header(page, stated as u16, kind);
-    let step = Stated(stated as u32).step();
-    step.0
-}
-
-// An attribute of a stated length: the first k bytes, then zeros up to the step.
-fn put_stated(page: &mut [u8], kind: u16, bytes: &[u8], k: usize, stated: usize) -> usize
-    requires { ⌜ (k ≤ length (now bytes)) × (k + 4 ≤ stated) × (stated ≤ 65535) × (stated + 3 ≤ length (now page)) ⌝ }
-    ensures { λ r. ⌜ Wrote (filled kind stated (take k (now (bytes .entry)))) (now (page .entry)) (now (page .exit)) r ⌝ }
-    ensures { λ r. ⌜ r ≤ stated + 3 ⌝ }
-{
-    let step = Stated(stated as u32).step();
-    let next = step.0;
-    put_filled(
-        &mut page[AttributeHeader::SIZE..],
-        bytes,
-        k,
-        next - AttributeHeader::SIZE,
-    );
-    put_attribute_header(page, stated as u16, kind);
-    next
+    let step = Stated::of(stated as u32).step();
+    step.bytes()
 }
 
 // A flag: no payload.
@@ -68,7 +58,7 @@ pub fn put_flag(page: &mut [u8], kind: u16) -> usize
     ensures { λ r. ⌜ Wrote (attr kind []) (now (page .entry)) (now (page .exit)) r ⌝ }
     ensures { λ r. ⌜ r ≡ 4 ⌝ }
 {
-    close_attribute(page, kind, 0)
+    close_attribute(page, kind, 0).bytes()
 }
 
 // A number of 32 bits.
@@ -87,59 +77,25 @@ pub fn put_low_number(page: &mut [u8], kind: u16, x: usize) -> usize
     ensures { λ r. ⌜ r ≡ 8 ⌝ }
 {
     put_low(&mut page[AttributeHeader::SIZE..], x);
-    close_attribute(page, kind, 4)
+    close_attribute(page, kind, 4).bytes()
 }
 
 // The header of an attribute whose payload, a multiple of 4 bytes, already stands behind it.
-pub fn close_attribute(page: &mut [u8], kind: u16, payload: usize) -> usize
-    requires { ⌜ (payload ≤ 65531) × (4 ≤ length (now page)) ⌝ }
-    ensures { λ r. ⌜ r ≡ payload + 4 ⌝ }
+pub fn close_attribute(page: &mut [u8], kind: u16, payload: usize) -> Step
+    requires { ⌜ (payload ≤ 65531) × (payload % 4 ≡ 0) × (4 ≤ length (now page)) ⌝ }
+    ensures { λ r. ⌜ r .0 ≡ payload + 4 ⌝ }
     ensures { λ _. ⌜ now (page .exit) ≡ put (now (page .entry)) (attributeHeaderBytes (payload + 4) kind) ⌝ }
 {
     let stated = payload + AttributeHeader::SIZE;
     put_attribute_header(page, stated as u16, kind);
-    stated
+    Stated::of(stated as u32).step()
 }
 
 // The header of a nest whose contents, all their padding counted, already stand behind it.
-pub fn close_nest(page: &mut [u8], kind: u16, contents: usize) -> usize
-    requires { ⌜ (kind < 16384) × (contents ≤ 65531) × (4 ≤ length (now page)) ⌝ }
-    ensures { λ r. ⌜ r ≡ contents + 4 ⌝ }
+pub fn close_nest(page: &mut [u8], kind: u16, contents: usize) -> Step
+    requires { ⌜ (kind < 16384) × (contents ≤ 65531) × (contents % 4 ≡ 0) × (4 ≤ length (now page)) ⌝ }
+    ensures { λ r. ⌜ r .0 ≡ contents + 4 ⌝ }
     ensures { λ _. ⌜ now (page .exit) ≡ put (now (page .entry)) (attributeHeaderBytes (contents + 4) (kind + 32768)) ⌝ }
 {
     close_attribute(page, kind + NEST, contents)
-}
-
-// A nest that identifies a thing by its number and, where it has one, its name.
-pub fn put_numbered(page: &mut [u8], kind: u16, number: u32, name: &[u8]) -> usize
-    requires { ⌜ (kind < 16384) × (length (now name) ≤ 256) × (length (now name) + 20 ≤ length (now page)) ⌝ }
-    ensures { λ r. ⌜ Wrote (numbered kind number (now (name .entry))) (now (page .entry)) (now (page .exit)) r ⌝ }
-    ensures { λ r. ⌜ r ≤ length (now (name .entry)) + 20 ⌝ }
-{
-    let contents = put_identity(&mut page[AttributeHeader::SIZE..], number, name);
-    close_nest(page, kind, contents)
-}
-
-// What that nest holds.
-fn put_identity(page: &mut [u8], number: u32, name: &[u8]) -> usize
-    requires { ⌜ (length (now name) ≤ 256) × (length (now name) + 16 ≤ length (now page)) ⌝ }
-    ensures { λ r. ⌜ Wrote (identity number (now (name .entry))) (now (page .entry)) (now (page .exit)) r ⌝ }
-    ensures { λ r. ⌜ r ≤ length (now (name .entry)) + 16 ⌝ }
-{
-    put_number(page, 1, number);
-    if is_unnamed(name) {
-        return 8;
-    }
-    let m = put_name(&mut page[8..], 2, name);
-    m + 8
-}
-
-// Whether no byte stands before the first NUL.
-fn is_unnamed(name: &[u8]) -> bool
-    ensures { λ r. ⌜ r ≡ eqb (nulAt (now (name .entry))) 0 ⌝ }
-{
-    if name.len() == 0 {
-        return true;
-    }
-    name[0] == 0
 }

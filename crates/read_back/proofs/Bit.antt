@@ -16,13 +16,14 @@ use Rattle.netlink.specs.Policy.{nulAt, ruleOf, plain, judged}
 use Rattle.netlink.specs.Walk.{found, absent, firstFault, lastOfType, walked, slotNumber}
 use Rattle.netlink.specs.declared.walk.Slot.{Slot}
 use Rattle.netlink.specs.declared.walk.Stop.the-variants.{Whole}
-use Rattle.netlink_write.specs.Attributes.{attr, nameBytes, named, identity}
+use Rattle.netlink_write.specs.Attributes.{attr, nameBytes}
+use Rattle.index_name.specs.IndexName.{nameIfAny, indexAndName}
 use Rattle.netlink_write.proofs.ReadBack.{attributes-end, name-back}
 use Rattle.netlink_write.proofs.attributes.Laws.{length-attr}
 use Rattle.bitset_form.specs.Policies.{bitPolicy}
 use Rattle.bitset_bit.specs.Bit.{bitByIndex, identified, bitPartsReading, bitReading}
 use Rattle.bitset_bit.specs.declared.BitRead.the-variants.{Bit}
-use Rattle.bitset_reply.proofs.list.Lengths.{length-nameBytes}
+use Rattle.netlink_write.proofs.attributes.Laws.{length-nameBytes}
 use Rattle.read_back.proofs.Places.{payload-at, attribute-at, walked-by}
 
 module _ (s front names name : List ℕ) (i at : ℕ) (ea : at ≡ length front) (few : i < 4294967296) (l : i < count names) where
@@ -97,8 +98,8 @@ module _ (s front names name : List ℕ) (i at : ℕ) (ea : at ≡ length front)
         (index-at (attr 2 (nameBytes name)) e ∙ ap (attribute 1 0 (at + 4) (at + 8)) name-at)
         (rw (index-back (attr 2 (nameBytes name)) e, name-is, name-back name 32 short)))
 
-  pub bit-back : nulAt name < 32 → s ≡ front ++ identity i name → bitReading s names at ≡ Bit i false
-  unfolding identity named
+  pub bit-back : nulAt name < 32 → s ≡ front ++ indexAndName i name → bitReading s names at ≡ Bit i false
+  unfolding indexAndName nameIfAny
   bit-back short e = go (eqb (nulAt name) 0) e
     where
       go : (t : Bool) → s ≡ front ++ (attr 1 (le32 i) ++ cond t [] (attr 2 (nameBytes name))) → bitReading s names at ≡ Bit i false

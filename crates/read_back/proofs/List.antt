@@ -14,13 +14,14 @@ use Rattle.netlink_attributes.specs.Attributes.{attributes, partOf}
 use Rattle.netlink.specs.Policy.{nulAt, ruleOf, nested, judged}
 use Rattle.netlink.specs.Walk.{firstFault}
 use Rattle.netlink.specs.declared.walk.Stop.the-variants.{Whole}
-use Rattle.netlink_write.specs.Attributes.{identity, numbered}
+use Rattle.index_name.specs.IndexName.{indexAndName, indexNest}
 use Rattle.netlink_write.proofs.ReadBack.{attributes-end}
 use Rattle.bitset_form.specs.Policies.{bitsPolicy}
 use Rattle.bitset_list.specs.BitList.{bitsReading}
 use Rattle.bitset_list.specs.BitList.ListReading.{listEntries}
 use Rattle.bitset_reply.specs.List.{bitIn, bitsBytes}
-use Rattle.bitset_reply.proofs.list.Lengths.{identity-whole, identity-most, Short}
+use Rattle.index_name.proofs.Laws.{index-name-whole, index-name-most}
+use Rattle.bitset_reply.proofs.list.Lengths.{Short}
 use Rattle.read_back.proofs.Places.{upTo, nest-at, contents-at, cut-at}
 use Rattle.read_back.proofs.Bit.{bit-back}
 
@@ -95,14 +96,14 @@ module _ (names : List ℕ) (listed : ℕ → Bool) where
     Read : ℕ → List Listed → Type 0
     Read at es = (firstFault bitsPolicy s (attributes s at) ≡ Whole) × (bitsReading s names (attributes s at) ≡ listEntries es)
 
-    read-one : (pre rest : List ℕ) (es : List Listed) (k at : ℕ) → s ≡ pre ++ (numbered 1 k (entryAt names k) ++ rest) → at ≡ length pre → k < count names
-        → nulAt (entryAt names k) < 32 → Read (at + length (numbered 1 k (entryAt names k))) es → Read at (record { bit = k; on = false } ∷ es)
-    unfolding Read numbered firstFault judged ruleOf nested bitsReading
+    read-one : (pre rest : List ℕ) (es : List Listed) (k at : ℕ) → s ≡ pre ++ (indexNest 1 k (entryAt names k) ++ rest) → at ≡ length pre → k < count names
+        → nulAt (entryAt names k) < 32 → Read (at + length (indexNest 1 k (entryAt names k))) es → Read at (record { bit = k; on = false } ∷ es)
+    unfolding Read indexNest firstFault judged ruleOf nested bitsReading
     read-one pre rest es k at e ea l short r =
-        let c = identity k (entryAt names k) in
-        let most = identity-most k (entryAt names k) in
+        let c = indexAndName k (entryAt names k) in
+        let most = index-name-most k (entryAt names k) in
         let z = at + 4 + length c in
-        let here = nest-at s pre rest c 1 at e ea (at + 4) z _ (omega arith) (omega arith) (identity-whole k (entryAt names k)) refl refl refl in
+        let here = nest-at s pre rest c 1 at e ea (at + 4) z _ (omega arith) (omega arith) (index-name-whole k (entryAt names k)) refl refl refl in
         let says = bit-back (partOf s 0 z) (upTo pre 1 c) names (entryAt names k) k (at + 4) (contents-at s pre rest c 1 at e ea (at + 4) refl) (omega arith) l short
         (cut-at s pre rest c 1 at e ea z refl) in (
           ap (firstFault bitsPolicy s) here ∙ r .0,
@@ -118,11 +119,11 @@ module _ (names : List ℕ) (listed : ℕ → Bool) where
     read-from (suc m) k pre at e ea l h =
         go (listed k) e (λ front x q p. read-from m (suc k) front x q p (omega arith) (λ i u. h i (omega arith)))
       where
-        go : (t : Bool) → s ≡ pre ++ (cond t (numbered 1 k (entryAt names k)) [] ++ bitsFrom (suc k) m)
+        go : (t : Bool) → s ≡ pre ++ (cond t (indexNest 1 k (entryAt names k)) [] ++ bitsFrom (suc k) m)
             → ((front : List ℕ) (x : ℕ) → s ≡ front ++ bitsFrom (suc k) m → x ≡ length front → Read x (listedFrom listed (suc k) m))
             → Read at (cond t (record { bit = k; on = false } ∷ listedFrom listed (suc k) m) (listedFrom listed (suc k) m))
         go true q rest =
-            let one = numbered 1 k (entryAt names k) in
+            let one = indexNest 1 k (entryAt names k) in
             read-one pre (bitsFrom (suc k) m) (listedFrom listed (suc k) m) k at q ea (omega arith) (h k (omega arith))
             (rest (pre ++ one) (at + length one) (q ∙ sym (append-assoc pre one (bitsFrom (suc k) m))) (omega (arith, length-append pre one)))
         go false q rest = rest pre at q ea

@@ -14,7 +14,8 @@ use Rattle.names.proofs.Rules.{right-means}
 use Rattle.netlink_attributes.specs.Attributes.{attributes}
 use Rattle.netlink_attributes.specs.Attributes.Attributes.{done, attribute}
 use Rattle.netlink.specs.Policy.{nulAt}
-use Rattle.netlink_write.specs.Attributes.{nest, identity, numbered}
+use Rattle.netlink_write.specs.Attributes.{nest}
+use Rattle.index_name.specs.IndexName.{indexAndName, indexNest}
 use Rattle.netlink_write.proofs.ReadBack.{attributes-end}
 use Rattle.netlink_write.proofs.attributes.Laws.{length-nest}
 use Rattle.bitset_reply.specs.Set.{contentsBytes, setBytes}
@@ -22,7 +23,8 @@ use Rattle.reply.specs.Message.{headersBytes, attributesBytes, replyBytes}
 use Rattle.read_back.specs.Claims.{ReadsBack}
 use Rattle.reply.specs.declared.message.Heading.{Heading}
 use Rattle.read_back.proofs.Places.{part-all, upTo, nest-at, contents-at, cut-at}
-use Rattle.bitset_reply.proofs.list.Lengths.{Short, right-short, identity-whole, identity-most, length-numbered}
+use Rattle.index_name.proofs.Laws.{index-name-whole, index-name-most, length-index-nest}
+use Rattle.bitset_reply.proofs.list.Lengths.{Short, right-short}
 use Rattle.bitset_reply.proofs.set.Lengths.{contents-whole, contents-most}
 use Rattle.read_back.proofs.Set.{set-back}
 use Rattle.reply.proofs.message.Laws.{length-headers}
@@ -43,47 +45,47 @@ module _ (h : Heading) (index : ℕ) (name : List ℕ) (compact : Bool) (names w
   unfolding headers
   long = length-headers h (length (attributesBytes index name compact names words n) + 20)
 
-  port-in : reply ≡ headers ++ (numbered 1 index name ++ nest 2 contents)
+  port-in : reply ≡ headers ++ (indexNest 1 index name ++ nest 2 contents)
   unfolding reply headers contents replyBytes attributesBytes setBytes
   port-in = refl
 
-  set-in : reply ≡ (headers ++ numbered 1 index name) ++ (nest 2 contents ++ [])
+  set-in : reply ≡ (headers ++ indexNest 1 index name) ++ (nest 2 contents ++ [])
   set-in =
-      port-in ∙ sym (append-assoc headers (numbered 1 index name) (nest 2 contents))
-      ∙ ap (λ (l : List ℕ). (headers ++ numbered 1 index name) ++ l) (sym (append-nil (nest 2 contents)))
+      port-in ∙ sym (append-assoc headers (indexNest 1 index name) (nest 2 contents))
+      ∙ ap (λ (l : List ℕ). (headers ++ indexNest 1 index name) ++ l) (sym (append-nil (nest 2 contents)))
 
-  set-at : 20 + length (numbered 1 index name) ≡ length (headers ++ numbered 1 index name)
-  set-at = omega (arith, long, length-append headers (numbered 1 index name))
+  set-at : 20 + length (indexNest 1 index name) ≡ length (headers ++ indexNest 1 index name)
+  set-at = omega (arith, long, length-append headers (indexNest 1 index name))
 
-  total : length reply ≡ length contents + length (numbered 1 index name) + 24
+  total : length reply ≡ length contents + length (indexNest 1 index name) + 24
   unfolding reply contents
   total = length-parts h index name compact names words n
 
   -- its attributes: the port's nest, then the set's, which ends the message
   pub reply-attributes : nulAt name < 16 → attributes (replyBytes h index name compact names words n) 20
-      ≡ attribute 1 2 24 (20 + length (numbered 1 index name))
-      (attribute 2 2 (24 + length (numbered 1 index name)) (length (replyBytes h index name compact names words n)) done)
-  unfolding reply contents numbered
+      ≡ attribute 1 2 24 (20 + length (indexNest 1 index name))
+      (attribute 2 2 (24 + length (indexNest 1 index name)) (length (replyBytes h index name compact names words n)) done)
+  unfolding reply contents indexNest
   reply-attributes port =
       let few : n ≤ 512 = rw en at (right-means names right .few) in
       let short : Short names n = rw en at (right-short names right) in
-      let long-port = length-numbered index name 1 in
-      let set = 20 + length (numbered 1 index name) in
-      nest-at reply headers (nest 2 contents) (identity index name) 1 20 port-in (sym long) 24 set set
-      (omega arith) (omega (arith, identity-most index name)) (identity-whole index name) refl (omega arith) refl
+      let long-port = length-index-nest index name 1 in
+      let set = 20 + length (indexNest 1 index name) in
+      nest-at reply headers (nest 2 contents) (indexAndName index name) 1 20 port-in (sym long) 24 set set
+      (omega arith) (omega (arith, index-name-most index name)) (index-name-whole index name) refl (omega arith) refl
       ∙ ap (attribute 1 2 24 set)
-      (nest-at reply (headers ++ numbered 1 index name) [] contents 2 set set-in set-at (24 + length (numbered 1 index name)) (length reply) (length reply)
+      (nest-at reply (headers ++ indexNest 1 index name) [] contents 2 set set-in set-at (24 + length (indexNest 1 index name)) (length reply) (length reply)
       (omega arith) (omega (arith, contents-most names words n compact few ew short)) (contents-whole names words n compact) (omega arith)
       (omega (arith, total)) (omega (arith, total, length-nest 2 contents))
-      ∙ ap (attribute 2 2 (24 + length (numbered 1 index name)) (length reply)) (attributes-end reply (length reply) (omega arith)))
+      ∙ ap (attribute 2 2 (24 + length (indexNest 1 index name)) (length reply)) (attributes-end reply (length reply) (omega arith)))
 
   -- the set
   pub reply-back : Small words → Below n (has words)
-      → ReadsBack (replyBytes h index name compact names words n) (24 + length (numbered 1 index name)) names (has words)
+      → ReadsBack (replyBytes h index name compact names words n) (24 + length (indexNest 1 index name)) names (has words)
   unfolding reply contents
   reply-back small below =
-      let pre = headers ++ numbered 1 index name in
-      let set = 20 + length (numbered 1 index name) in
+      let pre = headers ++ indexNest 1 index name in
+      let set = 20 + length (indexNest 1 index name) in
       let cut = cut-at reply pre [] contents 2 set set-in set-at (length reply) (omega (arith, total)) in
-      let place = contents-at reply pre [] contents 2 set set-in set-at (24 + length (numbered 1 index name)) (omega arith) in
+      let place = contents-at reply pre [] contents 2 set set-in set-at (24 + length (indexNest 1 index name)) (omega arith) in
       rw (sym (part-all reply (length reply) refl) ∙ cut, place) (set-back (upTo pre 2 contents) names words n right en ew small below compact)

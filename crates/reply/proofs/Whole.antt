@@ -6,7 +6,8 @@ use mathlib.Core.List.{List, [], _∷_}
 use Rattle.word_bytes.specs.Bytes.{bytesOf}
 use Rattle.netlink.specs.Policy.{nulAt}
 use Rattle.netlink_write.specs.Headers.{messageHeaderBytes, genericHeaderBytes, attributeHeaderBytes}
-use Rattle.netlink_write.specs.Attributes.{padding, attr, nest, nameBytes, named, identity, numbered}
+use Rattle.netlink_write.specs.Attributes.{padding, attr, nest, nameBytes}
+use Rattle.index_name.specs.IndexName.{nameIfAny, indexAndName, indexNest}
 use Rattle.bitset_reply.specs.Set.{openingBytes, compactBytes, contentsBytes, setBytes}
 use Rattle.reply.specs.Message.{headersBytes, attributesBytes, replyBytes}
 use Rattle.reply.specs.declared.message.Heading.{Heading}
@@ -30,5 +31,5 @@ wholeReply =
 
 -- port 3, N 40, bits 0 and 33, compact; no name of a bit stands in it
 pub whole-reply : (names : List ℕ) → replyBytes heading 3 sw0 true names (1 ∷ 2 ∷ []) 40 ≡ wholeReply
-unfolding replyBytes headersBytes attributesBytes setBytes contentsBytes compactBytes openingBytes numbered identity named nameBytes nest attr padding messageHeaderBytes genericHeaderBytes attributeHeaderBytes nulAt bytesOf
+unfolding replyBytes headersBytes attributesBytes setBytes contentsBytes compactBytes openingBytes indexNest indexAndName nameIfAny nameBytes nest attr padding messageHeaderBytes genericHeaderBytes attributeHeaderBytes nulAt bytesOf
 whole-reply names = refl

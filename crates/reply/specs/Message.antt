@@ -6,7 +6,7 @@ use lib.ListN.{length}
 use Rattle.netlink_headers.specs.declared.headers.MessageHeader.{MessageHeader}
 use Rattle.netlink_headers.specs.declared.headers.GenericHeader.{GenericHeader}
 use Rattle.netlink_write.specs.Headers.{messageHeaderBytes, genericHeaderBytes}
-use Rattle.netlink_write.specs.Attributes.{numbered}
+use Rattle.index_name.specs.IndexName.{indexNest}
 use Rattle.bitset_reply.specs.Set.{setBytes}
 use Rattle.reply.specs.declared.message.Heading.{Heading}
 
@@ -28,7 +28,7 @@ headersBytes h total = messageHeaderBytes (replyMessageHeader h total) ++ generi
 
 -- attributes 1 and 2
 unfoldable pub attributesBytes : ℕ → List ℕ → Bool → List ℕ → List ℕ → ℕ → List ℕ
-attributesBytes index name compact names words n = numbered 1 index name ++ setBytes compact names words n
+attributesBytes index name compact names words n = indexNest 1 index name ++ setBytes compact names words n
 
 -- the reply, whose length counts all of it
 unfoldable pub replyBytes : Heading → ℕ → List ℕ → Bool → List ℕ → List ℕ → ℕ → List ℕ

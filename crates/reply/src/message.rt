@@ -7,9 +7,9 @@ ghost use Rattle.bits.specs.Set.{wordsFor};
 ghost use Rattle.page.specs.Page.{Wrote};
 ghost use Rattle.reply.specs.Message.{headingOf, headersBytes, attributesBytes, replyBytes};
 use bitset_reply::set::put_set;
+use index_name::put_index_nest;
 use netlink_headers::headers::GenericHeader;
 use netlink_headers::headers::MessageHeader;
-use netlink_write::attributes::put_numbered;
 use netlink_write::headers::put_generic_header;
 use netlink_write::headers::put_message_header;
 
@@ -83,7 +83,7 @@ fn put_attributes(
     ensures { λ r. ⌜ Wrote (attributesBytes index (now (name .entry)) compact (now (names .entry)) (now (words .entry)) n) (now (page .entry)) (now (page .exit)) r ⌝ }
     ensures { λ r. ⌜ r ≤ 26680 ⌝ }
 {
-    let port = put_numbered(page, HEADER, index, name);
+    let port = put_index_nest(page, HEADER, index, name);
     let set = put_set(&mut page[port..], compact, names, words, n);
     port + set
 }

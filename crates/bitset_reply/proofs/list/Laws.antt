@@ -16,7 +16,8 @@ use Rattle.entries.specs.Entry.{count, entryAt}
 use Rattle.entries.proofs.Entries.{entry-none, entry-length}
 use Rattle.page.specs.Page.{Wrote}
 use Rattle.netlink_write.specs.Headers.{attributeHeaderBytes}
-use Rattle.netlink_write.specs.Attributes.{nest, numbered}
+use Rattle.netlink_write.specs.Attributes.{nest}
+use Rattle.index_name.specs.IndexName.{indexNest}
 use Rattle.page.proofs.Page.{wrote-then}
 use Rattle.netlink_write.proofs.attributes.Laws.{nest-wrote}
 use Rattle.bitset_reply.specs.List.{bitIn, bitsBytes}
@@ -34,7 +35,7 @@ module _ (names : List ℕ) (listed : ℕ → Bool) (i : ℕ) (b : Bool) (eb : b
   unfolding bitIn
   bit-absent P z = rw (← eb, not-true b z) (record { count = refl; page = sym (put-nil P) })
 
-  pub bit-wrote : (P Q e : List ℕ) (r : ℕ) → not b ≡ false → e ≡ entryAt names i → Wrote (numbered 1 i e) P Q r → Wrote (bitIn names listed i) P Q r
+  pub bit-wrote : (P Q e : List ℕ) (r : ℕ) → not b ≡ false → e ≡ entryAt names i → Wrote (indexNest 1 i e) P Q r → Wrote (bitIn names listed i) P Q r
   unfolding bitIn
   bit-wrote P Q e r z q w = rw (← eb, not-false b z, ← q) w
 

@@ -1,52 +1,20 @@
--- How long a nest of index and name is, and BITS: whole words, and at most 48 bytes for a BIT with a right name.
+-- How long BITS is: whole words, and at most 48 bytes for a BIT with a right name.
 use Prim.Native.Nat.{ℕ, zero, suc, _+_, _*_, _%_, _≤_, _<_}
-use mathlib.Core.Path.{_≡_, refl}
+use mathlib.Core.Path.{_≡_, refl, ap, _∙_}
 use mathlib.Core.Bool.{Bool, true, false, cond}
 use mathlib.Core.List.{List, [], _∷_}
-use lib.ListN.{length, take, getD, length-append}
-use lib.Dec.{eqb}
+use lib.ListN.{length, getD, length-append}
 use native.Mathlib.Omega.{arith}
 use borrow.Author.Tests.{eqb-true}
-use Rattle.basics.specs.Numbers.{le32}
 use Rattle.basics.proofs.Truth.{both-true}
 use Rattle.entries.specs.Entry.{count, entryAt}
 use Rattle.names.specs.Rule.{entryRight, namesRight}
 use Rattle.names.proofs.Rules.{right-means}
-use Rattle.netlink_headers.specs.Lengths.{roundUp4}
 use Rattle.netlink.specs.Policy.{nulAt}
-use Rattle.netlink_write.specs.Attributes.{attr, nameBytes, named, identity, numbered}
-use Rattle.netlink_write.proofs.attributes.Laws.{length-attr, length-nest, length-name}
+use Rattle.page.specs.Page.{Wrote}
+use Rattle.index_name.specs.IndexName.{indexNest}
+use Rattle.index_name.proofs.Laws.{index-name-whole, index-name-most, length-index-nest}
 use Rattle.bitset_reply.specs.List.{bitIn, bitsBytes}
-
-pub length-nameBytes : (name : List ℕ) → length (nameBytes name) ≡ nulAt name + 1
-unfolding nameBytes
-length-nameBytes name = omega (arith, length-append (take (nulAt name) name) (0 ∷ []), length-name name (nulAt name) refl)
-
--- a nest of index and name
-module _ (number : ℕ) (name : List ℕ) where
-  length-named : (length (named name) % 4 ≡ 0) × (length (named name) ≤ roundUp4 (nulAt name + 5))
-  unfolding named
-  length-named = go (eqb (nulAt name) 0)
-    where
-      go : (t : Bool) → (length (cond t [] (attr 2 (nameBytes name))) % 4 ≡ 0) × (length (cond t [] (attr 2 (nameBytes name))) ≤ roundUp4 (nulAt name + 5))
-      go true = (refl, omega arith)
-      go false = let l = length-attr 2 (nameBytes name) in let p = length-nameBytes name in (omega arith, omega arith)
-
-  pub identity-whole : length (identity number name) % 4 ≡ 0
-  unfolding identity
-  identity-whole =
-      let n = length-named in
-      omega (arith, length-append (attr 1 (le32 number)) (named name), length-attr 1 (le32 number))
-
-  pub identity-most : length (identity number name) ≤ roundUp4 (nulAt name + 5) + 8
-  unfolding identity
-  identity-most =
-      let n = length-named in
-      omega (arith, length-append (attr 1 (le32 number)) (named name), length-attr 1 (le32 number))
-
-  pub length-numbered : (kind : ℕ) → length (numbered kind number name) ≡ length (identity number name) + 4
-  unfolding numbered
-  length-numbered kind = length-nest kind (identity number name)
 
 -- each entry below n has a NUL
 abbrev pub Short : List ℕ → ℕ → Type 0
@@ -71,12 +39,12 @@ module _ (names : List ℕ) (listed : ℕ → Bool) where
   unfolding bitIn
   bit-length i = go (listed i)
     where
-      go : (t : Bool) → (length (cond t (numbered 1 i (entryAt names i)) []) % 4 ≡ 0)
-          × (nulAt (entryAt names i) < 32 → length (cond t (numbered 1 i (entryAt names i)) []) ≤ 48)
+      go : (t : Bool) → (length (cond t (indexNest 1 i (entryAt names i)) []) % 4 ≡ 0)
+          × (nulAt (entryAt names i) < 32 → length (cond t (indexNest 1 i (entryAt names i)) []) ≤ 48)
       go true =
-          let l = length-numbered i (entryAt names i) 1 in
-          let m = identity-most i (entryAt names i) in
-          (omega (arith, identity-whole i (entryAt names i)), λ h. omega arith)
+          let l = length-index-nest i (entryAt names i) 1 in
+          let m = index-name-most i (entryAt names i) in
+          (omega (arith, index-name-whole i (entryAt names i)), λ h. omega arith)
       go false = (refl, λ h. omega arith)
 
   pub bits-whole : (n : ℕ) → length (bitsBytes names listed n) % 4 ≡ 0
@@ -84,6 +52,10 @@ module _ (names : List ℕ) (listed : ℕ → Bool) where
   bits-whole zero = refl
   bits-whole (suc n) =
       omega (arith, length-append (bitsBytes names listed n) (bitIn names listed n), bits-whole n, bit-length n .0)
+
+  -- so what was written can be closed as a nest
+  pub bits-close : (P Q : List ℕ) (n k : ℕ) → Wrote (bitsBytes names listed n) P Q k → k % 4 ≡ 0
+  bits-close P Q n k w = ap (λ (x : ℕ). x % 4) (w .count) ∙ bits-whole n
 
   pub bits-most : (n : ℕ) → Short names n → length (bitsBytes names listed n) ≤ n * 48
   unfolding bitsBytes

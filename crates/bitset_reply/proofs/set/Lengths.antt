@@ -1,6 +1,6 @@
 -- How long the contents of a set are: whole words, and at most 24,592 bytes where the names are right.
 use Prim.Native.Nat.{ℕ, _+_, _*_, _%_, _≤_}
-use mathlib.Core.Path.{_≡_}
+use mathlib.Core.Path.{_≡_, ap, _∙_}
 use mathlib.Core.Bool.{Bool, true, false}
 use mathlib.Core.List.{List, []}
 use lib.ListN.{length, length-append}
@@ -9,6 +9,7 @@ use Rattle.basics.specs.Numbers.{le32}
 use Rattle.bits.specs.Set.{has, wordsFor}
 use Rattle.word_bytes.specs.Bytes.{bytesOf}
 use Rattle.word_bytes.proofs.WordBytes.{length-bytesOf}
+use Rattle.page.specs.Page.{Wrote}
 use Rattle.netlink_write.specs.Attributes.{attr, nest}
 use Rattle.netlink_write.proofs.attributes.Laws.{length-attr, length-nest}
 use Rattle.bitset_reply.specs.List.{bitsBytes}
@@ -34,6 +35,10 @@ module _ (names words : List ℕ) (n : ℕ) where
   unfolding contentsBytes
   contents-whole true = omega (arith, length-compact)
   contents-whole false = omega (arith, length-verbose, bits-whole names (has words) n)
+
+  -- so what was written can be closed as a nest
+  pub contents-close : (P Q : List ℕ) (k : ℕ) (compact : Bool) → Wrote (contentsBytes compact names words n) P Q k → k % 4 ≡ 0
+  contents-close P Q k compact w = ap (λ (x : ℕ). x % 4) (w .count) ∙ contents-whole compact
 
   pub contents-most : (compact : Bool) → n ≤ 512 → length words ≡ wordsFor n → Short names n → length (contentsBytes compact names words n) ≤ 24592
   unfolding contentsBytes

@@ -18,20 +18,17 @@ part-put-generic-header-end c = search needs
 put-generic-header-requires : tie.Need-put-generic-header-requires
 put-generic-header-requires c κs = search needs
 
-sub-put-numbered : tie.Need-sub-put-numbered
-sub-put-numbered c = search needs
+sub-put-number-nest : tie.Need-sub-put-number-nest
+sub-put-number-nest c = search needs
 
-part-put-numbered-start : tie.Need-part-put-numbered-start
-part-put-numbered-start c = search needs
+part-put-number-nest-start : tie.Need-part-put-number-nest-start
+part-put-number-nest-start c = search needs
 
-part-put-numbered-end : tie.Need-part-put-numbered-end
-part-put-numbered-end c = search needs
+part-put-number-nest-end : tie.Need-part-put-number-nest-end
+part-put-number-nest-end c = search needs
 
-slice-aggregate-put-numbered : tie.Need-slice-aggregate-put-numbered
-slice-aggregate-put-numbered c = search needs
-
-put-numbered-requires : tie.Need-put-numbered-requires
-put-numbered-requires c κs = search needs
+put-number-nest-requires : tie.Need-put-number-nest-requires
+put-number-nest-requires c κs = search needs
 
 add-result : tie.Need-add-result
 add-result c = search needs
@@ -51,11 +48,10 @@ put-number-reply-spec =
     part-put-generic-header-start
     part-put-generic-header-end
     put-generic-header-requires
-    sub-put-numbered
-    part-put-numbered-start
-    part-put-numbered-end
-    slice-aggregate-put-numbered
-    put-numbered-requires
+    sub-put-number-nest
+    part-put-number-nest-start
+    part-put-number-nest-end
+    put-number-nest-requires
     add-result
     same-length
     returns)

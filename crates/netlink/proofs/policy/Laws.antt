@@ -11,7 +11,8 @@ use native.Mathlib.Omega.{arith}
 use borrow.Author.Tests.{eq-eqb, ne-eqb, eqb-false}
 use Rattle.basics.specs.Scan.{any}
 use Rattle.basics.proofs.Scan.{any-not}
-use Rattle.netlink.specs.Policy.{ruleOf, nulAt, NulFrom, isNul, isNamePayload, plain, nested, judged}
+use Rattle.netlink.specs.Policy.{ruleOf, nulAt, isNamePayload, plain, nested, judged}
+use Rattle.netlink.specs.NulSearch.{NulFrom, isNul}
 use Rattle.netlink.specs.declared.policy.Rule.{Rule}
 use Rattle.netlink.specs.declared.policy.Rule.the-variants.{Unlisted, Nest, Number, Flag, Name, Bytes}
 use Rattle.netlink.specs.declared.policy.Fault.the-variants.{Unknown, Payload}

@@ -30,14 +30,20 @@ sub-if3 c = search needs
 returns-4 : tie.Need-returns-4
 returns-4 c = search (needs, read-laws)
 
-cast-t12 : tie.Need-cast-t12
-cast-t12 c = search needs
+cast-of : tie.Need-cast-of
+cast-of c = search needs
+
+of-requires : tie.Need-of-requires
+of-requires c κs = search needs
 
 step-requires : tie.Need-step-requires
 step-requires c κs = search needs
 
 add-start : tie.Need-add-start
 add-start c = search needs
+
+bytes-requires : tie.Need-bytes-requires
+bytes-requires c κs = search needs
 
 add-capped : tie.Need-add-capped
 add-capped c = search needs
@@ -67,9 +73,11 @@ read-attribute-spec =
     returns-3
     sub-if3
     returns-4
-    cast-t12
+    cast-of
+    of-requires
     step-requires
     add-start
+    bytes-requires
     add-capped
     capped-requires
     add-headed

@@ -1,13 +1,10 @@
 -- Laws of attributes and nests: their lengths, and one for the return of each writer.
 use Prim.Native.Nat.{ℕ, zero, suc, _+_, _-_, _%_, _≤_}
 use mathlib.Core.Path.{_≡_, refl, sym, ap, _∙_}
-use mathlib.Core.Bool.{Bool, true, false}
 use mathlib.Core.List.{List, [], _∷_, _++_, append-assoc, append-nil}
 use native.Mathlib.Omega.{arith}
 use borrow.Rule.Slice.PartMut.{putMid}
-use borrow.Author.Tests.{ne-eqb}
-use lib.Dec.{eqb}
-use lib.ListN.{length, take, drop, getD, replicate, length-append, length-replicate}
+use lib.ListN.{length, take, drop, replicate, length-append, length-replicate}
 use lib.Seq.{length-take-le, take-all}
 use Rattle.basics.specs.Numbers.{le32}
 use Rattle.netlink_headers.specs.Lengths.{roundUp4}
@@ -15,9 +12,8 @@ use Rattle.netlink.specs.Policy.{nulAt}
 use Rattle.basics.specs.Put.{put}
 use Rattle.page.specs.Page.{Wrote}
 use Rattle.netlink_write.specs.Headers.{attributeHeaderBytes}
-use Rattle.netlink_write.specs.Attributes.{padding, attr, filled, nest, nameBytes, named, identity, numbered}
+use Rattle.netlink_write.specs.Attributes.{padding, attr, nest, nameBytes}
 use Rattle.netlink_write.specs.PaddedName.{paddedName}
-use Rattle.basics.proofs.Put.{then-rest}
 use Rattle.page.proofs.Page.{then-front, then-sized}
 use Rattle.netlink_write.proofs.headers.Laws.{length-attribute-header}
 
@@ -72,51 +68,25 @@ flag-wrote P Q kind r e q =
       page = q ∙ ap (put P) (sym (attr-whole kind [] refl ∙ append-nil (attributeHeaderBytes 4 kind)));
     }
 
--- an attribute of a stated length
-pub filled-wrote : (P payload B C : List ℕ) (kind stated next : ℕ) → stated + 3 ≤ length P → length payload + 4 ≤ stated → next ≡ roundUp4 stated
+-- a payload past the header's four bytes, and zeros up to the step, then the header
+padded-wrote : (P B C payload : List ℕ) (kind next : ℕ) → length payload + 7 ≤ length P → next ≡ roundUp4 (length payload + 4)
     → B ≡ put (take (length P - 4) (drop 4 P)) (payload ++ replicate (next - 4 - length payload) 0)
-    → C ≡ put (putMid 4 (length P - 4) P B) (attributeHeaderBytes stated kind) → Wrote (filled kind stated payload) P C next
-unfolding filled
-filled-wrote P payload B C kind stated next room fits en b c =
-    let zs : List ℕ = replicate (roundUp4 stated - 4 - length payload) 0 in
-    let head = attributeHeaderBytes stated kind in
+    → C ≡ put (putMid 4 (length P - 4) P B) (attributeHeaderBytes (length payload + 4) kind) → Wrote (attr kind payload) P C next
+unfolding attr padding
+padded-wrote P B C payload kind next room en b c =
+    let stated = length payload + 4 in
+    let pad : next - 4 - length payload ≡ roundUp4 stated - stated = omega arith in
     record {
-      count = simp (length-append, length-attribute-header, length-replicate) (omega arith);
-      page = then-front P head (payload ++ zs) 4 (length-attribute-header stated kind) (omega arith) (rw en at b) c;
+      count = en ∙ sym (length-attr kind payload);
+      page = then-front P (attributeHeaderBytes stated kind) (payload ++ replicate (roundUp4 stated - stated) 0) 4 (length-attribute-header stated kind) (omega arith)
+          (rw pad at b) c;
     }
 
--- so of the first k bytes
-pub filled-cut : (P bytes B C : List ℕ) (kind k stated next : ℕ) → k ≤ length bytes → k + 4 ≤ stated → stated + 3 ≤ length P → next ≡ roundUp4 stated
-    → B ≡ put (take (length P - 4) (drop 4 P)) (take k bytes ++ replicate (next - 4 - k) 0)
-    → C ≡ put (putMid 4 (length P - 4) P B) (attributeHeaderBytes stated kind) → Wrote (filled kind stated (take k bytes)) P C next
-filled-cut P bytes B C kind k stated next h fits room en b c =
-    let long : length (take k bytes) ≡ k = length-take-le k bytes h in
-    let rest : B ≡ put (take (length P - 4) (drop 4 P)) (take k bytes ++ replicate (next - 4 - length (take k bytes)) 0) = rw long b in
-    filled-wrote P (take k bytes) B C kind stated next room (omega arith) en rest c
-
--- it is an attribute where the payload fills it
-filled-attr : (kind stated : ℕ) (payload : List ℕ) → stated ≡ length payload + 4 → filled kind stated payload ≡ attr kind payload
-unfolding filled attr padding
-filled-attr kind stated payload e =
-    let z : roundUp4 stated - 4 - length payload ≡ roundUp4 stated - stated = omega arith in
-    ap (λ (k : ℕ). attributeHeaderBytes stated kind ++ (payload ++ replicate k 0)) z
-    ∙ ap (λ (k : ℕ). attributeHeaderBytes k kind ++ (payload ++ replicate (roundUp4 k - k) 0)) e
-
-pub attribute-filled : (P Q payload : List ℕ) (kind stated r : ℕ) → stated ≡ length payload + 4
-    → Wrote (filled kind stated (take (length payload) payload)) P Q r → Wrote (attr kind payload) P Q r
-attribute-filled P Q payload kind stated r e w =
-    rw (take-all (length payload) payload (omega arith), filled-attr kind stated payload e) at w
-
--- one zero more than the payload: the NUL of a name
-filled-nul : (kind : ℕ) (p : List ℕ) → filled kind (length p + 5) p ≡ attr kind (p ++ (0 ∷ []))
-unfolding filled attr padding
-filled-nul kind p =
-    let z = roundUp4 (length p + 5) - (length p + 5) in
-    let more : roundUp4 (length p + 5) - 4 - length p ≡ suc z = omega arith in
-    let long : length (p ++ (0 ∷ [])) + 4 ≡ length p + 5 = omega (arith, length-append p (0 ∷ [])) in
-    ap (λ (k : ℕ). attributeHeaderBytes (length p + 5) kind ++ (p ++ replicate k 0)) more
-    ∙ ap (λ (l : List ℕ). attributeHeaderBytes (length p + 5) kind ++ l) (sym (append-assoc p (0 ∷ []) (replicate z 0)))
-    ∙ ap (λ (k : ℕ). attributeHeaderBytes k kind ++ ((p ++ (0 ∷ [])) ++ replicate (roundUp4 k - k) 0)) (sym long)
+pub payload-wrote : (P B C payload : List ℕ) (kind next : ℕ) → length payload + 7 ≤ length P → next ≡ roundUp4 (length payload + 4)
+    → B ≡ put (take (length P - 4) (drop 4 P)) (take (length payload) payload ++ replicate (next - 4 - length payload) 0)
+    → C ≡ put (putMid 4 (length P - 4) P B) (attributeHeaderBytes (length payload + 4) kind) → Wrote (attr kind payload) P C next
+payload-wrote P B C payload kind next room en b c =
+    padded-wrote P B C payload kind next room en (rw (take-all (length payload) payload (omega arith)) at b) c
 
 pub nul-le : (s : List ℕ) → nulAt s ≤ length s
 unfolding nulAt
@@ -128,49 +98,22 @@ nul-le (suc b ∷ s) = omega (arith, nul-le s)
 pub length-name : (name : List ℕ) (n : ℕ) → n ≡ nulAt name → length (take n name) ≡ n
 length-name name n e = length-take-le n name (omega (arith, nul-le name))
 
+pub length-nameBytes : (name : List ℕ) → length (nameBytes name) ≡ nulAt name + 1
+unfolding nameBytes
+length-nameBytes name = omega (arith, length-append (take (nulAt name) name) (0 ∷ []), length-name name (nulAt name) refl)
+
+-- a name, its NUL and the padding
+name-padded : (name : List ℕ) (z : ℕ) → 4 - nulAt name % 4 ≡ suc z → paddedName name ≡ nameBytes name ++ replicate z 0
+unfolding paddedName nameBytes
+name-padded name z e =
+    ap (λ (k : ℕ). take (nulAt name) name ++ replicate k 0) e ∙ sym (append-assoc (take (nulAt name) name) (0 ∷ []) (replicate z 0))
+
 pub name-wrote : (P B C name : List ℕ) (kind n next : ℕ) → length name + 8 ≤ length P → n ≡ nulAt name → next ≡ roundUp4 (n + 5)
     → B ≡ put (take (length P - 4) (drop 4 P)) (paddedName name) → C ≡ put (putMid 4 (length P - 4) P B) (attributeHeaderBytes (n + 5) kind)
     → Wrote (attr kind (nameBytes name)) P C next
-unfolding nameBytes paddedName
 name-wrote P B C name kind n next room e en b c =
-    let l = length-name name n e in
-    let pad : 4 - n % 4 ≡ next - 4 - length (take n name) = omega arith in
-    let stated : n + 5 ≡ length (take n name) + 5 = omega arith in
-    let body : B ≡ put (take (length P - 4) (drop 4 P)) (take n name ++ replicate (next - 4 - length (take n name)) 0) = rw (← pad, e) b in
-    rw (← e) (rw (stated, filled-nul kind (take n name)) at (filled-wrote P (take n name) B C kind (n + 5) next (omega (arith, nul-le name)) (omega arith) en body c))
-
--- whether there is one, by its first byte
-pub name-empty : (s : List ℕ) → length s ≡ 0 → true ≡ eqb (nulAt s) 0
-unfolding nulAt
-name-empty [] e = refl
-name-empty (b ∷ s) e = absurd (omega arith)
-
-pub name-first : (s : List ℕ) → eqb (getD s 0 0) 0 ≡ eqb (nulAt s) 0
-unfolding nulAt
-name-first [] = refl
-name-first (zero ∷ s) = refl
-name-first (suc b ∷ s) = ne-eqb (suc b) 0 (λ q. omega arith) ∙ sym (ne-eqb (suc (nulAt s)) 0 (λ q. omega arith))
-
--- what identifies a thing, without a name and with one
-module _ (name : List ℕ) (number : ℕ) (b : Bool) (e : b ≡ eqb (nulAt name) 0) where
-  pub identity-plain : (P Q : List ℕ) (k : ℕ) → b ≡ true → k ≡ 8 → Wrote (attr 1 (le32 number)) P Q k → Wrote (identity number name) P Q 8
-  unfolding identity named
-  identity-plain P Q k t ek w = rw (← e, t, append-nil (attr 1 (le32 number)), ← ek) w
-
-  pub identity-named : (P A B : List ℕ) (k m : ℕ) → b ≡ false → length name + 16 ≤ length P → k ≡ 8 → Wrote (attr 1 (le32 number)) P A k
-      → Wrote (attr 2 (nameBytes name)) (take (length A - 8) (drop 8 A)) B m → Wrote (identity number name) P (putMid 8 (length A - 8) A B) (m + 8)
-  unfolding identity named
-  identity-named P A B k m f room ek a w =
-      let one = attr 1 (le32 number) in
-      let two = attr 2 (nameBytes name) in
-      rw (← e, f)
-      (record {
-        count = omega (arith, a .count, w .count, length-append one two);
-        page = then-rest P one two 8 (sym (a .count) ∙ ek) (omega (arith, a .count)) (a .page) (w .page);
-      })
-
--- the nest of it
-pub numbered-wrote : (P ys zs name : List ℕ) (kind number n r : ℕ) → length name + 20 ≤ length P → Wrote (identity number name) (take (length P - 4) (drop 4 P)) ys n
-    → r ≡ n + 4 → zs ≡ put (putMid 4 (length P - 4) P ys) (attributeHeaderBytes (n + 4) (kind + 32768)) → Wrote (numbered kind number name) P zs r
-unfolding numbered
-numbered-wrote P ys zs name kind number n r room w er q = nest-wrote P ys zs (identity number name) kind n r (omega arith) w er q
+    let long = length-nameBytes name in
+    let z = next - 4 - length (nameBytes name) in
+    let stated : n + 5 ≡ length (nameBytes name) + 4 = omega arith in
+    let pad : 4 - nulAt name % 4 ≡ suc z = omega arith in
+    padded-wrote P B C (nameBytes name) kind next (omega (arith, nul-le name)) (omega arith) (rw (name-padded name z pad) at b) (rw stated at c)

@@ -4,15 +4,13 @@ use mathlib.Core.Path.{_≡_, refl}
 use mathlib.Core.List.{List, _++_}
 use native.Mathlib.Omega.{arith}
 use borrow.Rule.Slice.PartMut.{putMid}
-use lib.ListN.{length, take, drop, length-append}
+use lib.ListN.{length, take, drop}
 use Rattle.basics.specs.Numbers.{le16, le32}
 use Rattle.netlink_headers.specs.declared.headers.MessageHeader.{MessageHeader}
 use Rattle.netlink_headers.specs.declared.headers.GenericHeader.{GenericHeader}
 use Rattle.basics.specs.Put.{put}
-use Rattle.page.specs.Page.{Wrote}
 use Rattle.netlink_write.specs.Headers.{messageHeaderBytes, genericHeaderBytes, attributeHeaderBytes}
 use Rattle.basics.proofs.Put.{then-rest}
-use Rattle.page.proofs.Page.{then-sized}
 
 pub length-message-header : (h : MessageHeader) → length (messageHeaderBytes h) ≡ 16
 unfolding messageHeaderBytes
@@ -48,18 +46,3 @@ unfolding messageHeaderBytes
 message-header-put P A B C h room a b c =
     let half = le16 (h .kind) ++ le16 (h .flags) in
     then-rest P (le32 (h .length) ++ half) (le32 (h .sequence) ++ le32 (h .port)) 8 refl (omega arith) (then-rest P (le32 (h .length)) half 4 refl (omega arith) a b) c
-
--- a message of any kind: what it holds past 16 bytes, then its header with the length of all
-module _ (kind flags sequence port : ℕ) where
-  abbrev pub headerOf : ℕ → MessageHeader
-  headerOf n = record { length = n + 16; kind = kind; flags = flags; sequence = sequence; port = port }
-
-  pub message-wrote : (P ys zs bs : List ℕ) (n : ℕ) → 16 ≤ length P → Wrote bs (take (length P - 16) (drop 16 P)) ys n
-      → zs ≡ put (putMid 16 (length P - 16) P ys) (messageHeaderBytes (headerOf n)) → Wrote (messageHeaderBytes (headerOf (length bs)) ++ bs) P zs (n + 16)
-  message-wrote P ys zs bs n room w q =
-      let h : ℕ → List ℕ = λ k. messageHeaderBytes (headerOf k) in
-      let l = length-message-header (headerOf (length bs)) in
-      record {
-        count = omega (arith, w .count, l, length-append (h (length bs)) bs);
-        page = then-sized P h bs 16 n l room (w .count) (w .page) q;
-      }

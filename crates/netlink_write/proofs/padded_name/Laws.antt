@@ -14,7 +14,8 @@ use Rattle.basics.specs.Put.{put}
 use Rattle.basics.specs.Scan.{any}
 use Rattle.basics.proofs.Numbers.{drop-four, four-bytes}
 use Rattle.basics.proofs.Put.{put-nil, then-rest}
-use Rattle.netlink.specs.Policy.{nulAt, isNul}
+use Rattle.netlink.specs.Policy.{nulAt}
+use Rattle.netlink.specs.NulSearch.{isNul}
 use Rattle.netlink.proofs.policy.Laws.{nul-start, nul-none}
 use Rattle.netlink_write.specs.PaddedName.{paddedWord, paddedName, Copied}
 

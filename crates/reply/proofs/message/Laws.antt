@@ -10,7 +10,7 @@ use Rattle.basics.specs.Put.{put}
 use Rattle.basics.proofs.Put.{then-rest}
 use Rattle.page.specs.Page.{Wrote}
 use Rattle.netlink_write.specs.Headers.{messageHeaderBytes, genericHeaderBytes}
-use Rattle.netlink_write.specs.Attributes.{numbered}
+use Rattle.index_name.specs.IndexName.{indexNest}
 use Rattle.page.proofs.Page.{wrote-then, then-sized}
 use Rattle.netlink_write.proofs.headers.Laws.{length-message-header, length-generic-header}
 use Rattle.bitset_reply.specs.Set.{setBytes}
@@ -29,12 +29,12 @@ unfolding headersBytes
 length-headers h total = simp (length-append, length-message-header, length-generic-header)
 
 module _ (index : ℕ) (name : List ℕ) (compact : Bool) (names words : List ℕ) (n : ℕ) where
-  pub attributes-wrote : (P A B : List ℕ) (p s : ℕ) → length name ≤ 16 → 26680 ≤ length P → p ≤ length name + 20 → Wrote (numbered 1 index name) P A p
+  pub attributes-wrote : (P A B : List ℕ) (p s : ℕ) → length name ≤ 16 → 26680 ≤ length P → p ≤ length name + 20 → Wrote (indexNest 1 index name) P A p
       → Wrote (setBytes compact names words n) (take (length A - p) (drop p A)) B s
       → Wrote (attributesBytes index name compact names words n) P (putMid p (length A - p) A B) (p + s)
   unfolding attributesBytes
   attributes-wrote P A B p s short room most a b =
-      wrote-then P A B (numbered 1 index name) (setBytes compact names words n) p s (omega arith) a b
+      wrote-then P A B (indexNest 1 index name) (setBytes compact names words n) p s (omega arith) a b
 
   pub reply-wrote : (P A B : List ℕ) (h : Heading) (k r : ℕ) → 26700 ≤ length P
       → Wrote (attributesBytes index name compact names words n) (take (length P - 20) (drop 20 P)) A k → r ≡ k + 20

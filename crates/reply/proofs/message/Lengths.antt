@@ -10,12 +10,13 @@ use Rattle.entries.specs.Entry.{count}
 use Rattle.names.specs.Rule.{namesRight}
 use Rattle.names.proofs.Rules.{right-means}
 use Rattle.netlink.specs.Policy.{nulAt}
-use Rattle.netlink_write.specs.Attributes.{numbered}
+use Rattle.index_name.specs.IndexName.{indexNest}
 use Rattle.netlink_write.proofs.attributes.Laws.{length-nest}
 use Rattle.bitset_reply.specs.Set.{contentsBytes, setBytes}
 use Rattle.reply.specs.Message.{headersBytes, attributesBytes, replyBytes}
 use Rattle.reply.specs.declared.message.Heading.{Heading}
-use Rattle.bitset_reply.proofs.list.Lengths.{Short, right-short, identity-whole, identity-most, length-numbered}
+use Rattle.index_name.proofs.Laws.{index-name-whole, index-name-most, length-index-nest}
+use Rattle.bitset_reply.proofs.list.Lengths.{Short, right-short}
 use Rattle.bitset_reply.proofs.set.Lengths.{contents-whole, contents-most}
 use Rattle.reply.proofs.message.Laws.{length-headers}
 
@@ -27,18 +28,18 @@ module _ (h : Heading) (index : ℕ) (name : List ℕ) (compact : Bool) (names w
       let attributes = attributesBytes index name compact names words n in
       omega (arith, length-append (headersBytes h (length attributes + 20)) attributes, length-headers h (length attributes + 20))
 
-  pub length-parts : length (replyBytes h index name compact names words n) ≡ length (contentsBytes compact names words n) + length (numbered 1 index name) + 24
+  pub length-parts : length (replyBytes h index name compact names words n) ≡ length (contentsBytes compact names words n) + length (indexNest 1 index name) + 24
   unfolding attributesBytes setBytes
   length-parts =
-      omega (arith, length-reply, length-append (numbered 1 index name) (setBytes compact names words n), length-nest 2 (contentsBytes compact names words n))
+      omega (arith, length-reply, length-append (indexNest 1 index name) (setBytes compact names words n), length-nest 2 (contentsBytes compact names words n))
 
   pub reply-whole : length (replyBytes h index name compact names words n) % 4 ≡ 0
   reply-whole =
-      omega (arith, length-parts, contents-whole names words n compact, length-numbered index name 1, identity-whole index name)
+      omega (arith, length-parts, contents-whole names words n compact, length-index-nest index name 1, index-name-whole index name)
 
   pub longest : nulAt name < 16 → namesRight names ≡ true → count names ≡ n → length words ≡ wordsFor n
       → length (replyBytes h index name compact names words n) ≤ 24648
   longest port right en ew =
       let short : Short names n = rw en at (right-short names right) in
       let few : n ≤ 512 = rw en at (right-means names right .few) in
-      omega (arith, length-parts, contents-most names words n compact few ew short, length-numbered index name 1, identity-most index name)
+      omega (arith, length-parts, contents-most names words n compact few ew short, length-index-nest index name 1, index-name-most index name)

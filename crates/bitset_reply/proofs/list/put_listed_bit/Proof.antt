@@ -9,14 +9,14 @@ test-bit-requires c κs = search needs
 returns : tie.Need-returns
 returns c = search (needs, bit-laws)
 
-cast-put-numbered : tie.Need-cast-put-numbered
-cast-put-numbered c = search needs
+cast-put-index-nest : tie.Need-cast-put-index-nest
+cast-put-index-nest c = search needs
 
 entry-requires : tie.Need-entry-requires
 entry-requires c κs = search needs
 
-put-numbered-requires : tie.Need-put-numbered-requires
-put-numbered-requires c κs = search (needs, bit-laws)
+put-index-nest-requires : tie.Need-put-index-nest-requires
+put-index-nest-requires c κs = search (needs, bit-laws)
 
 same-length : tie.Need-same-length
 same-length c = search needs
@@ -30,8 +30,8 @@ put-listed-bit-spec =
     (tie.spec
     test-bit-requires
     returns
-    cast-put-numbered
+    cast-put-index-nest
     entry-requires
-    put-numbered-requires
+    put-index-nest-requires
     same-length
     returns-2)

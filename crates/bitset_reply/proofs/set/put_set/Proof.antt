@@ -1,4 +1,6 @@
+use Rattle.netlink_headers.proofs.lengths.Laws.{bytes-of}
 use Rattle.bitset_reply.proofs.set.Laws.{set-wrote}
+use Rattle.bitset_reply.proofs.set.Lengths.{contents-close}
 use borrow.Author.Needs.{needs}
 use Rattle.bitset_reply.proofs.set.put_set.Statement.{statement}
 use Rattle.bitset_reply.proofs.set.put_set.Tie as tie
@@ -16,13 +18,16 @@ put-contents-requires : tie.Need-put-contents-requires
 put-contents-requires c κs = search needs
 
 close-nest-requires : tie.Need-close-nest-requires
-close-nest-requires c κs = search needs
+close-nest-requires c κs = search (needs, contents-close)
+
+bytes-requires : tie.Need-bytes-requires
+bytes-requires c κs = search needs
 
 same-length : tie.Need-same-length
 same-length c = search needs
 
 returns : tie.Need-returns
-returns c = search (needs, set-wrote)
+returns c = search (needs, set-wrote, bytes-of)
 
 pub put-set-spec : {M : Type 1} → statement M
 put-set-spec =
@@ -33,5 +38,6 @@ put-set-spec =
     part-put-contents-end
     put-contents-requires
     close-nest-requires
+    bytes-requires
     same-length
     returns)

@@ -1,3 +1,4 @@
+use Rattle.netlink_headers.proofs.lengths.Laws.{bytes-of}
 use Rattle.bitset_write.proofs.bitmap.Laws.{bitmap-wrote}
 use borrow.Author.Needs.{needs}
 use Rattle.bitset_write.proofs.bitmap.put_bitmap.Statement.{statement}
@@ -21,11 +22,14 @@ mul-close-attribute c = search needs
 close-attribute-requires : tie.Need-close-attribute-requires
 close-attribute-requires c κs = search needs
 
+bytes-requires : tie.Need-bytes-requires
+bytes-requires c κs = search needs
+
 same-length : tie.Need-same-length
 same-length c = search needs
 
 returns : tie.Need-returns
-returns c = search (needs, bitmap-wrote)
+returns c = search (needs, bitmap-wrote, bytes-of)
 
 pub put-bitmap-spec : {M : Type 1} → statement M
 put-bitmap-spec =
@@ -37,5 +41,6 @@ put-bitmap-spec =
     write-words-requires
     mul-close-attribute
     close-attribute-requires
+    bytes-requires
     same-length
     returns)

@@ -2,7 +2,7 @@ use Prim.Native.Nat.{_≤_, _-_}
 use lib.ListN.{length}
 use native.Mathlib.Omega.{arith}
 use borrow.Author.Needs.{needs}
-use Rattle.netlink.specs.Policy.{NulFrom}
+use Rattle.netlink.specs.NulSearch.{NulFrom}
 use Rattle.netlink.proofs.policy.Laws.{nul-laws, nul-more}
 use Rattle.netlink.proofs.policy.nul_at.Statement.{statement}
 use Rattle.netlink.proofs.policy.nul_at.Tie as tie

@@ -3,7 +3,7 @@ use mathlib.Core.Path.{_≡_}
 use native.Mathlib.Omega.{arith}
 use borrow.Author.Needs.{needs}
 use Rattle.basics.specs.Scan.{any}
-use Rattle.netlink.specs.Policy.{isNul}
+use Rattle.netlink.specs.NulSearch.{isNul}
 use Rattle.netlink.proofs.policy.Laws.{some-start, some-more, some-done}
 use Rattle.netlink.proofs.policy.some_nul.Statement.{statement}
 use Rattle.netlink.proofs.policy.some_nul.Tie as tie

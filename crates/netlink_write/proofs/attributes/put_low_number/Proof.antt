@@ -1,3 +1,4 @@
+use Rattle.netlink_headers.proofs.lengths.Laws.{bytes-of}
 use Rattle.netlink_write.proofs.attributes.Laws.{number-wrote}
 use borrow.Author.Needs.{needs}
 use Rattle.netlink_write.proofs.attributes.put_low_number.Statement.{statement}
@@ -18,13 +19,14 @@ put-low-requires c κs = search needs
 close-attribute-requires : tie.Need-close-attribute-requires
 close-attribute-requires c κs = search needs
 
+bytes-requires : tie.Need-bytes-requires
+bytes-requires c κs = search needs
+
 same-length : tie.Need-same-length
 same-length c = search needs
 
 returns : tie.Need-returns
-returns c =
-    let closed = c .before .before .close-attribute .ensures in
-    (number-wrote _ _ _ _ _ _ (c .before .before .before .before .before .before .before .before .before .pre) (c .before .before .before .before .before .before .put-low .ensures) (closed .0) (closed .1), closed .0)
+returns c = search (needs, number-wrote, bytes-of)
 
 pub put-low-number-spec : {M : Type 1} → statement M
 put-low-number-spec =
@@ -35,5 +37,6 @@ put-low-number-spec =
     part-put-low-end
     put-low-requires
     close-attribute-requires
+    bytes-requires
     same-length
     returns)

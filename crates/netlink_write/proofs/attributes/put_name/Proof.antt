@@ -1,4 +1,5 @@
 use native.Mathlib.Omega.{arith}
+use Rattle.netlink_headers.proofs.lengths.Laws.{step-bytes}
 use Rattle.netlink_write.proofs.attributes.Laws.{name-wrote, nul-le}
 use borrow.Author.Needs.{needs}
 use Rattle.netlink_write.proofs.attributes.put_name.Statement.{statement}
@@ -25,21 +26,23 @@ cast-put-attribute-header c = omega (arith, c .before .before .before .put-padde
 put-attribute-header-requires : tie.Need-put-attribute-header-requires
 put-attribute-header-requires c κs = search needs
 
-cast-t15 : tie.Need-cast-t15
-cast-t15 c = omega (arith, c .before .before .before .before .before .before .put-padded-name .ensures .0, nul-le (c .before .before .before .before .before .before .before .before .before .before .args .name .now))
+cast-of : tie.Need-cast-of
+cast-of c = omega (arith, c .before .before .before .before .before .before .put-padded-name .ensures .0, nul-le (c .before .before .before .before .before .before .before .before .before .before .args .name .now))
+
+of-requires : tie.Need-of-requires
+of-requires c κs = search needs
 
 step-requires : tie.Need-step-requires
 step-requires c κs = search needs
+
+bytes-requires : tie.Need-bytes-requires
+bytes-requires c κs = search needs
 
 same-length : tie.Need-same-length
 same-length c = search needs
 
 returns : tie.Need-returns
-returns c =
-    let start = c .before .before .before .before .before .before .before .before .before .before .before in
-    let spelt = c .before .before .before .before .before .before .before .put-padded-name .ensures in
-    let step = c .step .ensures in
-    (name-wrote _ _ _ _ _ _ _ (start .pre .1) (spelt .0) step (spelt .1) (c .before .before .before .put-attribute-header .ensures), omega (arith, spelt .0, step, nul-le (start .args .name .now)))
+returns c = (search (needs, name-wrote, step-bytes), omega (arith, c .before .before .before .before .before .before .before .before .before .put-padded-name .ensures .0, nul-le (c .before .before .before .before .before .before .before .before .before .before .before .before .before .args .name .now)))
 
 pub put-name-spec : {M : Type 1} → statement M
 put-name-spec =
@@ -52,7 +55,9 @@ put-name-spec =
     add-stated
     cast-put-attribute-header
     put-attribute-header-requires
-    cast-t15
+    cast-of
+    of-requires
     step-requires
+    bytes-requires
     same-length
     returns)

@@ -3,8 +3,8 @@ use borrow.Author.Needs.{needs}
 use Rattle.reply.proofs.message.put_attributes.Statement.{statement}
 use Rattle.reply.proofs.message.put_attributes.Tie as tie
 
-put-numbered-requires : tie.Need-put-numbered-requires
-put-numbered-requires c κs = search needs
+put-index-nest-requires : tie.Need-put-index-nest-requires
+put-index-nest-requires c κs = search needs
 
 sub-put-set : tie.Need-sub-put-set
 sub-put-set c = search needs
@@ -31,7 +31,7 @@ pub put-attributes-spec : {M : Type 1} → statement M
 put-attributes-spec =
     tie.close
     (tie.spec
-    put-numbered-requires
+    put-index-nest-requires
     sub-put-set
     part-put-set-start
     part-put-set-end

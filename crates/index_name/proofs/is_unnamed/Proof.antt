@@ -1,7 +1,7 @@
-use Rattle.netlink_write.proofs.attributes.Laws.{name-empty, name-first}
+use Rattle.index_name.proofs.Laws.{name-empty, name-first}
 use borrow.Author.Needs.{needs}
-use Rattle.netlink_write.proofs.attributes.is_unnamed.Statement.{statement}
-use Rattle.netlink_write.proofs.attributes.is_unnamed.Tie as tie
+use Rattle.index_name.proofs.is_unnamed.Statement.{statement}
+use Rattle.index_name.proofs.is_unnamed.Tie as tie
 
 returns : tie.Need-returns
 returns c = name-empty _ (c .if1 .taken)
