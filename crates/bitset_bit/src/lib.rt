@@ -6,6 +6,7 @@ ghost use Rattle.netlink.specs.Walk.{absent, found};
 ghost use Rattle.bitset_form.specs.Policies.{bitPolicy};
 ghost use Rattle.entries.specs.Entry.{count};
 ghost use Rattle.entries.specs.Chain.{IndexedIf};
+use bitset_form::parts::BitParts;
 use netlink::policy::Fault;
 use netlink::policy::Rule;
 use netlink::policy::Verdict;
@@ -37,9 +38,9 @@ pub enum BitRead {
     Refused(Refusal),
 }
 
-// What walking a BIT gives: the slots of its three types, or the first fault.
+// What walking a BIT gives: its parts, or the first fault.
 pub enum BitWalk {
-    Parts { index: Slot, name: Slot, on: Slot },
+    Parts(BitParts),
     Refused(Refusal),
 }
 
@@ -73,7 +74,14 @@ fn bit_by_index(s: &[u8], n: usize, index: Slot) -> IdentityRead
     IdentityRead::Read(Identity::Number(number))
 }
 
-fn bit_by_name(s: &[u8], names: &[u8], indexed: bool, head: &[u16], links: &[u16], name: Slot) -> IdentityRead
+fn bit_by_name(
+    s: &[u8],
+    names: &[u8],
+    indexed: bool,
+    head: &[u16],
+    links: &[u16],
+    name: Slot,
+) -> IdentityRead
     requires { ⌜ IndexedIf indexed (now names) (now head) (now links) ⌝ }
     ensures { λ r. ⌜ r ≡ bitByName (now (s .entry)) (now (names .entry)) name ⌝ }
 {
@@ -97,12 +105,13 @@ fn identify(
     indexed: bool,
     head: &[u16],
     links: &[u16],
-    index: Slot,
-    name: Slot,
+    parts: BitParts,
 ) -> IdentityRead
     requires { ⌜ IndexedIf indexed (now names) (now head) (now links) ⌝ }
-    ensures { λ r. ⌜ r ≡ identified (now (s .entry)) (now (names .entry)) index name ⌝ }
+    ensures { λ r. ⌜ r ≡ identified (now (s .entry)) (now (names .entry)) parts ⌝ }
 {
+    let index = parts.index;
+    let name = parts.name;
     if index.present {
         return bit_by_index(s, names::count(names), index);
     }
@@ -120,19 +129,18 @@ fn judge_bit_parts(
     head: &[u16],
     links: &[u16],
     at: usize,
-    index: Slot,
-    name: Slot,
-    on: Slot,
+    parts: BitParts,
 ) -> BitRead
     requires { ⌜ IndexedIf indexed (now names) (now head) (now links) ⌝ }
-    ensures { λ r. ⌜ r ≡ bitPartsReading (now (s .entry)) (now (names .entry)) at index name on ⌝ }
+    ensures { λ r. ⌜ r ≡ bitPartsReading (now (s .entry)) (now (names .entry)) at parts ⌝ }
 {
-    match identify(s, names, indexed, head, links, index, name) {
+    match identify(s, names, indexed, head, links, parts) {
         IdentityRead::Refused(why) => BitRead::Refused(why),
         IdentityRead::Read(identity) => {
             let Identity::Number(number) = identity else {
                 return BitRead::Refused(Refusal::NoBit(at));
             };
+            let on = parts.on;
             BitRead::Bit {
                 number,
                 on: on.present,
@@ -164,7 +172,7 @@ fn walk_bit(s: &[u8], from: usize) -> BitWalk
     loop {
         match read_attribute(s, at) {
             AttributeRead::End => {
-                return BitWalk::Parts { index, name, on };
+                return BitWalk::Parts(BitParts { index, name, on });
             }
             AttributeRead::Broken => {
                 return BitWalk::Refused(of_fault(Fault::Length, at));
@@ -206,8 +214,8 @@ pub fn judge_bit(
 {
     match walk_bit(s, from) {
         BitWalk::Refused(why) => BitRead::Refused(why),
-        BitWalk::Parts { index, name, on } => {
-            judge_bit_parts(s, names, indexed, head, links, place(from), index, name, on)
+        BitWalk::Parts(parts) => {
+            judge_bit_parts(s, names, indexed, head, links, place(from), parts)
         }
     }
 }

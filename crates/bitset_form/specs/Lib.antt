@@ -1,3 +1,4 @@
 pub mod Policies
+pub mod Parts
 pub mod Form
 pub mod Bitset

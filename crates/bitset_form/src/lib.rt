@@ -6,6 +6,7 @@ ghost use Rattle.bitset_form.specs.Bitset.{refusedAs, underNomask};
 ghost use Rattle.bitset_form.specs.Form.{cutAt, both};
 use refusal::Refusal;
 
+pub mod parts;
 pub mod policies;
 
 // Sixteen words each, lowest first: a set has at most 512 bits.

@@ -7,10 +7,10 @@ use Rattle.bits.specs.Change.{Listed, listMask, listValue}
 use Rattle.netlink_attributes.specs.Attributes.{Attributes, attributes, partOf}
 use Rattle.netlink_attributes.specs.Attributes.Attributes.{done, broken, attribute}
 use Rattle.netlink.specs.Walk.{walked}
-use Rattle.netlink.specs.declared.walk.Slot.{Slot}
 use Rattle.refusal.specs.Refusal.{onStop}
 use Rattle.refusal.specs.declared.Refusal.{Refusal}
 use Rattle.bitset_form.specs.Policies.{bitsPolicy}
+use Rattle.bitset_form.specs.declared.parts.BitsetParts.{BitsetParts}
 use Rattle.bitset_form.specs.Bitset.{Reading, refusedAs}
 use Rattle.bitset_form.specs.Bitset.Bitset.{maskedList, nomaskList}
 use Rattle.bitset_form.specs.Bitset.Reading.{refused, accepted}
@@ -49,7 +49,9 @@ asBitset nomask (listRefused r) = refused r
 asBitset true (listEntries es) = accepted (nomaskList es)
 asBitset false (listEntries es) = accepted (maskedList es)
 
-unfoldable pub listReading : List ℕ → List ℕ → Slot → Slot → Reading
-listReading s names nomask bits =
-    onStop (walked bitsPolicy (partOf s 0 (bits .end)) (bits .start) .stop) refused
-    (asBitset (nomask .present) (bitsReading (partOf s 0 (bits .end)) names (attributes (partOf s 0 (bits .end)) (bits .start))))
+-- the parts of a bitset with BITS
+unfoldable pub listReading : List ℕ → List ℕ → BitsetParts → Reading
+listReading s names parts =
+    onStop (walked bitsPolicy (partOf s 0 (parts .bits .end)) (parts .bits .start) .stop) refused
+    (asBitset (parts .nomask .present)
+    (bitsReading (partOf s 0 (parts .bits .end)) names (attributes (partOf s 0 (parts .bits .end)) (parts .bits .start))))
