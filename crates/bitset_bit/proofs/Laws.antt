@@ -15,7 +15,8 @@ use Rattle.netlink_attributes.specs.Attributes.{Attributes, attributes, attribu
 use Rattle.netlink.specs.Policy.{ruleOf, judged}
 use Rattle.netlink.specs.Walk.{found, absent, onVerdict, firstFault, lastOfType, eachType, walkedTo as walkStop, walked, slotNumber}
 use Rattle.netlink_attributes.specs.declared.AttributeRead.{AttributeRead}
-use Rattle.netlink_attributes.specs.declared.AttributeRead.the-variants.{Attribute, Broken, End}
+use Rattle.netlink_attributes.specs.declared.Attribute.{Attribute}
+use Rattle.netlink_attributes.specs.declared.AttributeRead.the-variants as A
 use Rattle.netlink.specs.declared.policy.Fault.{Fault}
 use Rattle.netlink.specs.declared.policy.Fault.the-variants.{Length, Unknown}
 use Rattle.netlink.specs.declared.policy.Rule.{Rule}
@@ -160,54 +161,67 @@ module _ (s : List ℕ) (from : ℕ) (i n o : Slot) (at : ℕ) (inv : BitFrom s 
   bit-step : bitWalked s from ≡ reading (onRead r at (attributes s))
   bit-step = inv ∙ ap reading (attributes-step s at ∙ ap (λ (x : AttributeRead). onRead x at (attributes s)) (sym e))
 
-  pub bit-end : r ≡ End → W.Parts (record { index = i; name = n; on = o }) ≡ bitWalked s from
+  pub bit-end : r ≡ A.End → W.Parts (record { index = i; name = n; on = o }) ≡ bitWalked s from
   unfolding firstFault lastOfType
   bit-end q = sym (rw q at bit-step)
 
-  pub bit-broken : (y : Refusal) → r ≡ Broken → y ≡ ofFault Length at → W.Refused y ≡ bitWalked s from
+  pub bit-broken : (y : Refusal) → r ≡ A.Broken → y ≡ ofFault Length at → W.Refused y ≡ bitWalked s from
   unfolding firstFault
   bit-broken y q ey = ap W.Refused ey ∙ sym (rw q at bit-step)
 
-  module _ (k b a z next : ℕ) (q : r ≡ Attribute k b a z next) where
-    within : Bounded s at (Attribute k b a z next)
+  module _ (x : Attribute) (q : r ≡ A.Attribute x) where
+    within : Bounded s at (A.Attribute x)
     within = rw (sym e ∙ q) at (bounded s at)
 
-    pub bit-less : length s - next < length s - at
+    pub bit-less : length s - x .next < length s - at
     bit-less = let i = within in omega arith
 
-    module _ (l : List ℕ) (v : Verdict) (el : l ≡ partOf s a z) (ev : v ≡ judged (ruleOf bitPolicy k) b l) where
-      bit-judged : bitWalked s from
-          ≡ onStop (onVerdict v at (firstFault bitPolicy s (attributes s next))) W.Refused
-          (lastParts (attributes s next) (cond (eqb k 1) (found a z) i) (cond (eqb k 2) (found a z) n) (cond (eqb k 3) (found a z) o))
-      unfolding firstFault lastOfType
-      bit-judged = rw q at bit-step ∙ rw (verdict, here)
-        where
-          verdict : judged (ruleOf bitPolicy k) b (partOf s a z) ≡ v
-          verdict = sym (ev ∙ ap (λ (x : List ℕ). judged (ruleOf bitPolicy k) b x) el)
+    module _ (l : List ℕ) (v : Verdict) (el : l ≡ partOf s (x .start) (x .end)) (ev : v ≡ judged (ruleOf bitPolicy (x .kind)) (x .bits) l) where
+      abbrev here : Slot
+      here = found (x .start) (x .end)
 
-          here : a - 4 ≡ at
-          here = let i = within in omega arith
+      bit-judged : bitWalked s from
+          ≡ onStop (onVerdict v at (firstFault bitPolicy s (attributes s (x .next)))) W.Refused
+          (lastParts (attributes s (x .next)) (cond (eqb (x .kind) 1) here i) (cond (eqb (x .kind) 2) here n) (cond (eqb (x .kind) 3) here o))
+      unfolding firstFault lastOfType
+      bit-judged = rw q at bit-step ∙ rw (verdict, place)
+        where
+          verdict : judged (ruleOf bitPolicy (x .kind)) (x .bits) (partOf s (x .start) (x .end)) ≡ v
+          verdict = sym (ev ∙ ap (λ (y : List ℕ). judged (ruleOf bitPolicy (x .kind)) (x .bits) y) el)
+
+          place : x .start - 4 ≡ at
+          place = let i = within in omega arith
+
+      -- by the type
+      bit-kind : (k : ℕ) → x .kind ≡ k → v ≡ Right
+          → bitWalked s from
+          ≡ onStop (firstFault bitPolicy s (attributes s (x .next))) W.Refused
+          (lastParts (attributes s (x .next)) (cond (eqb k 1) here i) (cond (eqb k 2) here n) (cond (eqb k 3) here o))
+      bit-kind k g h =
+          bit-judged
+          ∙ ap (λ (y : Verdict). onStop (onVerdict y at (firstFault bitPolicy s (attributes s (x .next)))) W.Refused (lastParts (attributes s (x .next)) (cond (eqb (x .kind) 1) here i) (cond (eqb (x .kind) 2) here n) (cond (eqb (x .kind) 3) here o))) h
+          ∙ ap (λ (y : ℕ). onStop (firstFault bitPolicy s (attributes s (x .next))) W.Refused (lastParts (attributes s (x .next)) (cond (eqb y 1) here i) (cond (eqb y 2) here n) (cond (eqb y 3) here o))) g
 
       pub bit-wrong : (f : Fault) (y : Refusal) → v ≡ Wrong f → y ≡ ofFault f at → W.Refused y ≡ bitWalked s from
       bit-wrong f y h ey = ap W.Refused ey ∙ sym (rw h at bit-judged)
 
-      module _ (h : v ≡ Right) (x : Slot) (ex : x ≡ found a z) where
-        pub bit-index : k ≡ 1 → BitFrom s from x n o next
-        bit-index g = rw (h, g, ← ex) at bit-judged
+      module _ (h : v ≡ Right) (y : Slot) (ey : y ≡ found (x .start) (x .end)) where
+        pub bit-index : x .kind ≡ 1 → BitFrom s from y n o (x .next)
+        bit-index g = rw ey (bit-kind 1 g h)
 
-        pub bit-name : k ≡ 2 → BitFrom s from i x o next
-        bit-name g = rw (h, g, ← ex) at bit-judged
+        pub bit-name : x .kind ≡ 2 → BitFrom s from i y o (x .next)
+        bit-name g = rw ey (bit-kind 2 g h)
 
         -- what is right and neither is VALUE
-        pub bit-on : (k ≡ 1 → ⊥) → (k ≡ 2 → ⊥) → BitFrom s from i n x next
+        pub bit-on : (x .kind ≡ 1 → ⊥) → (x .kind ≡ 2 → ⊥) → BitFrom s from i n y (x .next)
         unfolding judged
-        bit-on n1 n2 = rw (h, third, ← ex) at bit-judged
+        bit-on n1 n2 = rw ey (bit-kind 3 third h)
           where
-            third : k ≡ 3
+            third : x .kind ≡ 3
             third =
-                eqb-true k 3
-                (true-of (eqb k 3)
-                (λ g. let u : v ≡ Wrong Unknown = ev ∙ ap (λ (y : Rule). judged y b l) (sym (rule-other k n1 n2 (eqb-false k 3 g))) in
+                eqb-true (x .kind) 3
+                (true-of (eqb (x .kind) 3)
+                (λ g. let u : v ≡ Wrong Unknown = ev ∙ ap (λ (z : Rule). judged z (x .bits) l) (sym (rule-other (x .kind) n1 n2 (eqb-false (x .kind) 3 g))) in
                 let c : _≡_ {A = ℕ} 0 1 = cc in
                 omega arith))
 

@@ -177,25 +177,22 @@ fn walk_bit(s: &[u8], from: usize) -> BitWalk
             AttributeRead::Broken => {
                 return BitWalk::Refused(of_fault(Fault::Length, at));
             }
-            AttributeRead::Attribute {
-                kind,
-                bits,
-                start,
-                end,
-                next: after,
-            } => match judge_attribute(kind, bits, payload(s, start, end)) {
-                Verdict::Wrong(fault) => {
-                    return BitWalk::Refused(of_fault(fault, at));
-                }
-                Verdict::Right => {
-                    at = after;
-                    match kind {
-                        1 => index = found(start, end),
-                        2 => name = found(start, end),
-                        _ => on = found(start, end),
+            AttributeRead::Attribute(x) => {
+                let kind = x.kind;
+                match judge_attribute(kind, x.bits, payload(s, x.start, x.end)) {
+                    Verdict::Wrong(fault) => {
+                        return BitWalk::Refused(of_fault(fault, at));
+                    }
+                    Verdict::Right => {
+                        at = x.next;
+                        match kind {
+                            1 => index = found(x.start, x.end),
+                            2 => name = found(x.start, x.end),
+                            _ => on = found(x.start, x.end),
+                        }
                     }
                 }
-            },
+            }
         }
     }
 }

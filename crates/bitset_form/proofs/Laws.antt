@@ -10,14 +10,15 @@ use native.Mathlib.Omega.{arith}
 use Rattle.basics.specs.Put.{put}
 use Rattle.basics.proofs.Put.{put-nil, put-take, put-whole}
 use Rattle.bits.specs.Bit.{test, number}
-use Rattle.bits.specs.Set.{has, wordOf, wordsOf, allBelow}
+use Rattle.bits.specs.Set.{has, wordOf, wordsOf, allBelow, putBit}
 use Rattle.word_bytes.specs.Bytes.{wordsIn}
 use Rattle.bits.specs.Change.{merge}
 use Rattle.bits.proofs.Bit.{number-cong, test-zero}
 use Rattle.bits.proofs.Words.{length-wordsOf, getD-wordsOf, has-word}
 use Rattle.refusal.specs.declared.Refusal.{Refusal}
 use Rattle.bitset_form.specs.Form.{cutAt, both}
-use Rattle.bitset_form.specs.Bitset.{refusedAs, onJudgement, underNomask}
+use Rattle.bitset_form.specs.Bitset.{refusedAs, listedIn, onJudgement, underNomask}
+use Rattle.bitset_form.specs.declared.Form.{Form}
 use Rattle.bitset_form.specs.declared.Judgement.{Judgement}
 use Rattle.bitset_form.specs.declared.Judgement.the-variants.{Accepted, Refused}
 use Rattle.bitset_form.specs.declared.Judged.{Judged}
@@ -82,3 +83,10 @@ module _ (n : ℕ) (j : Judged) (t : Judgement) (e : t ≡ j .judgement) where
       (sym (ap (λ (x : Judgement). onJudgement x (record { judgement = Accepted; form = record { mask = wordsOf 16 (allBelow n); value = j .form .mask } })) (sym e ∙ q)))
 
 pub ruleset nomask-laws = (nomask-refused, nomask-accepted)
+
+-- one more listed bit: both arrays have sixteen words
+pub list-bit-is : (f : Form) (i : ℕ) (on : Bool) (m v : List ℕ) → length (f .mask) ≡ 16 → length (f .value) ≡ 16
+    → m ≡ wordsOf (length (f .mask)) (putBit i true (has (f .mask))) → v ≡ wordsOf (length (f .value)) (putBit i on (has (f .value)))
+    → record { mask = m; value = v } ≡ listedIn f i on
+unfolding listedIn
+list-bit-is f i on m v lm lv em ev = rw (em, ev, lm, lv)

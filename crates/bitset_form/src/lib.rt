@@ -2,7 +2,7 @@
 ghost use mathlib.Core.Path.{_≡_};
 ghost use Rattle.bits.specs.Set.{has, wordsOf, allBelow};
 ghost use Rattle.word_bytes.specs.Bytes.{wordsIn};
-ghost use Rattle.bitset_form.specs.Bitset.{refusedAs, underNomask};
+ghost use Rattle.bitset_form.specs.Bitset.{refusedAs, listedIn, underNomask};
 ghost use Rattle.bitset_form.specs.Form.{cutAt, both};
 use refusal::Refusal;
 
@@ -69,6 +69,17 @@ pub fn within(bitmap: &[u8], mask: [u32; 16]) -> [u32; 16]
         words[j] = bits::merge_word(mask[j], word_bytes::word_in(bitmap, j), 0);
     }
     words
+}
+
+// A form with one more listed bit, set or cleared.
+pub fn list_bit(form: Form, number: usize, on: bool) -> Form
+    ensures { λ r. ⌜ r ≡ listedIn form number on ⌝ }
+{
+    let mut mask = form.mask;
+    let mut value = form.value;
+    bits::put_bit(&mut mask, number, true);
+    bits::put_bit(&mut value, number, on);
+    Form { mask, value }
 }
 
 // A bit list under NOMASK: the listed bits are 1, all others 0.

@@ -15,7 +15,8 @@ use Rattle.entries.specs.Entry.{count}
 use Rattle.netlink_attributes.specs.Attributes.{Attributes, attributes, attributeAt, onRead, partOf}
 use Rattle.netlink.specs.Walk.{walked}
 use Rattle.netlink_attributes.specs.declared.AttributeRead.{AttributeRead}
-use Rattle.netlink_attributes.specs.declared.AttributeRead.the-variants.{Attribute, Broken, End}
+use Rattle.netlink_attributes.specs.declared.Attribute.{Attribute}
+use Rattle.netlink_attributes.specs.declared.AttributeRead.the-variants as A
 use Rattle.netlink.specs.declared.policy.Fault.{Fault}
 use Rattle.netlink.specs.declared.policy.Rule.{Rule}
 use Rattle.netlink.specs.declared.walk.Stop.{Stop}
@@ -120,41 +121,42 @@ module _ (s names : List ℕ) (from : ℕ) (f : Form) (at : ℕ) (inv : BitsFrom
   step : listJudged (bitsReading s names (attributes s from)) ≡ judgedAfter f (bitsReading s names (onRead r at (attributes s)))
   step = inv ∙ ap (λ (x : Attributes). judgedAfter f (bitsReading s names x)) (attributes-step s at ∙ ap (λ (x : AttributeRead). onRead x at (attributes s)) (sym e))
 
-  pub bits-end : (y : Judged) → r ≡ End → y ≡ record { judgement = Accepted; form = f } → y ≡ listJudged (bitsReading s names (attributes s from))
+  pub bits-end : (y : Judged) → r ≡ A.End → y ≡ record { judgement = Accepted; form = f } → y ≡ listJudged (bitsReading s names (attributes s from))
   unfolding bitsReading judgedAfter formAfter
   bits-end y q ey = ey ∙ sym (rw q at step)
 
-  pub bits-broken : (y : Judged) → r ≡ Broken → y ≡ record { judgement = Accepted; form = f } → y ≡ listJudged (bitsReading s names (attributes s from))
+  pub bits-broken : (y : Judged) → r ≡ A.Broken → y ≡ record { judgement = Accepted; form = f } → y ≡ listJudged (bitsReading s names (attributes s from))
   unfolding bitsReading judgedAfter formAfter
   bits-broken y q ey = ey ∙ sym (rw q at step)
 
-  module _ (k b a z n : ℕ) (q : r ≡ Attribute k b a z n) where
-    inside : Bounded s at (Attribute k b a z n)
+  module _ (x : Attribute) (q : r ≡ A.Attribute x) where
+    inside : Bounded s at (A.Attribute x)
     inside = rw (sym e ∙ q) at (bounded s at)
 
-    pub bits-less : length s - n < length s - at
+    pub bits-less : length s - x .next < length s - at
     bits-less = let i = inside in omega arith
 
-    module _ (p : List ℕ) (ep : p ≡ partOf s 0 z) (v : BitRead) (ev : v ≡ bitReading p names a) where
-      one : listJudged (bitsReading s names (attributes s from)) ≡ judgedAfter f (onBit v (bitsReading s names (attributes s n)))
+    module _ (p : List ℕ) (ep : p ≡ partOf s 0 (x .end)) (v : BitRead) (ev : v ≡ bitReading p names (x .start)) where
+      one : listJudged (bitsReading s names (attributes s from)) ≡ judgedAfter f (onBit v (bitsReading s names (attributes s (x .next))))
       unfolding bitsReading
       one =
           rw q at step
-          ∙ ap (λ (x : BitRead). judgedAfter f (onBit x (bitsReading s names (attributes s n)))) (sym (ev ∙ ap (λ (x : List ℕ). bitReading x names a) ep))
+          ∙ ap (λ (y : BitRead). judgedAfter f (onBit y (bitsReading s names (attributes s (x .next))))) (sym (ev ∙ ap (λ (y : List ℕ). bitReading y names (x .start)) ep))
 
       pub bits-refused : (why : Refusal) (y : Judged) → v ≡ B.Refused why → y ≡ refusedAs why
           → y ≡ listJudged (bitsReading s names (attributes s from))
       unfolding judgedAfter
       bits-refused why y h ey = ey ∙ sym (rw h at one)
 
-      pub bits-more : (i : ℕ) (on : Bool) (j k : ℕ) (m y : List ℕ) → v ≡ B.Bit i on → j ≡ 16 → k ≡ 16
-          → m ≡ wordsOf j (putBit i true (has (f .mask))) → y ≡ wordsOf k (putBit i on (has (f .value))) → BitsFrom s names from (record { mask = m; value = y }) n
-      unfolding judgedAfter formAfter listedIn
-      bits-more i on j k m y h ej ek em ey = rw (em, ey, ej, ek) (rw h at one ∙ go (bitsReading s names (attributes s n)))
+      pub bits-more : (i : ℕ) (on : Bool) (g : Form) → v ≡ B.Bit i on → g ≡ listedIn f i on → BitsFrom s names from g (x .next)
+      unfolding judgedAfter formAfter
+      bits-more i on g h eg = rw eg (rw h at one ∙ go (bitsReading s names (attributes s (x .next))))
         where
-          go : (x : ListReading) → judgedAfter f (onBit (B.Bit i on) x) ≡ judgedAfter (listedIn f i on) x
+          go : (l : ListReading) → judgedAfter f (onBit (B.Bit i on) l) ≡ judgedAfter (listedIn f i on) l
           go (listRefused r) = refl
           go (listEntries es) = refl
+
+pub ruleset bits-laws = (bits-start, bits-end, bits-broken, bits-less, bits-refused, bits-more)
 
 -- the whole list
 module _ (s names : List ℕ) (parts : BitsetParts) (c : List ℕ) (ec : c ≡ partOf s 0 (parts .bits .end))

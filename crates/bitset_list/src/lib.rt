@@ -11,6 +11,7 @@ use bitset_bit::judge_bit;
 use bitset_form::Form;
 use bitset_form::Judged;
 use bitset_form::Judgement;
+use bitset_form::list_bit;
 use bitset_form::parts::BitsetParts;
 use bitset_form::policies::bits_policy;
 use bitset_form::refused;
@@ -22,12 +23,12 @@ use netlink_attributes::payload;
 use netlink_attributes::read_attribute;
 use refusal::of_fault;
 
-fn accepted(mask: [u32; 16], value: [u32; 16]) -> Judged
-    ensures { λ r. ⌜ r ≡ record { judgement = Accepted; form = record { mask = mask; value = value } } ⌝ }
+fn accepted(form: Form) -> Judged
+    ensures { λ r. ⌜ r ≡ record { judgement = Accepted; form = form } ⌝ }
 {
     Judged {
         judgement: Judgement::Accepted,
-        form: Form { mask, value },
+        form,
     }
 }
 
@@ -43,32 +44,30 @@ fn judge_bits(
     requires { ⌜ IndexedIf indexed (now names) (now head) (now links) ⌝ }
     ensures { λ r. ⌜ r ≡ listJudged (bitsReading (now (s .entry)) (now (names .entry)) (attributes (now (s .entry)) from)) ⌝ }
 {
-    let mut mask = [0u32; 16];
-    let mut value = [0u32; 16];
+    let mut form = Form {
+        mask: [0; 16],
+        value: [0; 16],
+    };
     let mut at = from;
     loop {
         match read_attribute(s, at) {
             AttributeRead::End => {
-                return accepted(mask, value);
+                return accepted(form);
             }
             AttributeRead::Broken => {
-                return accepted(mask, value);
+                return accepted(form);
             }
-            AttributeRead::Attribute {
-                start,
-                end,
-                next,
-                ..
-            } => match judge_bit(payload(s, 0, end), names, indexed, head, links, start) {
-                BitRead::Refused(why) => {
-                    return refused(why);
+            AttributeRead::Attribute(x) => {
+                match judge_bit(payload(s, 0, x.end), names, indexed, head, links, x.start) {
+                    BitRead::Refused(why) => {
+                        return refused(why);
+                    }
+                    BitRead::Bit { number, on } => {
+                        form = list_bit(form, number, on);
+                        at = x.next;
+                    }
                 }
-                BitRead::Bit { number, on } => {
-                    bits::put_bit(&mut mask, number, true);
-                    bits::put_bit(&mut value, number, on);
-                    at = next;
-                }
-            },
+            }
         }
     }
 }

@@ -11,16 +11,17 @@ use Rattle.basics.specs.Numbers.{u16At}
 use Rattle.basics.proofs.Numbers.{u16-past}
 use Rattle.basics.proofs.Order.{lt-or-ge}
 use Rattle.netlink_headers.specs.Lengths.{roundUp4}
-use Rattle.netlink_attributes.specs.Attributes.{attributeAt, partOf, Attributes, onRead, attributes}
+use Rattle.netlink_attributes.specs.Attributes.{headedAt, attributeAt, partOf, Attributes, onRead, attributes}
 use Rattle.netlink_attributes.specs.Attributes.Attributes.{done, broken, attribute}
 use Rattle.netlink_attributes.specs.declared.AttributeRead.{AttributeRead}
-use Rattle.netlink_attributes.specs.declared.AttributeRead.the-variants.{Attribute, Broken, End}
+use Rattle.netlink_attributes.specs.declared.AttributeRead.the-variants as A
 use Rattle.netlink_attributes.proofs.Laws.{attribute-end, attribute-few, attribute-low, attribute-long, attribute-here, part-in, part-past, part-back, Bounded, bounded, attributes-step}
 
 abbrev pub movedRead : ℕ → AttributeRead → AttributeRead
-movedRead by End = End
-movedRead by Broken = Broken
-movedRead by (Attribute k b a e n) = Attribute k b (by + a) (by + e) (by + n)
+movedRead by A.End = A.End
+movedRead by A.Broken = A.Broken
+movedRead by (A.Attribute x) =
+    A.Attribute (record { kind = x .kind; bits = x .bits; start = by + x .start; end = by + x .end; next = by + x .next })
 
 abbrev pub movedAll : ℕ → Attributes → Attributes
 movedAll by done = done
@@ -96,11 +97,7 @@ module _ (pre c : List ℕ) where
         (λ (h : length c ≤ at). sym (attribute-end (pre ++ c) (length pre + at) (omega arith)) ∙ ap (movedRead (length pre)) (attribute-end c at h))
         (lt-or-ge at (length c))
       where
-        here : Attribute (u16At (pre ++ c) (length pre + at + 2) % 16384) (u16At (pre ++ c) (length pre + at + 2) / 16384) (length pre + at + 4)
-            (length pre + at + u16At (pre ++ c) (length pre + at))
-            (min (length pre + at + roundUp4 (u16At (pre ++ c) (length pre + at))) (length (pre ++ c)))
-            ≡ Attribute (u16At c (at + 2) % 16384) (u16At c (at + 2) / 16384) (length pre + (at + 4)) (length pre + (at + u16At c at))
-            (length pre + min (at + roundUp4 (u16At c at)) (length c))
+        here : A.Attribute (headedAt (pre ++ c) (length pre + at)) ≡ movedRead (length pre) (A.Attribute (headedAt c at))
         here =
             let a : length pre + at + 4 ≡ length pre + (at + 4) = omega arith in
             let e : length pre + at + u16At c at ≡ length pre + (at + u16At c at) = omega arith in
@@ -111,9 +108,10 @@ module _ (pre c : List ℕ) where
   on-moved : (at : ℕ) (r : AttributeRead) → Bounded c at r
       → ((n : ℕ) → at < n → n ≤ length c → attributes (pre ++ c) (length pre + n) ≡ movedAll (length pre) (attributes c n))
       → onRead (movedRead (length pre) r) (length pre + at) (attributes (pre ++ c)) ≡ movedAll (length pre) (onRead r at (attributes c))
-  on-moved at End b f = refl
-  on-moved at Broken b f = refl
-  on-moved at (Attribute k x a e n) b f = ap (attribute k x (length pre + a) (length pre + e)) (f n (omega arith) (omega arith))
+  on-moved at A.End b f = refl
+  on-moved at A.Broken b f = refl
+  on-moved at (A.Attribute x) b f =
+      ap (attribute (x .kind) (x .bits) (length pre + x .start) (length pre + x .end)) (f (x .next) (omega arith) (omega arith))
 
   step : (at : ℕ)
       → onRead (movedRead (length pre) (attributeAt c at)) (length pre + at) (attributes (pre ++ c)) ≡ movedAll (length pre) (onRead (attributeAt c at) at (attributes c))

@@ -82,22 +82,18 @@ pub fn walk(policy: [Rule; 8], s: &[u8], from: usize) -> Walked
             AttributeRead::Broken => {
                 return stopped(Fault::Length, at);
             }
-            AttributeRead::Attribute {
-                kind,
-                bits,
-                start,
-                end,
-                next,
-            } => match judge_by_rule(rule_of(policy, kind), bits, payload(s, start, end)) {
-                Verdict::Wrong(fault) => {
-                    return stopped(fault, at);
+            AttributeRead::Attribute(x) => {
+                match judge_by_rule(rule_of(policy, x.kind), x.bits, payload(s, x.start, x.end)) {
+                    Verdict::Wrong(fault) => {
+                        return stopped(fault, at);
+                    }
+                    Verdict::Right => {
+                        let k = x.kind as usize;
+                        slots[k] = found(x.start, x.end);
+                        at = x.next;
+                    }
                 }
-                Verdict::Right => {
-                    let k = kind as usize;
-                    slots[k] = found(start, end);
-                    at = next;
-                }
-            },
+            }
         }
     }
 }

@@ -11,45 +11,45 @@ use Rattle.basics.proofs.Order.{lt-or-ge}
 use Rattle.basics.specs.Numbers.{u16At}
 use Rattle.netlink_headers.specs.Lengths.{roundUp4}
 use Rattle.netlink_headers.specs.Headers.{attributeHeaderAt}
-use Rattle.netlink_attributes.specs.Attributes.{attributeAt, partOf, Attributes, onRead, attributesUpTo, attributes}
+use Rattle.netlink_attributes.specs.Attributes.{headedAt, attributeAt, partOf, Attributes, onRead, attributesUpTo, attributes}
 use Rattle.netlink_attributes.specs.Attributes.Attributes.{attribute}
 use Rattle.netlink_headers.specs.declared.headers.AttributeHeader.{AttributeHeader}
 use Rattle.netlink_headers.specs.declared.headers.AttributeHeaderRead.{AttributeHeaderRead}
 use Rattle.netlink_headers.specs.declared.headers.AttributeHeaderRead.the-variants as A
 use Rattle.netlink_attributes.specs.declared.AttributeRead.{AttributeRead}
-use Rattle.netlink_attributes.specs.declared.AttributeRead.the-variants.{Attribute, Broken, End}
+use Rattle.netlink_attributes.specs.declared.Attribute.{Attribute}
+use Rattle.netlink_attributes.specs.declared.AttributeRead.the-variants as R
 use Rattle.netlink_headers.proofs.headers.Laws.{attribute-cut, attribute-fits, attribute-is}
 
 -- by the numbers at the place
 module _ (s : List ℕ) (at : ℕ) where
-  pub attribute-end : length s ≤ at → End ≡ attributeAt s at
+  pub attribute-end : length s ≤ at → R.End ≡ attributeAt s at
   unfolding attributeAt
   attribute-end h = simp (le-leb _ _ h)
 
   module _ (h : at < length s) where
-    pub attribute-few : length s < at + 4 → Broken ≡ attributeAt s at
+    pub attribute-few : length s < at + 4 → R.Broken ≡ attributeAt s at
     unfolding attributeAt
     attribute-few f = simp (lt-leb _ _ h, lt-ltb _ _ f)
 
     module _ (f : at + 4 ≤ length s) where
-      pub attribute-low : u16At s at < 4 → Broken ≡ attributeAt s at
+      pub attribute-low : u16At s at < 4 → R.Broken ≡ attributeAt s at
       unfolding attributeAt
       attribute-low l = simp (lt-leb _ _ h, le-ltb _ _ f, lt-ltb _ _ l)
 
       module _ (l : 4 ≤ u16At s at) where
-        pub attribute-long : length s < at + u16At s at → Broken ≡ attributeAt s at
+        pub attribute-long : length s < at + u16At s at → R.Broken ≡ attributeAt s at
         unfolding attributeAt
         attribute-long g = simp (lt-leb _ _ h, le-ltb _ _ f, le-ltb _ _ l, lt-ltb _ _ g)
 
         pub attribute-here : at + u16At s at ≤ length s
-            → Attribute (u16At s (at + 2) % 16384) (u16At s (at + 2) / 16384) (at + 4) (at + u16At s at) (min (at + roundUp4 (u16At s at)) (length s))
-            ≡ attributeAt s at
+            → R.Attribute (headedAt s at) ≡ attributeAt s at
         unfolding attributeAt
         attribute-here g = simp (lt-leb _ _ h, le-ltb _ _ f, le-ltb _ _ l, le-ltb _ _ g)
 
 -- by the header that read_attribute reads
 module _ (s : List ℕ) (at : ℕ) (h : at < length s) (r : AttributeHeaderRead) (e : r ≡ attributeHeaderAt s at) where
-  pub read-few : r ≡ A.Short → Broken ≡ attributeAt s at
+  pub read-few : r ≡ A.Short → R.Broken ≡ attributeAt s at
   read-few q = attribute-few s at h (attribute-cut s at r e q)
 
   module _ (d : AttributeHeader) (q : r ≡ A.Header d) where
@@ -59,18 +59,19 @@ module _ (s : List ℕ) (at : ℕ) (h : at < length s) (r : AttributeHeaderRead)
     type : d .kind ≡ u16At s (at + 2)
     type = ap (λ (x : AttributeHeader). x .kind) (attribute-is s at r e d q)
 
-    pub read-low : d .length < 4 → Broken ≡ attributeAt s at
+    pub read-low : d .length < 4 → R.Broken ≡ attributeAt s at
     read-low l = attribute-low s at h (attribute-fits s at r e d q) (rw long at l)
 
     module _ (l : 4 ≤ d .length) where
-      pub read-long : length s - at < d .length → Broken ≡ attributeAt s at
+      pub read-long : length s - at < d .length → R.Broken ≡ attributeAt s at
       read-long g = attribute-long s at h (attribute-fits s at r e d q) (rw long at l) (omega (arith, long))
 
-      pub read-here : (p k b a m t : ℕ) → d .length ≤ length s - at → p ≡ roundUp4 (d .length) → k ≡ d .kind % 16384 → b ≡ d .kind / 16384
-          → a ≡ at + 4 → m ≡ at + d .length → t ≡ min (at + p) (length s) → Attribute k b a m t ≡ attributeAt s at
-      read-here p k b a m t g ep ek eb ea em et =
+      pub read-here : (p a m t : ℕ) (x : Attribute) → d .length ≤ length s - at → p ≡ roundUp4 (d .length) → a ≡ at + 4 → m ≡ at + d .length
+          → t ≡ min (at + p) (length s) → x ≡ record { kind = d .kind % 16384; bits = d .kind / 16384; start = a; end = m; next = t }
+          → R.Attribute x ≡ attributeAt s at
+      read-here p a m t x g ep ea em et ex =
           let g2 : at + u16At s at ≤ length s = omega (arith, long) in
-          rw (et, em, ea, eb, ek, ep, long, type) (attribute-here s at h (attribute-fits s at r e d q) (rw long at l) g2)
+          rw (ex, et, em, ea, ep, long, type) (attribute-here s at h (attribute-fits s at r e d q) (rw long at l) g2)
 
 pub ruleset read-laws = (attribute-end, read-few, read-low, read-long, read-here)
 
@@ -90,9 +91,9 @@ module _ (s : List ℕ) (a e : ℕ) where
 
 -- where an attribute stands: behind its header, inside its parent, and before the next
 abbrev pub Bounded : List ℕ → ℕ → AttributeRead → Type 0
-Bounded s at End = length s ≤ at
-Bounded s at Broken = at < length s
-Bounded s at (Attribute k b a e n) = (a ≡ at + 4) × (e ≡ at + u16At s at) × (a ≤ e) × (e ≤ n) × (n ≤ length s)
+Bounded s at R.End = length s ≤ at
+Bounded s at R.Broken = at < length s
+Bounded s at (R.Attribute x) = (x .start ≡ at + 4) × (x .end ≡ at + u16At s at) × (x .start ≤ x .end) × (x .end ≤ x .next) × (x .next ≤ length s)
 
 pub bounded : (s : List ℕ) (at : ℕ) → Bounded s at (attributeAt s at)
 bounded s at =
@@ -113,9 +114,9 @@ bounded s at =
 -- as far as what follows agrees
 on-same : (s : List ℕ) (at : ℕ) (r : AttributeRead) (f g : ℕ → Attributes) → Bounded s at r
     → ((n : ℕ) → at < n → n ≤ length s → f n ≡ g n) → onRead r at f ≡ onRead r at g
-on-same s at End f g b p = refl
-on-same s at Broken f g b p = refl
-on-same s at (Attribute k x a e n) f g b p = ap (attribute k x a e) (p n (omega arith) (omega arith))
+on-same s at R.End f g b p = refl
+on-same s at R.Broken f g b p = refl
+on-same s at (R.Attribute x) f g b p = ap (attribute (x .kind) (x .bits) (x .start) (x .end)) (p (x .next) (omega arith) (omega arith))
 
 -- a larger bound on the count changes nothing
 enough : (m n : ℕ) (s : List ℕ) (at : ℕ) → length s ≤ m + at → length s ≤ n + at → attributesUpTo (suc m) s at ≡ attributesUpTo (suc n) s at

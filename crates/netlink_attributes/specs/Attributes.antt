@@ -7,21 +7,28 @@ use lib.Dec.{leb, ltb}
 use Rattle.basics.specs.Numbers.{u16At}
 use Rattle.netlink_headers.specs.Lengths.{roundUp4}
 use Rattle.netlink_attributes.specs.declared.AttributeRead.{AttributeRead}
-use Rattle.netlink_attributes.specs.declared.AttributeRead.the-variants.{Attribute, Broken, End}
+use Rattle.netlink_attributes.specs.declared.Attribute.{Attribute}
+use Rattle.netlink_attributes.specs.declared.AttributeRead.the-variants as A
 
--- the attribute at a position. Broken: 1 to 3 bytes left, or a length below 4 or more than is left. Else its type, the two bits above it,
--- where its payload starts and ends, and the place of the next: a step past the parent's end stops there.
+-- the attribute whose header stands at a position: its type, the two bits above it, where its payload starts and ends, and the place of the
+-- next: a step past the parent's end stops there
+abbrev pub headedAt : List ℕ → ℕ → Attribute
+headedAt s at =
+    record {
+      kind = u16At s (at + 2) % 16384;
+      bits = u16At s (at + 2) / 16384;
+      start = at + 4;
+      end = at + u16At s at;
+      next = min (at + roundUp4 (u16At s at)) (length s);
+    }
+
+-- the attribute at a position. Broken: 1 to 3 bytes left, or a length below 4 or more than is left
 unfoldable pub attributeAt : List ℕ → ℕ → AttributeRead
 attributeAt s at =
-    cond (leb (length s) at) End
-    (cond (ltb (length s) (at + 4)) Broken
-    (cond (ltb (u16At s at) 4 || ltb (length s) (at + u16At s at)) Broken
-    (Attribute
-    (u16At s (at + 2) % 16384)
-    (u16At s (at + 2) / 16384)
-    (at + 4)
-    (at + u16At s at)
-    (min (at + roundUp4 (u16At s at)) (length s)))))
+    cond (leb (length s) at) A.End
+    (cond (ltb (length s) (at + 4)) A.Broken
+    (cond (ltb (u16At s at) 4 || ltb (length s) (at + u16At s at)) A.Broken
+    (A.Attribute (headedAt s at))))
 
 -- the bytes from start to end, none where the two lie outside the list
 unfoldable pub partOf : List ℕ → ℕ → ℕ → List ℕ
@@ -35,9 +42,9 @@ pub data Attributes : Type 0 where
 
 -- what is read at a place, and then what stands from the next place on
 abbrev pub onRead : AttributeRead → ℕ → (ℕ → Attributes) → Attributes
-onRead End at rest = done
-onRead Broken at rest = broken at
-onRead (Attribute k b a e n) at rest = attribute k b a e (rest n)
+onRead A.End at rest = done
+onRead A.Broken at rest = broken at
+onRead (A.Attribute x) at rest = attribute (x .kind) (x .bits) (x .start) (x .end) (rest (x .next))
 
 -- at most n attributes from a position on
 unfoldable pub attributesUpTo : ℕ → List ℕ → ℕ → Attributes

@@ -19,7 +19,7 @@ use Rattle.netlink_headers.specs.declared.headers.MessageHeaderRead.the-variant
 use Rattle.netlink_headers.specs.declared.headers.GenericHeader.{GenericHeader}
 use Rattle.netlink_headers.specs.declared.headers.GenericHeaderRead.the-variants as G
 use Rattle.netlink_attributes.specs.declared.AttributeRead.{AttributeRead}
-use Rattle.netlink_attributes.specs.declared.AttributeRead.the-variants.{Attribute}
+use Rattle.netlink_attributes.specs.declared.AttributeRead.the-variants as A
 use Rattle.netlink_headers.proofs.headers.Laws.{message-whole, generic-whole}
 use Rattle.netlink_attributes.proofs.Laws.{attribute-end, attribute-here, attributes-step, part-in}
 use Rattle.netlink_write.specs.Headers.{messageHeaderBytes, genericHeaderBytes, attributeHeaderBytes}
@@ -79,7 +79,7 @@ module _ (pre post : List ℕ) where
     kind-back = u16-past pre (attributeHeaderBytes stated kind ++ post) (length pre + 2) 2 refl ∙ digits16 kind small
 
     pub header-back : attributeAt (pre ++ (attributeHeaderBytes stated kind ++ post)) (length pre)
-        ≡ Attribute (kind % 16384) (kind / 16384) (length pre + 4) (length pre + stated) (length pre + roundUp4 stated)
+        ≡ A.Attribute (record { kind = kind % 16384; bits = kind / 16384; start = length pre + 4; end = length pre + stated; next = length pre + roundUp4 stated })
     unfolding all
     header-back =
         let at = length pre in
@@ -117,7 +117,7 @@ module _ (pre post payload : List ℕ) (kind : ℕ) where
 
   module _ (small : kind < 16384) (fits : length payload ≤ 65531) where
     pub attribute-back : attributeAt (pre ++ (attr kind payload ++ post)) (length pre)
-        ≡ Attribute kind 0 (length pre + 4) (length pre + 4 + length payload) (length pre + length (attr kind payload))
+        ≡ A.Attribute (record { kind = kind; bits = 0; start = length pre + 4; end = length pre + 4 + length payload; next = length pre + length (attr kind payload) })
     attribute-back =
         let n = length payload + 4 in
         let rest = (payload ++ padding n) ++ post in
@@ -152,7 +152,7 @@ module _ (pre post contents : List ℕ) (kind : ℕ) where
 
   module _ (small : kind < 16384) (fits : length contents ≤ 65531) (whole : length contents % 4 ≡ 0) where
     pub nest-back : attributeAt (pre ++ (nest kind contents ++ post)) (length pre)
-        ≡ Attribute kind 2 (length pre + 4) (length pre + 4 + length contents) (length pre + length (nest kind contents))
+        ≡ A.Attribute (record { kind = kind; bits = 2; start = length pre + 4; end = length pre + 4 + length contents; next = length pre + length (nest kind contents) })
     nest-back =
         let n = length contents + 4 in
         let there : roundUp4 n ≤ 4 + length (contents ++ post) = omega (arith, length-append contents post) in

@@ -10,9 +10,9 @@ use netlink_attributes::payload;
 use netlink_attributes::place;
 use refusal::Refusal;
 use roll::Found;
+use roll::holds_name;
 use roll::port_of_index;
 use roll::port_of_name;
-use roll::holds_name;
 use roll::table::name_of;
 
 pub enum PortRead {

@@ -41,8 +41,8 @@ of-fault-requires c κs = search (needs, bit-laws)
 returns-2 : tie.Need-returns-2 Inv-loop μ-loop
 returns-2 c = search (needs, bit-laws)
 
-enum-known-kind : tie.Need-enum-known-kind Inv-loop μ-loop
-enum-known-kind c = search (needs, bit-laws)
+enum-known-x : tie.Need-enum-known-x Inv-loop μ-loop
+enum-known-x c = search (needs, bit-laws)
 
 payload-requires : tie.Need-payload-requires Inv-loop μ-loop
 payload-requires c κs = search (needs, bit-laws)
@@ -105,7 +105,7 @@ walk-bit-spec =
     enum-told-2
     of-fault-requires
     returns-2
-    enum-known-kind
+    enum-known-x
     payload-requires
     judge-attribute-requires
     enum-known-fault

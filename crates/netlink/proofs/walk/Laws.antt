@@ -22,7 +22,8 @@ use Rattle.netlink.specs.declared.policy.Fault.the-variants.{Length, Unk
 use Rattle.netlink.specs.declared.policy.Verdict.{Verdict}
 use Rattle.netlink.specs.declared.policy.Verdict.the-variants.{Right, Wrong}
 use Rattle.netlink_attributes.specs.declared.AttributeRead.{AttributeRead}
-use Rattle.netlink_attributes.specs.declared.AttributeRead.the-variants.{Attribute, Broken, End}
+use Rattle.netlink_attributes.specs.declared.Attribute.{Attribute}
+use Rattle.netlink_attributes.specs.declared.AttributeRead.the-variants as A
 use Rattle.netlink.specs.declared.walk.Slot.{Slot}
 use Rattle.netlink.specs.declared.walk.Stop.the-variants.{Whole}
 use Rattle.netlink.specs.declared.walk.Walked.{Walked}
@@ -77,50 +78,50 @@ module _ (p : List Rule) (s : List ℕ) (from : ℕ) (w : List Slot) (at : ℕ) 
   step : walked p s from ≡ walkedOn p s w (onRead r at (attributes s))
   step = inv ∙ ap (walkedOn p s w) (attributes-step s at ∙ ap (λ (x : AttributeRead). onRead x at (attributes s)) (sym e))
 
-  pub walk-end : length w ≡ 8 → r ≡ End → record { stop = Whole; slots = w } ≡ walked p s from
+  pub walk-end : length w ≡ 8 → r ≡ A.End → record { stop = Whole; slots = w } ≡ walked p s from
   unfolding firstFault lastOfType
   walk-end h q = sym (rw q at step ∙ ap (λ (x : List Slot). record { stop = Whole; slots = x }) (each-self w h))
 
-  pub walk-broken : (z : Walked) → r ≡ Broken → z ≡ stopped Length at → z ≡ walked p s from
+  pub walk-broken : (z : Walked) → r ≡ A.Broken → z ≡ stopped Length at → z ≡ walked p s from
   unfolding firstFault
   walk-broken z q ez = ez ∙ sym (rw q at step)
 
-  module _ (k b a z n : ℕ) (q : r ≡ Attribute k b a z n) where
-    inside : Bounded s at (Attribute k b a z n)
+  module _ (x : Attribute) (q : r ≡ A.Attribute x) where
+    inside : Bounded s at (A.Attribute x)
     inside = rw (sym e ∙ q) at (bounded s at)
 
-    pub walk-less : length s - n < length s - at
+    pub walk-less : length s - x .next < length s - at
     walk-less = let i = inside in omega arith
 
-    module _ (m : Rule) (l : List ℕ) (v : Verdict) (em : m ≡ ruleOf p k) (el : l ≡ partOf s a z) (ev : v ≡ judged m b l) where
-      judged-step : walked p s from ≡ walkedOn p s w (attribute k b a z (attributes s n))
+    module _ (m : Rule) (l : List ℕ) (v : Verdict) (em : m ≡ ruleOf p (x .kind)) (el : l ≡ partOf s (x .start) (x .end)) (ev : v ≡ judged m (x .bits) l) where
+      judged-step : walked p s from ≡ walkedOn p s w (attribute (x .kind) (x .bits) (x .start) (x .end) (attributes s (x .next)))
       judged-step = rw q at step
 
-      verdict : judged (ruleOf p k) b (partOf s a z) ≡ v
-      verdict = sym (ev ∙ ap (λ (x : Rule). judged x b l) em ∙ ap (λ (x : List ℕ). judged (ruleOf p k) b x) el)
+      verdict : judged (ruleOf p (x .kind)) (x .bits) (partOf s (x .start) (x .end)) ≡ v
+      verdict = sym (ev ∙ ap (λ (y : Rule). judged y (x .bits) l) em ∙ ap (λ (y : List ℕ). judged (ruleOf p (x .kind)) (x .bits) y) el)
 
-      place : a - 4 ≡ at
+      place : x .start - 4 ≡ at
       place = let i = inside in omega arith
 
       pub walk-wrong : (f : Fault) (y : Walked) → v ≡ Wrong f → y ≡ stopped f at → y ≡ walked p s from
       unfolding firstFault
       walk-wrong f y h ey = ey ∙ sym (judged-step ∙ rw (verdict, h, place))
 
-      pub walk-kind : length p ≡ 8 → v ≡ Right → k < 8
+      pub walk-kind : length p ≡ 8 → v ≡ Right → x .kind < 8
       unfolding judged
-      walk-kind l8 h = ⊎-elim (λ i. i) (λ g. absurd (unlisted (rule-past p k l8 g))) (lt-or-ge k 8)
+      walk-kind l8 h = ⊎-elim (λ i. i) (λ g. absurd (unlisted (rule-past p (x .kind) l8 g))) (lt-or-ge (x .kind) 8)
         where
-          unlisted : Unlisted ≡ ruleOf p k → ⊥
+          unlisted : Unlisted ≡ ruleOf p (x .kind) → ⊥
           unlisted u =
-              let n1 : v ≡ Wrong Unknown = ev ∙ ap (λ (x : Rule). judged x b l) (em ∙ sym u) in
+              let n1 : v ≡ Wrong Unknown = ev ∙ ap (λ (y : Rule). judged y (x .bits) l) (em ∙ sym u) in
               let c : _≡_ {A = ℕ} 0 1 = cc in
               omega arith
 
-      pub walk-right : (x : Slot) → length w ≡ 8 → length p ≡ 8 → v ≡ Right → x ≡ found a z → WalkFrom p s from (set w k x) n
+      pub walk-right : (y : Slot) → length w ≡ 8 → length p ≡ 8 → v ≡ Right → y ≡ found (x .start) (x .end) → WalkFrom p s from (set w (x .kind) y) (x .next)
       unfolding firstFault lastOfType
-      walk-right x l8 lp h ex =
-          judged-step ∙ rw (verdict, h, ex)
-          (ap (λ (f : ℕ → Slot). walkedTo (firstFault p s (attributes s n)) (eachType f))
-          (fun-ext (λ kind. ap (λ (y : Slot). lastOfType kind y (attributes s n)) (sym (set-slot w k kind (found a z) (rw (← l8) at (walk-kind lp h)))))))
+      walk-right y l8 lp h ey =
+          judged-step ∙ rw (verdict, h, ey)
+          (ap (λ (f : ℕ → Slot). walkedTo (firstFault p s (attributes s (x .next))) (eachType f))
+          (fun-ext (λ kind. ap (λ (y : Slot). lastOfType kind y (attributes s (x .next))) (sym (set-slot w (x .kind) kind (found (x .start) (x .end)) (rw (← l8) at (walk-kind lp h)))))))
 
 pub ruleset walk-laws = (walk-start, walk-end, walk-broken, walk-less, walk-wrong, walk-kind, walk-right)

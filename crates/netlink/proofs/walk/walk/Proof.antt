@@ -1,7 +1,7 @@
 use Prim.Native.Nat.{_-_}
 use mathlib.Core.Path.{_≡_}
 use lib.ListN.{length}
-use Rattle.netlink.proofs.walk.Laws.{WalkFrom, walk-start, walk-end, walk-broken, walk-less, walk-wrong, walk-kind, walk-right}
+use Rattle.netlink.proofs.walk.Laws.{WalkFrom, walk-laws}
 use borrow.Author.Needs.{needs}
 use Rattle.netlink.proofs.walk.walk.Statement.{statement}
 use Rattle.netlink.proofs.walk.walk.Tie as tie
@@ -13,69 +13,67 @@ abbrev μ-loop : tie.MeasureT-loop
 μ-loop policy s from slots₀ at₀ slots at = length s - at
 
 loop-holds : tie.Need-loop-holds Inv-loop μ-loop
-loop-holds c = search (needs, walk-start)
+loop-holds c = search (needs, walk-laws)
 
 read-attribute-requires : tie.Need-read-attribute-requires Inv-loop μ-loop
-read-attribute-requires c κs = search needs
+read-attribute-requires c κs = search (needs, walk-laws)
 
 enum-told : tie.Need-enum-told Inv-loop μ-loop
-enum-told c = search needs
+enum-told c = search (needs, walk-laws)
 
 returns : tie.Need-returns Inv-loop μ-loop
-returns c = search (needs, walk-end)
+returns c = search (needs, walk-laws)
 
 enum-told-2 : tie.Need-enum-told-2 Inv-loop μ-loop
-enum-told-2 c = search needs
+enum-told-2 c = search (needs, walk-laws)
 
 stopped-requires : tie.Need-stopped-requires Inv-loop μ-loop
-stopped-requires c κs = search needs
+stopped-requires c κs = search (needs, walk-laws)
 
 returns-2 : tie.Need-returns-2 Inv-loop μ-loop
-returns-2 c = search (needs, walk-broken)
+returns-2 c = search (needs, walk-laws)
 
-enum-known-kind : tie.Need-enum-known-kind Inv-loop μ-loop
-enum-known-kind c = search needs
+enum-known-x : tie.Need-enum-known-x Inv-loop μ-loop
+enum-known-x c = search (needs, walk-laws)
 
 rule-of-requires : tie.Need-rule-of-requires Inv-loop μ-loop
-rule-of-requires c κs = search needs
+rule-of-requires c κs = search (needs, walk-laws)
 
 payload-requires : tie.Need-payload-requires Inv-loop μ-loop
-payload-requires c κs = search needs
+payload-requires c κs = search (needs, walk-laws)
 
 judge-by-rule-requires : tie.Need-judge-by-rule-requires Inv-loop μ-loop
-judge-by-rule-requires c κs = search needs
+judge-by-rule-requires c κs = search (needs, walk-laws)
 
 enum-known-fault : tie.Need-enum-known-fault Inv-loop μ-loop
-enum-known-fault c = search needs
+enum-known-fault c = search (needs, walk-laws)
 
 stopped-requires-2 : tie.Need-stopped-requires-2 Inv-loop μ-loop
-stopped-requires-2 c κs = search needs
+stopped-requires-2 c κs = search (needs, walk-laws)
 
 returns-3 : tie.Need-returns-3 Inv-loop μ-loop
-returns-3 c =
-    let l = c .before .before .before .before .before .before .before .before .before .before .before .loop in
-    walk-wrong _ _ _ (l .slots) _ (l .inv .1) _ (c .before .before .before .before .before .before .before .before .before .before .read-attribute .ensures) _ _ _ _ _ (c .before .before .before .before .before .before .before .before .kind .given .1) _ _ _ (c .before .before .before .before .before .before .rule-of .ensures) (c .before .before .before .before .before .payload .ensures) (c .before .before .before .before .judge-by-rule .ensures) _ _ (c .before .before .fault .given .1) (c .stopped2 .ensures)
+returns-3 c = search (needs, walk-laws)
 
 enum-told-3 : tie.Need-enum-told-3 Inv-loop μ-loop
-enum-told-3 c = search needs
+enum-told-3 c = search (needs, walk-laws)
 
 cast-k : tie.Need-cast-k Inv-loop μ-loop
-cast-k c = search needs
+cast-k c = search (needs, walk-laws)
 
 found-requires : tie.Need-found-requires Inv-loop μ-loop
-found-requires c κs = search needs
+found-requires c κs = search (needs, walk-laws)
 
 mul-slots : tie.Need-mul-slots Inv-loop μ-loop
-mul-slots c = search needs
+mul-slots c = search (needs, walk-laws)
 
 array-set-from-slots : tie.Need-array-set-from-slots Inv-loop μ-loop
-array-set-from-slots c = search (needs, walk-kind)
+array-set-from-slots c = search (needs, walk-laws)
 
 loop-less : tie.Need-loop-less Inv-loop μ-loop
-loop-less c = search (needs, walk-less)
+loop-less c = search (needs, walk-laws)
 
 loop-again : tie.Need-loop-again Inv-loop μ-loop
-loop-again c = search (needs, walk-right)
+loop-again c = search (needs, walk-laws)
 
 pub walk-spec : {M : Type 1} → statement M
 walk-spec =
@@ -90,7 +88,7 @@ walk-spec =
     enum-told-2
     stopped-requires
     returns-2
-    enum-known-kind
+    enum-known-x
     rule-of-requires
     payload-requires
     judge-by-rule-requires
