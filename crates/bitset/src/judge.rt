@@ -1,7 +1,7 @@
 // A bitset's contents judged: a refusal with its place, or the form of its change.
 ghost use mathlib.Core.Path.{_≡_};
 ghost use Rattle.entries.specs.Entry.{count};
-ghost use Rattle.bitset_form.specs.Bitset.{judgedAs};
+ghost use Rattle.bitset_form.specs.Form.{judgedAs};
 ghost use Rattle.bitset.specs.Judge.{mixedAt, bitsetPartsReading, bitsetReading};
 use bitset_compact::judge_compact;
 use bitset_form::Judged;

@@ -34,7 +34,8 @@ use Rattle.refusal.specs.declared.Refusal.the-variants.{PastLength, UnknownBit,
 use Rattle.bitset_form.specs.Policies.{bitPolicy}
 use Rattle.bitset_form.specs.Parts.{bitParts}
 use Rattle.bitset_form.specs.declared.parts.BitParts.{BitParts}
-use Rattle.bitset_bit.specs.Bit.{bitByIndex, onLookup, bitByName, identified, onIdentityRead, bitPartsReading, bitWalked, bitReading}
+use Rattle.bitset_bit.specs.Bit.{bitByIndex, onLookup, bitByName, identified, onIdentityRead, bitPartsReading, bitReading}
+use Rattle.bitset_bit.specs.Walked.{bitWalked}
 use Rattle.refusal.specs.Refusal.{onStop, onWalk}
 use Rattle.bitset_form.specs.declared.Judgement.the-variants.{Refused}
 use Rattle.bitset_bit.specs.declared.Identity.{Identity}

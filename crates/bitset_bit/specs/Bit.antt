@@ -18,8 +18,6 @@ use Rattle.bitset_bit.specs.declared.Identity.{Identity}
 use Rattle.bitset_bit.specs.declared.Identity.the-variants.{Number, Neither}
 use Rattle.bitset_bit.specs.declared.IdentityRead.{IdentityRead}
 use Rattle.bitset_bit.specs.declared.IdentityRead.the-variants as L
-use Rattle.bitset_bit.specs.declared.BitWalk.{BitWalk}
-use Rattle.bitset_bit.specs.declared.BitWalk.the-variants as W
 use Rattle.bitset_bit.specs.declared.BitRead.{BitRead}
 use Rattle.bitset_bit.specs.declared.BitRead.the-variants as B
 
@@ -52,10 +50,6 @@ onIdentityRead (L.Refused r) at on = B.Refused r
 -- the parts of the BIT at a place: INDEX, NAME and the VALUE flag
 unfoldable pub bitPartsReading : List ℕ → List ℕ → ℕ → BitParts → BitRead
 bitPartsReading s names at parts = onIdentityRead (identified s names parts) at (parts .on .present)
-
--- a BIT that is walked whole: its first fault, or its parts
-unfoldable pub bitWalked : List ℕ → ℕ → BitWalk
-bitWalked s from = onWalk (walked bitPolicy s from) W.Refused (λ slots. W.Parts (bitParts slots))
 
 -- the BIT whose contents are the bytes of s from a position on: walked whole, then judged
 unfoldable pub bitReading : List ℕ → List ℕ → ℕ → BitRead

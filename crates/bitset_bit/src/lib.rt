@@ -1,8 +1,8 @@
 // One BIT of a bit list: walked whole, then judged.
 ghost use mathlib.Core.Path.{_≡_};
-ghost use Rattle.bitset_bit.specs.Bit.{bitWalked, bitByIndex, bitByName, identified, bitPartsReading, bitReading};
+ghost use Rattle.bitset_bit.specs.Bit.{bitByIndex, bitByName, identified, bitPartsReading, bitReading};
+ghost use Rattle.bitset_bit.specs.Walked.{bitWalked};
 ghost use Rattle.netlink.specs.Policy.{ruleOf, judged};
-ghost use Rattle.netlink.specs.Walk.{absent, found};
 ghost use Rattle.bitset_form.specs.Policies.{bitPolicy};
 ghost use Rattle.entries.specs.Entry.{count};
 ghost use Rattle.entries.specs.Chain.{IndexedIf};
@@ -12,6 +12,8 @@ use netlink::policy::Rule;
 use netlink::policy::Verdict;
 use netlink::policy::judge_by_rule;
 use netlink::walk::Slot;
+use netlink::walk::absent_slot;
+use netlink::walk::found;
 use netlink::walk::slot_number;
 use netlink_attributes::AttributeRead;
 use netlink_attributes::payload;
@@ -42,26 +44,6 @@ pub enum BitRead {
 pub enum BitWalk {
     Parts(BitParts),
     Refused(Refusal),
-}
-
-fn absent() -> Slot
-    ensures { λ r. ⌜ r ≡ absent ⌝ }
-{
-    Slot {
-        present: false,
-        start: 0,
-        end: 0,
-    }
-}
-
-fn found(start: usize, end: usize) -> Slot
-    ensures { λ r. ⌜ r ≡ found start end ⌝ }
-{
-    Slot {
-        present: true,
-        start,
-        end,
-    }
 }
 
 fn bit_by_index(s: &[u8], n: usize, index: Slot) -> IdentityRead
@@ -165,9 +147,9 @@ fn judge_attribute(kind: u16, bits: u16, payload: &[u8]) -> Verdict
 fn walk_bit(s: &[u8], from: usize) -> BitWalk
     ensures { λ r. ⌜ r ≡ bitWalked (now (s .entry)) from ⌝ }
 {
-    let mut index = absent();
-    let mut name = absent();
-    let mut on = absent();
+    let mut index = absent_slot();
+    let mut name = absent_slot();
+    let mut on = absent_slot();
     let mut at = from;
     loop {
         match read_attribute(s, at) {

@@ -15,8 +15,8 @@ use Rattle.netlink.specs.Walk.{slotNumber}
 use Rattle.refusal.specs.declared.Refusal.{Refusal}
 use Rattle.refusal.specs.declared.Refusal.the-variants.{MissingIn, ShortBitmap, PastLength}
 use Rattle.bitset_form.specs.declared.parts.BitsetParts.{BitsetParts}
-use Rattle.bitset_form.specs.Form.{cutAt, both}
-use Rattle.bitset_form.specs.Bitset.{Bitset, Reading, maskOf, valueOf, refusedAs, judgedAs}
+use Rattle.bitset_form.specs.Form.{cutAt, both, refusedAs, judgedAs}
+use Rattle.bitset_form.specs.Bitset.{Bitset, Reading, maskOf, valueOf}
 use Rattle.bitset_form.specs.Bitset.Bitset.{maskedBitmap, nomaskBitmap}
 use Rattle.bitset_form.specs.Bitset.Reading.{refused, accepted}
 use Rattle.bitset_compact.specs.Compact.{bitmap, nomaskReading, maskedReading, compactReading}

@@ -1,6 +1,6 @@
 // A compact bitset: SIZE, VALUE and, without NOMASK, MASK.
 ghost use mathlib.Core.Path.{_≡_};
-ghost use Rattle.bitset_form.specs.Bitset.{judgedAs};
+ghost use Rattle.bitset_form.specs.Form.{judgedAs};
 ghost use Rattle.bitset_compact.specs.Compact.{nomaskReading, maskedReading, compactReading};
 use bits::words_for;
 use bitset_form::Form;

@@ -1,4 +1,4 @@
 pub mod Policies
 pub mod Parts
-pub mod Form
 pub mod Bitset
+pub mod Form

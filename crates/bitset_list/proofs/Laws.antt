@@ -27,12 +27,14 @@ use Rattle.refusal.specs.Refusal.{ofFault}
 use Rattle.refusal.specs.declared.Refusal.{Refusal}
 use Rattle.bitset_form.specs.Policies.{bitsPolicy}
 use Rattle.bitset_form.specs.declared.parts.BitsetParts.{BitsetParts}
-use Rattle.bitset_form.specs.Bitset.{maskOf, valueOf, refusedAs, judgedAs, listedIn, underNomask}
+use Rattle.bitset_form.specs.Bitset.{maskOf, valueOf}
+use Rattle.bitset_form.specs.Form.{refusedAs, judgedAs, listedIn, underNomask}
 use Rattle.bitset_form.specs.Bitset.Reading.{refused}
 use Rattle.bitset_bit.specs.Bit.{bitReading}
 use Rattle.refusal.specs.Refusal.{onStop}
-use Rattle.bitset_list.specs.BitList.{ListReading, onBit, bitsReading, listJudged, asBitset, listReading}
+use Rattle.bitset_list.specs.BitList.{ListReading, onBit, bitsReading, asBitset, listReading}
 use Rattle.bitset_list.specs.BitList.ListReading.{listRefused, listEntries}
+use Rattle.bitset_list.specs.Judged.{listJudged}
 use Rattle.bitset_form.specs.declared.Form.{Form}
 use Rattle.bitset_form.specs.declared.Judgement.the-variants.{Accepted, Refused}
 use Rattle.bitset_form.specs.declared.Judged.{Judged}

@@ -1,8 +1,9 @@
 // A bit list: BITS, and in it any number of BITs.
 ghost use mathlib.Core.Path.{_≡_};
 ghost use Rattle.netlink_attributes.specs.Attributes.{attributes};
-ghost use Rattle.bitset_form.specs.Bitset.{judgedAs};
-ghost use Rattle.bitset_list.specs.BitList.{bitsReading, listReading, listJudged};
+ghost use Rattle.bitset_form.specs.Form.{judgedAs};
+ghost use Rattle.bitset_list.specs.BitList.{bitsReading, listReading};
+ghost use Rattle.bitset_list.specs.Judged.{listJudged};
 ghost use Rattle.bitset_form.specs.declared.Judgement.the-variants.{Accepted};
 ghost use Rattle.entries.specs.Entry.{count};
 ghost use Rattle.entries.specs.Chain.{IndexedIf};

@@ -43,7 +43,7 @@ use Rattle.bitset_bit.specs.declared.IdentityRead.{IdentityRead}
 use Rattle.bitset_bit.specs.declared.IdentityRead.the-variants as L
 use Rattle.bitset_bit.specs.declared.BitRead.{BitRead}
 use Rattle.bitset_bit.specs.declared.BitRead.the-variants as B
-use Rattle.normal.specs.Claims.{Fits}
+use Rattle.normal.specs.Fits.{Fits}
 
 -- a refusal is no acceptance
 never : (r : Refusal) (b : Bitset) → refused r ≡ accepted b → ⊥

@@ -18,7 +18,8 @@ use Rattle.refusal.specs.declared.Refusal.the-variants.{Mixed}
 use Rattle.bitset_form.specs.Policies.{bitsetPolicy}
 use Rattle.bitset_form.specs.Parts.{bitsetParts}
 use Rattle.bitset_form.specs.declared.parts.BitsetParts.{BitsetParts}
-use Rattle.bitset_form.specs.Bitset.{Reading, refusedAs, judgedAs}
+use Rattle.bitset_form.specs.Bitset.{Reading}
+use Rattle.bitset_form.specs.Form.{refusedAs, judgedAs}
 use Rattle.bitset_form.specs.Bitset.Reading.{refused}
 use Rattle.bitset_compact.specs.Compact.{compactReading}
 use Rattle.refusal.specs.Refusal.{onStop, onWalk}
