@@ -84,8 +84,8 @@ module _ (n : ℕ) (j : Judged) (t : Judgement) (e : t ≡ j .judgement) where
 pub ruleset nomask-laws = (nomask-refused, nomask-accepted)
 
 -- one more listed bit: both arrays have sixteen words
-pub list-bit-is : (f : Form) (i : ℕ) (on : Bool) (m v : List ℕ) → length (f .mask) ≡ 16 → length (f .value) ≡ 16
-    → m ≡ wordsOf (length (f .mask)) (putBit i true (has (f .mask))) → v ≡ wordsOf (length (f .value)) (putBit i on (has (f .value)))
-    → record { mask = m; value = v } ≡ listedIn f i on
-unfolding listedIn
-list-bit-is f i on m v lm lv em ev = rw (em, ev, lm, lv)
+module _ (mask value : List ℕ) (i : ℕ) (on : Bool) (long-mask : length mask ≡ 16) (long-value : length value ≡ 16) where
+  pub list-bit-is : (m v : List ℕ) → m ≡ wordsOf (length mask) (putBit i true (has mask)) → v ≡ wordsOf (length value) (putBit i on (has value))
+      → record { mask = m; value = v } ≡ listedIn (record { mask = mask; value = value }) i on
+  unfolding listedIn
+  list-bit-is m v em ev = rw (em, ev, long-mask, long-value)

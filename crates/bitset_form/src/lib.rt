@@ -70,15 +70,12 @@ pub fn within(bitmap: &[u8], mask: [u32; 16]) -> [u32; 16]
     words
 }
 
-// A form with one more listed bit, set or cleared.
-pub fn list_bit(form: Form, number: usize, on: bool) -> Form
-    ensures { λ r. ⌜ r ≡ listedIn form number on ⌝ }
+// One more listed bit, set or cleared, in the mask and value of a form. They are lent, so that a long list copies no form for each bit.
+pub fn list_bit(mask: &mut [u32; 16], value: &mut [u32; 16], number: usize, on: bool)
+    ensures { λ _. ⌜ record { mask = now (mask .exit); value = now (value .exit) } ≡ listedIn (record { mask = now (mask .entry); value = now (value .entry) }) number on ⌝ }
 {
-    let mut mask = form.mask;
-    let mut value = form.value;
-    bits::put_bit(&mut mask, number, true);
-    bits::put_bit(&mut value, number, on);
-    Form { mask, value }
+    bits::put_bit(mask, number, true);
+    bits::put_bit(value, number, on);
 }
 
 // A bit list under NOMASK: the listed bits are 1, all others 0.

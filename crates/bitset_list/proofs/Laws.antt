@@ -150,9 +150,10 @@ module _ (s names : List ℕ) (from : ℕ) (f : Form) (at : ℕ) (inv : BitsFrom
       unfolding judgedAfter
       bits-refused why y h ey = ey ∙ sym (rw h at one)
 
-      pub bits-more : (i : ℕ) (on : Bool) (g : Form) → v ≡ B.Bit i on → g ≡ listedIn f i on → BitsFrom s names from g (x .next)
+      pub bits-more : (i : ℕ) (on : Bool) (m y : List ℕ) → v ≡ B.Bit i on → record { mask = m; value = y } ≡ listedIn f i on
+          → BitsFrom s names from (record { mask = m; value = y }) (x .next)
       unfolding judgedAfter formAfter
-      bits-more i on g h eg = rw eg (rw h at one ∙ go (bitsReading s names (attributes s (x .next))))
+      bits-more i on m y h eg = rw eg (rw h at one ∙ go (bitsReading s names (attributes s (x .next))))
         where
           go : (l : ListReading) → judgedAfter f (onBit (B.Bit i on) l) ≡ judgedAfter (listedIn f i on) l
           go (listRefused r) = refl

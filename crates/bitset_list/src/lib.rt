@@ -45,18 +45,16 @@ fn judge_bits(
     requires { ⌜ IndexedIf indexed (now names) (now head) (now links) ⌝ }
     ensures { λ r. ⌜ r ≡ listJudged (bitsReading (now (s .entry)) (now (names .entry)) (attributes (now (s .entry)) from)) ⌝ }
 {
-    let mut form = Form {
-        mask: [0; 16],
-        value: [0; 16],
-    };
+    let mut mask = [0u32; 16];
+    let mut value = [0u32; 16];
     let mut at = from;
     loop {
         match read_attribute(s, at) {
             AttributeRead::End => {
-                return accepted(form);
+                return accepted(Form { mask, value });
             }
             AttributeRead::Broken => {
-                return accepted(form);
+                return accepted(Form { mask, value });
             }
             AttributeRead::Attribute(x) => {
                 match judge_bit(payload(s, 0, x.end), names, indexed, head, links, x.start) {
@@ -64,7 +62,7 @@ fn judge_bits(
                         return refused(why);
                     }
                     BitRead::Bit { number, on } => {
-                        form = list_bit(form, number, on);
+                        list_bit(&mut mask, &mut value, number, on);
                         at = x.next;
                     }
                 }

@@ -3,14 +3,8 @@ use borrow.Author.Needs.{needs}
 use Rattle.bitset_form.proofs.list_bit.Statement.{statement}
 use Rattle.bitset_form.proofs.list_bit.Tie as tie
 
-slice-aggregate-put-bit : tie.Need-slice-aggregate-put-bit
-slice-aggregate-put-bit c = search needs
-
 put-bit-requires : tie.Need-put-bit-requires
 put-bit-requires c κs = search needs
-
-slice-aggregate-put-bit-2 : tie.Need-slice-aggregate-put-bit-2
-slice-aggregate-put-bit-2 c = search needs
 
 put-bit-requires-2 : tie.Need-put-bit-requires-2
 put-bit-requires-2 c κs = search needs
@@ -19,11 +13,4 @@ returns : tie.Need-returns
 returns c = search (needs, list-bit-is)
 
 pub list-bit-spec : {M : Type 1} → statement M
-list-bit-spec =
-    tie.close
-    (tie.spec
-    slice-aggregate-put-bit
-    put-bit-requires
-    slice-aggregate-put-bit-2
-    put-bit-requires-2
-    returns)
+list-bit-spec = tie.close (tie.spec put-bit-requires put-bit-requires-2 returns)

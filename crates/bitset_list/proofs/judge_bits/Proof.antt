@@ -6,10 +6,10 @@ use Rattle.bitset_list.proofs.judge_bits.Statement.{statement}
 use Rattle.bitset_list.proofs.judge_bits.Tie as tie
 
 abbrev Inv-loop : tie.InvT-loop
-Inv-loop s names indexed head links from form₀ at₀ form at = BitsFrom s names from form at
+Inv-loop s names indexed head links from mask₀ value₀ at₀ mask value at = BitsFrom s names from (record { mask = mask; value = value }) at
 
 abbrev μ-loop : tie.MeasureT-loop
-μ-loop s names indexed head links from form₀ at₀ form at = length s - at
+μ-loop s names indexed head links from mask₀ value₀ at₀ mask value at = length s - at
 
 loop-holds : tie.Need-loop-holds Inv-loop μ-loop
 loop-holds c = search (needs, bits-laws)
