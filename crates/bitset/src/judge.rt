@@ -1,19 +1,15 @@
 // A bitset's contents judged: a refusal with its place, or the form of its change.
 ghost use mathlib.Core.Path.{_≡_};
 ghost use Rattle.entries.specs.Entry.{count};
-ghost use Rattle.bitset_form.specs.Bitset.{judgedAs};
+ghost use Rattle.bitset_form.specs.Form.{judgedAs};
 ghost use Rattle.bitset.specs.Judge.{mixedAt, bitsetPartsReading, bitsetReading};
 use bitset_compact::judge_compact;
 use bitset_form::Judged;
-use bitset_form::policies::BITS;
-use bitset_form::policies::MASK;
-use bitset_form::policies::NOMASK;
-use bitset_form::policies::SIZE;
-use bitset_form::policies::VALUE;
+use bitset_form::parts::BitsetParts;
+use bitset_form::parts::bitset_parts;
 use bitset_form::policies::bitset_policy;
 use bitset_form::refused;
 use bitset_list::judge_list;
-use netlink::walk::Slot;
 use netlink::walk::Stop;
 use netlink::walk::walk;
 use netlink_attributes::place;
@@ -26,9 +22,13 @@ pub enum Mixing {
     At(usize),
 }
 
-fn mixed_at(nomask: Slot, bits: Slot, value: Slot, mask: Slot) -> Mixing
-    ensures { λ r. ⌜ r ≡ mixedAt nomask bits value mask ⌝ }
+fn mixed_at(parts: BitsetParts) -> Mixing
+    ensures { λ r. ⌜ r ≡ mixedAt parts ⌝ }
 {
+    let nomask = parts.nomask;
+    let bits = parts.bits;
+    let value = parts.value;
+    let mask = parts.mask;
     if bits.present {
         if value.present {
             return Mixing::At(place(value.start));
@@ -47,25 +47,17 @@ fn mixed_at(nomask: Slot, bits: Slot, value: Slot, mask: Slot) -> Mixing
 }
 
 // Judges the parts of a bitset that stands at `nest`.
-fn judge_bitset_parts(
-    s: &[u8],
-    nest: usize,
-    names: &[u8],
-    nomask: Slot,
-    size: Slot,
-    bits: Slot,
-    value: Slot,
-    mask: Slot,
-) -> Judged
-    ensures { λ r. ⌜ r ≡ judgedAs (count (now (names .entry))) (bitsetPartsReading (now (s .entry)) nest (now (names .entry)) nomask size bits value mask) ⌝ }
+fn judge_bitset_parts(s: &[u8], nest: usize, names: &[u8], parts: BitsetParts) -> Judged
+    ensures { λ r. ⌜ r ≡ judgedAs (count (now (names .entry))) (bitsetPartsReading (now (s .entry)) nest (now (names .entry)) parts) ⌝ }
 {
-    if let Mixing::At(at) = mixed_at(nomask, bits, value, mask) {
+    if let Mixing::At(at) = mixed_at(parts) {
         return refused(Refusal::Mixed(at));
     }
+    let bits = parts.bits;
     if bits.present {
-        return judge_list(s, names, nomask, bits);
+        return judge_list(s, names, parts);
     }
-    judge_compact(s, nest, names::count(names), nomask, size, value, mask)
+    judge_compact(s, nest, names::count(names), parts)
 }
 
 // Judges the bitset whose contents are the bytes of s from `from` on. Places count from the start of s.
@@ -77,10 +69,6 @@ pub fn judge_bitset(s: &[u8], from: usize, names: &[u8]) -> Judged
     if let Stop::At { fault, at } = stop {
         return refused(of_fault(fault, at));
     }
-    let nomask = walked.slots[NOMASK];
-    let size = walked.slots[SIZE];
-    let bits = walked.slots[BITS];
-    let value = walked.slots[VALUE];
-    let mask = walked.slots[MASK];
-    judge_bitset_parts(s, place(from), names, nomask, size, bits, value, mask)
+    let slots = walked.slots;
+    judge_bitset_parts(s, place(from), names, bitset_parts(slots))
 }

@@ -3,7 +3,7 @@ use Prim.Native.Nat.{ℕ, zero, suc, _-_, _≤_, _<_}
 use mathlib.Core.Path.{_≡_, refl, sym, ap, _∙_}
 use mathlib.Core.List.{List}
 use mathlib.Core.Bool.{true, false, cond}
-use lib.ListN.{length, getD}
+use lib.ListN.{length}
 use lib.Dec.{eqb}
 use native.Mathlib.Omega.{arith}
 use borrow.Author.Tests.{eqb-true, eqb-false, le-leb, lt-leb}
@@ -32,8 +32,11 @@ use Rattle.refusal.specs.Refusal.{ofFault}
 use Rattle.refusal.specs.declared.Refusal.{Refusal}
 use Rattle.refusal.specs.declared.Refusal.the-variants.{PastLength, UnknownBit, NoBit}
 use Rattle.bitset_form.specs.Policies.{bitPolicy}
-use Rattle.bitset_bit.specs.Bit.{bitByIndex, onLookup, bitByName, identified, onIdentityRead, bitPartsReading, bitWalked, bitReading}
-use Rattle.refusal.specs.Refusal.{onStop}
+use Rattle.bitset_form.specs.Parts.{bitParts}
+use Rattle.bitset_form.specs.declared.parts.BitParts.{BitParts}
+use Rattle.bitset_bit.specs.Bit.{bitByIndex, onLookup, bitByName, identified, onIdentityRead, bitPartsReading, bitReading}
+use Rattle.bitset_bit.specs.Walked.{bitWalked}
+use Rattle.refusal.specs.Refusal.{onStop, onWalk}
 use Rattle.bitset_form.specs.declared.Judgement.the-variants.{Refused}
 use Rattle.bitset_bit.specs.declared.Identity.{Identity}
 use Rattle.bitset_bit.specs.declared.Identity.the-variants.{Number, Neither}
@@ -70,34 +73,36 @@ module _ (s names : List ℕ) (name : Slot) (p : List ℕ) (ep : p ≡ partOf s 
 
 pub ruleset name-laws = (name-found, name-unknown)
 
-module _ (s names : List ℕ) (index name : Slot) where
-  pub identify-index : (n : ℕ) (r : IdentityRead) → n ≡ count names → index .present ≡ true → r ≡ bitByIndex s n index → r ≡ identified s names index name
+module _ (s names : List ℕ) (parts : BitParts) where
+  pub identify-index : (n : ℕ) (r : IdentityRead) → n ≡ count names → parts .index .present ≡ true → r ≡ bitByIndex s n (parts .index)
+      → r ≡ identified s names parts
   unfolding identified
-  identify-index n r en h e = e ∙ ap (λ (x : ℕ). bitByIndex s x index) en ∙ sym (cond-true (index .present) _ _ h)
+  identify-index n r en h e = e ∙ ap (λ (x : ℕ). bitByIndex s x (parts .index)) en ∙ sym (cond-true (parts .index .present) _ _ h)
 
-  pub identify-name : (r : IdentityRead) → index .present ≡ false → name .present ≡ true → r ≡ bitByName s names name → r ≡ identified s names index name
+  pub identify-name : (r : IdentityRead) → parts .index .present ≡ false → parts .name .present ≡ true → r ≡ bitByName s names (parts .name)
+      → r ≡ identified s names parts
   unfolding identified
-  identify-name r h g e = e ∙ sym (cond-false (index .present) _ _ h ∙ cond-true (name .present) _ _ g)
+  identify-name r h g e = e ∙ sym (cond-false (parts .index .present) _ _ h ∙ cond-true (parts .name .present) _ _ g)
 
-  pub identify-neither : index .present ≡ false → name .present ≡ false → L.Read Neither ≡ identified s names index name
+  pub identify-neither : parts .index .present ≡ false → parts .name .present ≡ false → L.Read Neither ≡ identified s names parts
   unfolding identified
-  identify-neither h g = sym (cond-false (index .present) _ _ h ∙ cond-false (name .present) _ _ g)
+  identify-neither h g = sym (cond-false (parts .index .present) _ _ h ∙ cond-false (parts .name .present) _ _ g)
 
 pub ruleset identify-laws = (identify-index, identify-name, identify-neither)
 
-module _ (s names : List ℕ) (at : ℕ) (index name on : Slot) (l : IdentityRead) (el : l ≡ identified s names index name) where
-  pub parts-refused : (r : Refusal) → l ≡ L.Refused r → B.Refused r ≡ bitPartsReading s names at index name on
+module _ (s names : List ℕ) (at : ℕ) (parts : BitParts) (l : IdentityRead) (el : l ≡ identified s names parts) where
+  pub parts-refused : (r : Refusal) → l ≡ L.Refused r → B.Refused r ≡ bitPartsReading s names at parts
   unfolding bitPartsReading
-  parts-refused r h = sym (ap (λ (x : IdentityRead). onIdentityRead x at (on .present)) (sym el ∙ h))
+  parts-refused r h = sym (ap (λ (x : IdentityRead). onIdentityRead x at (parts .on .present)) (sym el ∙ h))
 
   module _ (i : Identity) (h : l ≡ L.Read i) where
-    pub parts-neither : i ≡ Neither → B.Refused (NoBit at) ≡ bitPartsReading s names at index name on
+    pub parts-neither : i ≡ Neither → B.Refused (NoBit at) ≡ bitPartsReading s names at parts
     unfolding bitPartsReading
-    parts-neither g = sym (ap (λ (x : IdentityRead). onIdentityRead x at (on .present)) (sym el ∙ h ∙ ap L.Read g))
+    parts-neither g = sym (ap (λ (x : IdentityRead). onIdentityRead x at (parts .on .present)) (sym el ∙ h ∙ ap L.Read g))
 
-    pub parts-number : (k : ℕ) → i ≡ Number k → B.Bit k (on .present) ≡ bitPartsReading s names at index name on
+    pub parts-number : (k : ℕ) → i ≡ Number k → B.Bit k (parts .on .present) ≡ bitPartsReading s names at parts
     unfolding bitPartsReading
-    parts-number k g = sym (ap (λ (x : IdentityRead). onIdentityRead x at (on .present)) (sym el ∙ h ∙ ap L.Read g))
+    parts-number k g = sym (ap (λ (x : IdentityRead). onIdentityRead x at (parts .on .present)) (sym el ∙ h ∙ ap L.Read g))
 
 pub ruleset parts-laws = (parts-refused, parts-neither, parts-number)
 
@@ -134,19 +139,18 @@ pub ruleset rule-laws = (rule-index, rule-name, rule-on, rule-other, by-rule)
 
 -- the slots of a BIT whose walk is whole: the last of each type, the slots given where there is none
 abbrev lastParts : Attributes → Slot → Slot → Slot → BitWalk
-lastParts xs i n o = W.Parts (lastOfType 1 i xs) (lastOfType 2 n xs) (lastOfType 3 o xs)
+lastParts xs i n o = W.Parts (record { index = lastOfType 1 i xs; name = lastOfType 2 n xs; on = lastOfType 3 o xs })
 
 -- a BIT that is walked as far as a place, with slots i, n, o of its three types
 abbrev pub BitFrom : List ℕ → ℕ → Slot → Slot → Slot → ℕ → Type 0
 BitFrom s from i n o at = bitWalked s from ≡ onStop (firstFault bitPolicy s (attributes s at)) W.Refused (lastParts (attributes s at) i n o)
 
 pub bit-start : (s : List ℕ) (from : ℕ) (i n o : Slot) → i ≡ absent → n ≡ absent → o ≡ absent → BitFrom s from i n o from
-unfolding bitWalked walked
+unfolding bitWalked walked bitParts
 bit-start s from i n o ei en eo = rw (ei, en, eo) (go (firstFault bitPolicy s (attributes s from)))
   where
     go : (t : Stop)
-        → onStop (walkStop t (eachType (λ kind. lastOfType kind absent (attributes s from))) .stop) W.Refused
-        (W.Parts (getD (walkStop t (eachType (λ kind. lastOfType kind absent (attributes s from))) .slots) 1 absent) (getD (walkStop t (eachType (λ kind. lastOfType kind absent (attributes s from))) .slots) 2 absent) (getD (walkStop t (eachType (λ kind. lastOfType kind absent (attributes s from))) .slots) 3 absent))
+        → onWalk (walkStop t (eachType (λ kind. lastOfType kind absent (attributes s from)))) W.Refused (λ slots. W.Parts (bitParts slots))
         ≡ onStop t W.Refused (lastParts (attributes s from) absent absent absent)
     go S.Whole = refl
     go (S.At f at) = refl
@@ -158,7 +162,7 @@ module _ (s : List ℕ) (from : ℕ) (i n o : Slot) (at : ℕ) (inv : BitFrom s 
   bit-step : bitWalked s from ≡ reading (onRead r at (attributes s))
   bit-step = inv ∙ ap reading (attributes-step s at ∙ ap (λ (x : AttributeRead). onRead x at (attributes s)) (sym e))
 
-  pub bit-end : r ≡ A.End → W.Parts i n o ≡ bitWalked s from
+  pub bit-end : r ≡ A.End → W.Parts (record { index = i; name = n; on = o }) ≡ bitWalked s from
   unfolding firstFault lastOfType
   bit-end q = sym (rw q at bit-step)
 
@@ -228,28 +232,23 @@ pub ruleset bit-laws = (bit-start, bit-end, bit-broken, bit-less, bit-wrong, bit
 module _ (s names : List ℕ) (from : ℕ) (w : BitWalk) (e : w ≡ bitWalked s from) where
   pub bit-refused : (y : Refusal) → w ≡ W.Refused y → B.Refused y ≡ bitReading s names from
   unfolding bitWalked bitReading
-  bit-refused y q = go (walked bitPolicy s from .stop) (sym q ∙ e)
+  bit-refused y q = go (walked bitPolicy s from .stop) (bitParts (walked bitPolicy s from .slots)) (sym q ∙ e)
     where
-      go : (t : Stop)
-          → W.Refused y
-          ≡ onStop t W.Refused (W.Parts (getD (walked bitPolicy s from .slots) 1 absent) (getD (walked bitPolicy s from .slots) 2 absent) (getD (walked bitPolicy s from .slots) 3 absent))
-          → B.Refused y
-          ≡ onStop t B.Refused
-          (bitPartsReading s names (from - 4) (getD (walked bitPolicy s from .slots) 1 absent) (getD (walked bitPolicy s from .slots) 2 absent) (getD (walked bitPolicy s from .slots) 3 absent))
-      go S.Whole q = absurd (let c : _≡_ {A = ℕ} 0 1 = cc in omega arith)
-      go (S.At f at) q = ap B.Refused cc
+      go : (t : Stop) (parts : BitParts) → W.Refused y ≡ onStop t W.Refused (W.Parts parts)
+          → B.Refused y ≡ onStop t B.Refused (bitPartsReading s names (from - 4) parts)
+      go S.Whole parts q = absurd (let c : _≡_ {A = ℕ} 0 1 = cc in omega arith)
+      go (S.At f at) parts q = ap B.Refused cc
 
-  pub bit-parts : (i n o : Slot) (p : ℕ) (y : BitRead) → w ≡ W.Parts i n o → p ≡ from - 4 → y ≡ bitPartsReading s names p i n o → y ≡ bitReading s names from
+  pub bit-parts : (parts : BitParts) (p : ℕ) (y : BitRead) → w ≡ W.Parts parts → p ≡ from - 4 → y ≡ bitPartsReading s names p parts
+      → y ≡ bitReading s names from
   unfolding bitWalked bitReading
-  bit-parts i n o p y q ep ey = ey ∙ ap (λ (x : ℕ). bitPartsReading s names x i n o) ep ∙ go (walked bitPolicy s from .stop) (sym q ∙ e)
+  bit-parts parts p y q ep ey =
+      ey ∙ ap (λ (x : ℕ). bitPartsReading s names x parts) ep
+      ∙ go (walked bitPolicy s from .stop) (bitParts (walked bitPolicy s from .slots)) (sym q ∙ e)
     where
-      go : (t : Stop)
-          → W.Parts i n o
-          ≡ onStop t W.Refused (W.Parts (getD (walked bitPolicy s from .slots) 1 absent) (getD (walked bitPolicy s from .slots) 2 absent) (getD (walked bitPolicy s from .slots) 3 absent))
-          → bitPartsReading s names (from - 4) i n o
-          ≡ onStop t B.Refused
-          (bitPartsReading s names (from - 4) (getD (walked bitPolicy s from .slots) 1 absent) (getD (walked bitPolicy s from .slots) 2 absent) (getD (walked bitPolicy s from .slots) 3 absent))
-      go S.Whole q = cc
-      go (S.At f at) q = absurd (let c : _≡_ {A = ℕ} 0 1 = cc in omega arith)
+      go : (t : Stop) (found : BitParts) → W.Parts parts ≡ onStop t W.Refused (W.Parts found)
+          → bitPartsReading s names (from - 4) parts ≡ onStop t B.Refused (bitPartsReading s names (from - 4) found)
+      go S.Whole found q = cc
+      go (S.At f at) found q = absurd (let c : _≡_ {A = ℕ} 0 1 = cc in omega arith)
 
 pub ruleset judge-bit-laws = (bit-refused, bit-parts)

@@ -2,23 +2,22 @@
 use Prim.Native.Nat.{ℕ, _-_}
 use mathlib.Core.Bool.{Bool, cond}
 use mathlib.Core.List.{List}
-use lib.ListN.{getD}
 use lib.Dec.{leb}
 use Rattle.entries.specs.Entry.{count}
 use Rattle.names.specs.Search.{lookup}
 use Rattle.names.specs.declared.Lookup.{Lookup}
 use Rattle.netlink_attributes.specs.Attributes.{partOf}
-use Rattle.netlink.specs.Walk.{absent, walked, slotNumber}
+use Rattle.netlink.specs.Walk.{walked, slotNumber}
 use Rattle.netlink.specs.declared.walk.Slot.{Slot}
-use Rattle.refusal.specs.Refusal.{onStop}
+use Rattle.refusal.specs.Refusal.{onWalk}
 use Rattle.refusal.specs.declared.Refusal.the-variants.{PastLength, UnknownBit, NoBit}
 use Rattle.bitset_form.specs.Policies.{bitPolicy}
+use Rattle.bitset_form.specs.Parts.{bitParts}
+use Rattle.bitset_form.specs.declared.parts.BitParts.{BitParts}
 use Rattle.bitset_bit.specs.declared.Identity.{Identity}
 use Rattle.bitset_bit.specs.declared.Identity.the-variants.{Number, Neither}
 use Rattle.bitset_bit.specs.declared.IdentityRead.{IdentityRead}
 use Rattle.bitset_bit.specs.declared.IdentityRead.the-variants as L
-use Rattle.bitset_bit.specs.declared.BitWalk.{BitWalk}
-use Rattle.bitset_bit.specs.declared.BitWalk.the-variants as W
 use Rattle.bitset_bit.specs.declared.BitRead.{BitRead}
 use Rattle.bitset_bit.specs.declared.BitRead.the-variants as B
 
@@ -34,9 +33,10 @@ unfoldable pub bitByName : List ℕ → List ℕ → Slot → IdentityRead
 bitByName s names name = onLookup (lookup names (partOf s (name .start) (name .end))) (name .start - 4)
 
 -- INDEX decides where both stand
-unfoldable pub identified : List ℕ → List ℕ → Slot → Slot → IdentityRead
-identified s names index name =
-    cond (index .present) (bitByIndex s (count names) index) (cond (name .present) (bitByName s names name) (L.Read Neither))
+unfoldable pub identified : List ℕ → List ℕ → BitParts → IdentityRead
+identified s names parts =
+    cond (parts .index .present) (bitByIndex s (count names) (parts .index))
+    (cond (parts .name .present) (bitByName s names (parts .name)) (L.Read Neither))
 
 -- a BIT with neither: 22
 abbrev pub onIdentity : Identity → ℕ → Bool → BitRead
@@ -48,23 +48,10 @@ onIdentityRead (L.Read identity) at on = onIdentity identity at on
 onIdentityRead (L.Refused r) at on = B.Refused r
 
 -- the parts of the BIT at a place: INDEX, NAME and the VALUE flag
-unfoldable pub bitPartsReading : List ℕ → List ℕ → ℕ → Slot → Slot → Slot → BitRead
-bitPartsReading s names at index name on = onIdentityRead (identified s names index name) at (on .present)
-
--- a BIT that is walked whole: its first fault, or the slots of its three types
-unfoldable pub bitWalked : List ℕ → ℕ → BitWalk
-bitWalked s from =
-    onStop (walked bitPolicy s from .stop) W.Refused
-    (W.Parts
-    (getD (walked bitPolicy s from .slots) 1 absent)
-    (getD (walked bitPolicy s from .slots) 2 absent)
-    (getD (walked bitPolicy s from .slots) 3 absent))
+unfoldable pub bitPartsReading : List ℕ → List ℕ → ℕ → BitParts → BitRead
+bitPartsReading s names at parts = onIdentityRead (identified s names parts) at (parts .on .present)
 
 -- the BIT whose contents are the bytes of s from a position on: walked whole, then judged
 unfoldable pub bitReading : List ℕ → List ℕ → ℕ → BitRead
 bitReading s names from =
-    onStop (walked bitPolicy s from .stop) B.Refused
-    (bitPartsReading s names (from - 4)
-    (getD (walked bitPolicy s from .slots) 1 absent)
-    (getD (walked bitPolicy s from .slots) 2 absent)
-    (getD (walked bitPolicy s from .slots) 3 absent))
+    onWalk (walked bitPolicy s from) B.Refused (λ slots. bitPartsReading s names (from - 4) (bitParts slots))

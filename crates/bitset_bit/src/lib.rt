@@ -1,16 +1,19 @@
 // One BIT of a bit list: walked whole, then judged.
 ghost use mathlib.Core.Path.{_≡_};
-ghost use Rattle.bitset_bit.specs.Bit.{bitWalked, bitByIndex, bitByName, identified, bitPartsReading, bitReading};
+ghost use Rattle.bitset_bit.specs.Bit.{bitByIndex, bitByName, identified, bitPartsReading, bitReading};
+ghost use Rattle.bitset_bit.specs.Walked.{bitWalked};
 ghost use Rattle.netlink.specs.Policy.{ruleOf, judged};
-ghost use Rattle.netlink.specs.Walk.{absent, found};
 ghost use Rattle.bitset_form.specs.Policies.{bitPolicy};
 ghost use Rattle.entries.specs.Entry.{count};
 ghost use Rattle.entries.specs.Chain.{IndexedIf};
+use bitset_form::parts::BitParts;
 use netlink::policy::Fault;
 use netlink::policy::Rule;
 use netlink::policy::Verdict;
 use netlink::policy::judge_by_rule;
 use netlink::walk::Slot;
+use netlink::walk::absent_slot;
+use netlink::walk::found;
 use netlink::walk::slot_number;
 use netlink_attributes::AttributeRead;
 use netlink_attributes::payload;
@@ -37,30 +40,10 @@ pub enum BitRead {
     Refused(Refusal),
 }
 
-// What walking a BIT gives: the slots of its three types, or the first fault.
+// What walking a BIT gives: its parts, or the first fault.
 pub enum BitWalk {
-    Parts { index: Slot, name: Slot, on: Slot },
+    Parts(BitParts),
     Refused(Refusal),
-}
-
-fn absent() -> Slot
-    ensures { λ r. ⌜ r ≡ absent ⌝ }
-{
-    Slot {
-        present: false,
-        start: 0,
-        end: 0,
-    }
-}
-
-fn found(start: usize, end: usize) -> Slot
-    ensures { λ r. ⌜ r ≡ found start end ⌝ }
-{
-    Slot {
-        present: true,
-        start,
-        end,
-    }
 }
 
 fn bit_by_index(s: &[u8], n: usize, index: Slot) -> IdentityRead
@@ -104,12 +87,13 @@ fn identify(
     indexed: bool,
     head: &[u16],
     links: &[u16],
-    index: Slot,
-    name: Slot,
+    parts: BitParts,
 ) -> IdentityRead
     requires { ⌜ IndexedIf indexed (now names) (now head) (now links) ⌝ }
-    ensures { λ r. ⌜ r ≡ identified (now (s .entry)) (now (names .entry)) index name ⌝ }
+    ensures { λ r. ⌜ r ≡ identified (now (s .entry)) (now (names .entry)) parts ⌝ }
 {
+    let index = parts.index;
+    let name = parts.name;
     if index.present {
         return bit_by_index(s, names::count(names), index);
     }
@@ -127,19 +111,18 @@ fn judge_bit_parts(
     head: &[u16],
     links: &[u16],
     at: usize,
-    index: Slot,
-    name: Slot,
-    on: Slot,
+    parts: BitParts,
 ) -> BitRead
     requires { ⌜ IndexedIf indexed (now names) (now head) (now links) ⌝ }
-    ensures { λ r. ⌜ r ≡ bitPartsReading (now (s .entry)) (now (names .entry)) at index name on ⌝ }
+    ensures { λ r. ⌜ r ≡ bitPartsReading (now (s .entry)) (now (names .entry)) at parts ⌝ }
 {
-    match identify(s, names, indexed, head, links, index, name) {
+    match identify(s, names, indexed, head, links, parts) {
         IdentityRead::Refused(why) => BitRead::Refused(why),
         IdentityRead::Read(identity) => {
             let Identity::Number(number) = identity else {
                 return BitRead::Refused(Refusal::NoBit(at));
             };
+            let on = parts.on;
             BitRead::Bit {
                 number,
                 on: on.present,
@@ -164,14 +147,14 @@ fn judge_attribute(kind: u16, bits: u16, payload: &[u8]) -> Verdict
 fn walk_bit(s: &[u8], from: usize) -> BitWalk
     ensures { λ r. ⌜ r ≡ bitWalked (now (s .entry)) from ⌝ }
 {
-    let mut index = absent();
-    let mut name = absent();
-    let mut on = absent();
+    let mut index = absent_slot();
+    let mut name = absent_slot();
+    let mut on = absent_slot();
     let mut at = from;
     loop {
         match read_attribute(s, at) {
             AttributeRead::End => {
-                return BitWalk::Parts { index, name, on };
+                return BitWalk::Parts(BitParts { index, name, on });
             }
             AttributeRead::Broken => {
                 return BitWalk::Refused(of_fault(Fault::Length, at));
@@ -210,8 +193,8 @@ pub fn judge_bit(
 {
     match walk_bit(s, from) {
         BitWalk::Refused(why) => BitRead::Refused(why),
-        BitWalk::Parts { index, name, on } => {
-            judge_bit_parts(s, names, indexed, head, links, place(from), index, name, on)
+        BitWalk::Parts(parts) => {
+            judge_bit_parts(s, names, indexed, head, links, place(from), parts)
         }
     }
 }

@@ -16,8 +16,7 @@ use Rattle.bits.specs.Change.{merge}
 use Rattle.bits.proofs.Bit.{number-cong, test-zero}
 use Rattle.bits.proofs.Words.{length-wordsOf, getD-wordsOf, has-word}
 use Rattle.refusal.specs.declared.Refusal.{Refusal}
-use Rattle.bitset_form.specs.Form.{cutAt, both}
-use Rattle.bitset_form.specs.Bitset.{refusedAs, listedIn, onJudgement, underNomask}
+use Rattle.bitset_form.specs.Form.{cutAt, both, refusedAs, listedIn, onJudgement, underNomask}
 use Rattle.bitset_form.specs.declared.Form.{Form}
 use Rattle.bitset_form.specs.declared.Judgement.{Judgement}
 use Rattle.bitset_form.specs.declared.Judgement.the-variants.{Accepted, Refused}

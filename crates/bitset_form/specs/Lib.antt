@@ -1,3 +1,4 @@
 pub mod Policies
-pub mod Form
+pub mod Parts
 pub mod Bitset
+pub mod Form

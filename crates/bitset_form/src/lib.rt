@@ -2,10 +2,10 @@
 ghost use mathlib.Core.Path.{_≡_};
 ghost use Rattle.bits.specs.Set.{has, wordsOf, allBelow};
 ghost use Rattle.word_bytes.specs.Bytes.{wordsIn};
-ghost use Rattle.bitset_form.specs.Bitset.{refusedAs, listedIn, underNomask};
-ghost use Rattle.bitset_form.specs.Form.{cutAt, both};
+ghost use Rattle.bitset_form.specs.Form.{refusedAs, listedIn, underNomask, cutAt, both};
 use refusal::Refusal;
 
+pub mod parts;
 pub mod policies;
 
 // Sixteen words each, lowest first: a set has at most 512 bits.

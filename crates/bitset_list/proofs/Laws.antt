@@ -19,7 +19,6 @@ use Rattle.netlink_attributes.specs.declared.Attribute.{Attribute}
 use Rattle.netlink_attributes.specs.declared.AttributeRead.the-variants as A
 use Rattle.netlink.specs.declared.policy.Fault.{Fault}
 use Rattle.netlink.specs.declared.policy.Rule.{Rule}
-use Rattle.netlink.specs.declared.walk.Slot.{Slot}
 use Rattle.netlink.specs.declared.walk.Stop.{Stop}
 use Rattle.netlink.specs.declared.walk.Stop.the-variants as S
 use Rattle.netlink.specs.declared.walk.Walked.{Walked}
@@ -27,13 +26,15 @@ use Rattle.netlink_attributes.proofs.Laws.{Bounded, bounded, attributes-step}
 use Rattle.refusal.specs.Refusal.{ofFault}
 use Rattle.refusal.specs.declared.Refusal.{Refusal}
 use Rattle.bitset_form.specs.Policies.{bitsPolicy}
-use Rattle.bitset_form.specs.Bitset.{maskOf, valueOf, refusedAs, judgedAs, listedIn, underNomask}
-use Rattle.bitset_form.specs.Bitset.Bitset.{maskedList}
+use Rattle.bitset_form.specs.declared.parts.BitsetParts.{BitsetParts}
+use Rattle.bitset_form.specs.Bitset.{maskOf, valueOf}
+use Rattle.bitset_form.specs.Form.{refusedAs, judgedAs, listedIn, underNomask}
 use Rattle.bitset_form.specs.Bitset.Reading.{refused}
 use Rattle.bitset_bit.specs.Bit.{bitReading}
 use Rattle.refusal.specs.Refusal.{onStop}
-use Rattle.bitset_list.specs.BitList.{ListReading, onBit, bitsReading, listJudged, asBitset, listReading}
+use Rattle.bitset_list.specs.BitList.{ListReading, onBit, bitsReading, asBitset, listReading}
 use Rattle.bitset_list.specs.BitList.ListReading.{listRefused, listEntries}
+use Rattle.bitset_list.specs.Judged.{listJudged}
 use Rattle.bitset_form.specs.declared.Form.{Form}
 use Rattle.bitset_form.specs.declared.Judgement.the-variants.{Accepted, Refused}
 use Rattle.bitset_form.specs.declared.Judged.{Judged}
@@ -161,42 +162,42 @@ module _ (s names : List ℕ) (from : ℕ) (f : Form) (at : ℕ) (inv : BitsFrom
 pub ruleset bits-laws = (bits-start, bits-end, bits-broken, bits-less, bits-refused, bits-more)
 
 -- the whole list
-module _ (s names : List ℕ) (nomask bits : Slot) (c : List ℕ) (ec : c ≡ partOf s 0 (bits .end))
-    (p : List Rule) (ep : p ≡ bitsPolicy) (w : Walked) (ew : w ≡ walked p c (bits .start)) where
-  by-bits : listReading s names nomask bits
-      ≡ onStop (w .stop) refused (asBitset (nomask .present) (bitsReading c names (attributes c (bits .start))))
+module _ (s names : List ℕ) (parts : BitsetParts) (c : List ℕ) (ec : c ≡ partOf s 0 (parts .bits .end))
+    (p : List Rule) (ep : p ≡ bitsPolicy) (w : Walked) (ew : w ≡ walked p c (parts .bits .start)) where
+  by-bits : listReading s names parts
+      ≡ onStop (w .stop) refused (asBitset (parts .nomask .present) (bitsReading c names (attributes c (parts .bits .start))))
   unfolding listReading
   by-bits =
-      ap (λ (x : List ℕ). onStop (walked bitsPolicy x (bits .start) .stop) refused (asBitset (nomask .present) (bitsReading x names (attributes x (bits .start))))) (sym ec)
-      ∙ ap (λ (x : Stop). onStop x refused (asBitset (nomask .present) (bitsReading c names (attributes c (bits .start)))))
-      (ap (λ (x : Walked). x .stop) (sym (ew ∙ ap (λ (x : List Rule). walked x c (bits .start)) ep)))
+      ap (λ (x : List ℕ). onStop (walked bitsPolicy x (parts .bits .start) .stop) refused (asBitset (parts .nomask .present) (bitsReading x names (attributes x (parts .bits .start))))) (sym ec)
+      ∙ ap (λ (x : Stop). onStop x refused (asBitset (parts .nomask .present) (bitsReading c names (attributes c (parts .bits .start)))))
+      (ap (λ (x : Walked). x .stop) (sym (ew ∙ ap (λ (x : List Rule). walked x c (parts .bits .start)) ep)))
 
   pub list-fault : (f : Fault) (at : ℕ) (y : Refusal) (r : Judged) → w .stop ≡ S.At f at → y ≡ ofFault f at → r ≡ refusedAs y
-      → r ≡ judgedAs (count names) (listReading s names nomask bits)
+      → r ≡ judgedAs (count names) (listReading s names parts)
   unfolding judgedAs
   list-fault f at y r q ey er =
-      er ∙ ap refusedAs ey ∙ sym (ap (judgedAs (count names)) (by-bits ∙ ap (λ (x : Stop). onStop x refused (asBitset (nomask .present) (bitsReading c names (attributes c (bits .start))))) q))
+      er ∙ ap refusedAs ey ∙ sym (ap (judgedAs (count names)) (by-bits ∙ ap (λ (x : Stop). onStop x refused (asBitset (parts .nomask .present) (bitsReading c names (attributes c (parts .bits .start))))) q))
 
-  module _ (q : w .stop ≡ S.Whole) (j : Judged) (ej : j ≡ listJudged (bitsReading c names (attributes c (bits .start)))) where
-    whole-list : listReading s names nomask bits ≡ asBitset (nomask .present) (bitsReading c names (attributes c (bits .start)))
-    whole-list = by-bits ∙ ap (λ (x : Stop). onStop x refused (asBitset (nomask .present) (bitsReading c names (attributes c (bits .start))))) q
+  module _ (q : w .stop ≡ S.Whole) (j : Judged) (ej : j ≡ listJudged (bitsReading c names (attributes c (parts .bits .start)))) where
+    whole-list : listReading s names parts ≡ asBitset (parts .nomask .present) (bitsReading c names (attributes c (parts .bits .start)))
+    whole-list = by-bits ∙ ap (λ (x : Stop). onStop x refused (asBitset (parts .nomask .present) (bitsReading c names (attributes c (parts .bits .start))))) q
 
-    pub list-nomask : (n : ℕ) (r : Judged) → n ≡ count names → nomask .present ≡ true → r ≡ underNomask n j → r ≡ judgedAs (count names) (listReading s names nomask bits)
+    pub list-nomask : (n : ℕ) (r : Judged) → n ≡ count names → parts .nomask .present ≡ true → r ≡ underNomask n j → r ≡ judgedAs (count names) (listReading s names parts)
     unfolding underNomask judgedAs listJudged maskOf valueOf
     list-nomask n r en h er =
-        er ∙ ap (underNomask n) ej ∙ go (bitsReading c names (attributes c (bits .start)))
-        ∙ ap (λ (x : ℕ). judgedAs x (asBitset true (bitsReading c names (attributes c (bits .start))))) en
-        ∙ sym (ap (judgedAs (count names)) (whole-list ∙ ap (λ (t : Bool). asBitset t (bitsReading c names (attributes c (bits .start)))) h))
+        er ∙ ap (underNomask n) ej ∙ go (bitsReading c names (attributes c (parts .bits .start)))
+        ∙ ap (λ (x : ℕ). judgedAs x (asBitset true (bitsReading c names (attributes c (parts .bits .start))))) en
+        ∙ sym (ap (judgedAs (count names)) (whole-list ∙ ap (λ (t : Bool). asBitset t (bitsReading c names (attributes c (parts .bits .start)))) h))
       where
         go : (x : ListReading) → underNomask n (listJudged x) ≡ judgedAs n (asBitset true x)
         go (listRefused r) = refl
         go (listEntries es) = refl
 
-    pub list-masked : nomask .present ≡ false → j ≡ judgedAs (count names) (listReading s names nomask bits)
+    pub list-masked : parts .nomask .present ≡ false → j ≡ judgedAs (count names) (listReading s names parts)
     unfolding judgedAs listJudged maskOf valueOf
     list-masked h =
-        ej ∙ go (bitsReading c names (attributes c (bits .start)))
-        ∙ sym (ap (judgedAs (count names)) (whole-list ∙ ap (λ (t : Bool). asBitset t (bitsReading c names (attributes c (bits .start)))) h))
+        ej ∙ go (bitsReading c names (attributes c (parts .bits .start)))
+        ∙ sym (ap (judgedAs (count names)) (whole-list ∙ ap (λ (t : Bool). asBitset t (bitsReading c names (attributes c (parts .bits .start)))) h))
       where
         go : (x : ListReading) → listJudged x ≡ judgedAs (count names) (asBitset false x)
         go (listRefused r) = refl

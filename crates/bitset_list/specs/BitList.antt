@@ -2,20 +2,17 @@
 use Prim.Native.Nat.{ℕ}
 use mathlib.Core.Bool.{Bool, true, false}
 use mathlib.Core.List.{List, [], _∷_}
-use Rattle.bits.specs.Set.{wordsOf}
-use Rattle.bits.specs.Change.{Listed, listMask, listValue}
+use Rattle.bits.specs.Change.{Listed}
 use Rattle.netlink_attributes.specs.Attributes.{Attributes, attributes, partOf}
 use Rattle.netlink_attributes.specs.Attributes.Attributes.{done, broken, attribute}
 use Rattle.netlink.specs.Walk.{walked}
-use Rattle.netlink.specs.declared.walk.Slot.{Slot}
 use Rattle.refusal.specs.Refusal.{onStop}
 use Rattle.refusal.specs.declared.Refusal.{Refusal}
 use Rattle.bitset_form.specs.Policies.{bitsPolicy}
-use Rattle.bitset_form.specs.Bitset.{Reading, refusedAs}
+use Rattle.bitset_form.specs.declared.parts.BitsetParts.{BitsetParts}
+use Rattle.bitset_form.specs.Bitset.{Reading}
 use Rattle.bitset_form.specs.Bitset.Bitset.{maskedList, nomaskList}
 use Rattle.bitset_form.specs.Bitset.Reading.{refused, accepted}
-use Rattle.bitset_form.specs.declared.Judgement.the-variants.{Accepted}
-use Rattle.bitset_form.specs.declared.Judged.{Judged}
 use Rattle.bitset_bit.specs.Bit.{bitReading}
 use Rattle.bitset_bit.specs.declared.BitRead.{BitRead}
 use Rattle.bitset_bit.specs.declared.BitRead.the-variants as B
@@ -37,19 +34,15 @@ bitsReading s names done = listEntries []
 bitsReading s names (broken at) = listEntries []
 bitsReading s names (attribute k b a e rest) = onBit (bitReading (partOf s 0 e) names a) (bitsReading s names rest)
 
--- the form of the listed bits, as judge_bits answers it
-unfoldable pub listJudged : ListReading → Judged
-listJudged (listRefused r) = refusedAs r
-listJudged (listEntries es) =
-    record { judgement = Accepted; form = record { mask = wordsOf 16 (listMask es); value = wordsOf 16 (listValue es) } }
-
 -- a bit list, under NOMASK or not
 abbrev pub asBitset : Bool → ListReading → Reading
 asBitset nomask (listRefused r) = refused r
 asBitset true (listEntries es) = accepted (nomaskList es)
 asBitset false (listEntries es) = accepted (maskedList es)
 
-unfoldable pub listReading : List ℕ → List ℕ → Slot → Slot → Reading
-listReading s names nomask bits =
-    onStop (walked bitsPolicy (partOf s 0 (bits .end)) (bits .start) .stop) refused
-    (asBitset (nomask .present) (bitsReading (partOf s 0 (bits .end)) names (attributes (partOf s 0 (bits .end)) (bits .start))))
+-- the parts of a bitset with BITS
+unfoldable pub listReading : List ℕ → List ℕ → BitsetParts → Reading
+listReading s names parts =
+    onStop (walked bitsPolicy (partOf s 0 (parts .bits .end)) (parts .bits .start) .stop) refused
+    (asBitset (parts .nomask .present)
+    (bitsReading (partOf s 0 (parts .bits .end)) names (attributes (partOf s 0 (parts .bits .end)) (parts .bits .start))))

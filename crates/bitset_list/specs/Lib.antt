@@ -1,1 +1,2 @@
 pub mod BitList
+pub mod Judged

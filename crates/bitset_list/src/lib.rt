@@ -1,8 +1,9 @@
 // A bit list: BITS, and in it any number of BITs.
 ghost use mathlib.Core.Path.{_≡_};
 ghost use Rattle.netlink_attributes.specs.Attributes.{attributes};
-ghost use Rattle.bitset_form.specs.Bitset.{judgedAs};
-ghost use Rattle.bitset_list.specs.BitList.{bitsReading, listReading, listJudged};
+ghost use Rattle.bitset_form.specs.Form.{judgedAs};
+ghost use Rattle.bitset_list.specs.BitList.{bitsReading, listReading};
+ghost use Rattle.bitset_list.specs.Judged.{listJudged};
 ghost use Rattle.bitset_form.specs.declared.Judgement.the-variants.{Accepted};
 ghost use Rattle.entries.specs.Entry.{count};
 ghost use Rattle.entries.specs.Chain.{IndexedIf};
@@ -12,10 +13,10 @@ use bitset_form::Form;
 use bitset_form::Judged;
 use bitset_form::Judgement;
 use bitset_form::list_bit;
+use bitset_form::parts::BitsetParts;
 use bitset_form::policies::bits_policy;
 use bitset_form::refused;
 use bitset_form::under_nomask;
-use netlink::walk::Slot;
 use netlink::walk::Stop;
 use netlink::walk::walk;
 use netlink_attributes::AttributeRead;
@@ -71,9 +72,10 @@ fn judge_bits(
 }
 
 // BITS is walked whole before the first BIT is opened.
-pub fn judge_list(s: &[u8], names: &[u8], nomask: Slot, bits: Slot) -> Judged
-    ensures { λ r. ⌜ r ≡ judgedAs (count (now (names .entry))) (listReading (now (s .entry)) (now (names .entry)) nomask bits) ⌝ }
+pub fn judge_list(s: &[u8], names: &[u8], parts: BitsetParts) -> Judged
+    ensures { λ r. ⌜ r ≡ judgedAs (count (now (names .entry))) (listReading (now (s .entry)) (now (names .entry)) parts) ⌝ }
 {
+    let bits = parts.bits;
     let contents = payload(s, 0, bits.end);
     let walked = walk(bits_policy(), contents, bits.start);
     let stop = walked.stop;
@@ -84,6 +86,7 @@ pub fn judge_list(s: &[u8], names: &[u8], nomask: Slot, bits: Slot) -> Judged
     let mut links = [0u16; 512];
     let indexed = name_index::index(names, &mut head, &mut links);
     let judged = judge_bits(contents, names, indexed, &head, &links, bits.start);
+    let nomask = parts.nomask;
     if nomask.present {
         return under_nomask(judged, names::count(names));
     }

@@ -1,20 +1,21 @@
 -- One BIT behind other bytes.
 use Prim.Native.Nat.{ℕ, _+_, _-_, _≤_}
-use mathlib.Core.Path.{_≡_, refl}
+use mathlib.Core.Path.{_≡_, refl, ap, _∙_}
 use mathlib.Core.List.{List, _++_}
 use mathlib.Core.Bool.{Bool, true, false, cond}
-use lib.ListN.{length, getD}
+use lib.ListN.{length}
 use lib.Dec.{leb}
-use native.Mathlib.Omega.{arith}
 use Rattle.entries.specs.Entry.{count}
 use Rattle.names.specs.Search.{lookup}
 use Rattle.netlink_attributes.specs.Attributes.{partOf}
-use Rattle.netlink.specs.Walk.{found, absent, walked, slotNumber}
+use Rattle.netlink.specs.Walk.{found, walked, slotNumber}
 use Rattle.netlink.specs.declared.walk.Slot.{Slot}
 use Rattle.netlink.specs.declared.walk.Stop.the-variants.{Whole}
 use Rattle.refusal.specs.declared.Refusal.{Refusal}
 use Rattle.refusal.specs.declared.Refusal.the-variants.{PastLength, UnknownBit}
 use Rattle.bitset_form.specs.Policies.{bitPolicy}
+use Rattle.bitset_form.specs.Parts.{bitParts}
+use Rattle.bitset_form.specs.declared.parts.BitParts.{BitParts}
 use Rattle.bitset_bit.specs.Bit.{bitByIndex, bitByName, identified, onIdentityRead, bitPartsReading, bitReading}
 use Rattle.bitset_bit.specs.declared.Identity.{Identity}
 use Rattle.bitset_bit.specs.declared.Identity.the-variants.{Number, Neither}
@@ -24,8 +25,9 @@ use Rattle.bitset_bit.specs.declared.BitRead.{BitRead}
 use Rattle.bitset_bit.specs.declared.BitRead.the-variants as B
 use Rattle.bitset_moved.specs.Moved.{moved}
 use Rattle.bitset_moved.proofs.Attributes.{part-moved}
-use Rattle.bitset_moved.proofs.Walk.{Shift, there, place, number-moved, stop-moved, slot-moved, on-stop}
+use Rattle.bitset_moved.proofs.Walk.{Shift, there, place, number-moved, stop-moved, on-stop}
 use Rattle.bitset_moved.proofs.Walk.Shift.{none, some}
+use Rattle.bitset_moved.proofs.Parts.{ShiftBit, bit-parts}
 
 abbrev movedLooked : ℕ → IdentityRead → IdentityRead
 movedLooked by (L.Read identity) = L.Read identity
@@ -52,35 +54,34 @@ looked-moved by (L.Read Neither) at on = refl
 looked-moved by (L.Refused why) at on = refl
 
 module _ (pre s names : List ℕ) where
-  identified-moved : {index index′ name name′ : Slot} → Shift (length pre) (length s) index index′ → Shift (length pre) (length s) name name′
-      → identified (pre ++ s) names index′ name′ ≡ movedLooked (length pre) (identified s names index name)
+  identified-moved : (on on′ : Slot) {index index′ name name′ : Slot} → Shift (length pre) (length s) index index′ → Shift (length pre) (length s) name name′
+      → identified (pre ++ s) names (record { index = index′; name = name′; on = on′ })
+      ≡ movedLooked (length pre) (identified s names (record { index = index; name = name; on = on }))
   unfolding identified bitByIndex bitByName
-  identified-moved (some a e l u h) name =
+  identified-moved on on′ (some a e l u h) name =
       rw (number-moved pre s (some a e l u h), place (length pre) a l)
       (past (length pre) (leb (count names) (slotNumber s (found a e))) (PastLength (a - 4)) (Number (slotNumber s (found a e))))
-  identified-moved none (some a e l u h) =
+  identified-moved on on′ none (some a e l u h) =
       let found = lookup names (partOf s a e) in
       rw (part-moved pre s a e, place (length pre) a l)
       (known (length pre) (found .found) (UnknownBit (a - 4)) (Number (found .bit)))
-  identified-moved none none = refl
+  identified-moved on on′ none none = refl
 
-  parts-moved : (at : ℕ) {index index′ name name′ on on′ : Slot} → Shift (length pre) (length s) index index′
-      → Shift (length pre) (length s) name name′ → Shift (length pre) (length s) on on′
-      → bitPartsReading (pre ++ s) names (length pre + at) index′ name′ on′ ≡ movedBit (length pre) (bitPartsReading s names at index name on)
+  parts-moved : (at : ℕ) {p q : BitParts} → ShiftBit (length pre) (length s) p q
+      → bitPartsReading (pre ++ s) names (length pre + at) q ≡ movedBit (length pre) (bitPartsReading s names at p)
   unfolding bitPartsReading
-  parts-moved at {index} {index′} {name} {name′} {on} {on′} i n o =
-      rw (identified-moved i n, there o) (looked-moved (length pre) (identified s names index name) at (on .present))
+  parts-moved at {p} {q} shift =
+      ap (λ (x : IdentityRead). onIdentityRead x (length pre + at) (q .on .present)) (identified-moved (p .on) (q .on) (shift .index) (shift .name))
+      ∙ ap (onIdentityRead (movedLooked (length pre) (identified s names p)) (length pre + at)) (there (shift .on))
+      ∙ looked-moved (length pre) (identified s names p) at (p .on .present)
 
   pub bit-moved : (from : ℕ) → 4 ≤ from → bitReading (pre ++ s) names (length pre + from) ≡ movedBit (length pre) (bitReading s names from)
   unfolding bitReading
   bit-moved from l =
-      let moves = slot-moved pre s bitPolicy from in
-      let slot : ℕ → Slot = λ kind. getD (walked bitPolicy s from .slots) kind absent in
-      let slot′ : ℕ → Slot = λ kind. getD (walked bitPolicy (pre ++ s) (length pre + from) .slots) kind absent in
-      on-stop (length pre) (movedBit (length pre)) B.Refused (λ r. refl) (walked bitPolicy s from .stop) (walked bitPolicy (pre ++ s) (length pre + from) .stop)
-      (bitPartsReading s names (from - 4) (slot 1) (slot 2) (slot 3))
-      (bitPartsReading (pre ++ s) names (length pre + from - 4) (slot′ 1) (slot′ 2) (slot′ 3))
+      let w = walked bitPolicy s from in
+      let w′ = walked bitPolicy (pre ++ s) (length pre + from) in
+      on-stop (length pre) (movedBit (length pre)) B.Refused (λ r. refl) (w .stop) (w′ .stop)
+      (bitPartsReading s names (from - 4) (bitParts (w .slots)))
+      (bitPartsReading (pre ++ s) names (length pre + from - 4) (bitParts (w′ .slots)))
       (stop-moved pre s bitPolicy from)
-      (λ (w : walked bitPolicy s from .stop ≡ Whole).
-      rw (place (length pre) from l)
-      (parts-moved (from - 4) (moves w 1 (omega arith)) (moves w 2 (omega arith)) (moves w 3 (omega arith))))
+      (λ (whole : w .stop ≡ Whole). rw (place (length pre) from l) (parts-moved (from - 4) (bit-parts pre s from whole)))

@@ -1,5 +1,5 @@
 -- A bit list behind other bytes.
-use Prim.Native.Nat.{ℕ, _+_, _≤_}
+use Prim.Native.Nat.{ℕ, _+_}
 use mathlib.Core.Path.{_≡_, refl}
 use mathlib.Core.List.{List, _++_}
 use mathlib.Core.Bool.{Bool, true, false}
@@ -9,10 +9,13 @@ use Rattle.netlink_attributes.specs.Attributes.{Attributes, attributes, partOf}
 use Rattle.netlink_attributes.specs.Attributes.Attributes.{done, broken, attribute}
 use Rattle.netlink_attributes.specs.Claims.{Apart}
 use Rattle.netlink_attributes.proofs.Apart.{apart}
-use Rattle.netlink.specs.Walk.{found, walked}
+use Rattle.netlink.specs.Walk.{walked}
 use Rattle.netlink.specs.declared.walk.Slot.{Slot}
 use Rattle.netlink.specs.declared.walk.Stop.the-variants.{Whole}
+use Rattle.refusal.specs.Refusal.{onStop}
 use Rattle.bitset_form.specs.Policies.{bitsPolicy}
+use Rattle.bitset_form.specs.declared.parts.BitsetParts.{BitsetParts}
+use Rattle.bitset_form.specs.Bitset.{Reading}
 use Rattle.bitset_form.specs.Bitset.Reading.{refused}
 use Rattle.bitset_bit.specs.Bit.{bitReading}
 use Rattle.bitset_bit.specs.declared.BitRead.{BitRead}
@@ -22,6 +25,8 @@ use Rattle.bitset_list.specs.BitList.ListReading.{listRefused, listEntries}
 use Rattle.bitset_moved.specs.Moved.{moved, movedReading}
 use Rattle.bitset_moved.proofs.Attributes.{movedAll, front-moved, attributes-moved}
 use Rattle.bitset_moved.proofs.Walk.{Shift, there, stop-moved, on-stop}
+use Rattle.bitset_moved.proofs.Walk.Shift.{none, some}
+use Rattle.bitset_moved.proofs.Parts.{ShiftBitset}
 use Rattle.bitset_moved.proofs.Bit.{movedBit, bit-moved}
 
 abbrev movedList : ℕ → ListReading → ListReading
@@ -52,17 +57,25 @@ module _ (pre names : List ℕ) where
       rw (front-moved pre s e (q .3), bit-moved pre (partOf s 0 e) names a (omega arith), bits-moved s (q .5 .0) rest (q .5 .3))
       (on-bit (length pre) (bitReading (partOf s 0 e) names a) (bitsReading s names rest))
 
-  module _ (s : List ℕ) {nomask nomask′ : Slot} (o : Shift (length pre) (length s) nomask nomask′) (a e : ℕ) (inside : e ≤ length s) where
-    pub list-moved : listReading (pre ++ s) names nomask′ (found (length pre + a) (length pre + e))
-        ≡ movedReading (length pre) (listReading s names nomask (found a e))
-    unfolding listReading
-    list-moved =
-        let p = partOf s 0 e in
-        rw (front-moved pre s e inside)
-        (on-stop (length pre) (movedReading (length pre)) refused (λ r. refl) (walked bitsPolicy p a .stop) (walked bitsPolicy (pre ++ p) (length pre + a) .stop)
-        (asBitset (nomask .present) (bitsReading p names (attributes p a)))
-        (asBitset (nomask′ .present) (bitsReading (pre ++ p) names (attributes (pre ++ p) (length pre + a))))
-        (stop-moved pre p bitsPolicy a)
-        (λ (w : walked bitsPolicy p a .stop ≡ Whole).
-        rw (there o, attributes-moved pre p a, bits-moved p a (attributes p a) (apart p a))
-        (as-bitset (length pre) (nomask .present) (bitsReading p names (attributes p a)))))
+  -- a list by its BITS, under NOMASK or not
+  abbrev listBy : Bool → List ℕ → ℕ → Reading
+  listBy nomask p from = onStop (walked bitsPolicy p from .stop) refused (asBitset nomask (bitsReading p names (attributes p from)))
+
+  by-bits : (s : List ℕ) {nomask nomask′ : Bool} {x y : Slot} → nomask′ ≡ nomask → Shift (length pre) (length s) x y → x .present ≡ true
+      → listBy nomask′ (partOf (pre ++ s) 0 (y .end)) (y .start) ≡ movedReading (length pre) (listBy nomask (partOf s 0 (x .end)) (x .start))
+  by-bits s o none t = absurd (let z : _≡_ {A = ℕ} 0 1 = cc in omega arith)
+  by-bits s {nomask} o (some a e l u h) t =
+      let p = partOf s 0 e in
+      rw (o, front-moved pre s e h)
+      (on-stop (length pre) (movedReading (length pre)) refused (λ r. refl) (walked bitsPolicy p a .stop) (walked bitsPolicy (pre ++ p) (length pre + a) .stop)
+      (asBitset nomask (bitsReading p names (attributes p a)))
+      (asBitset nomask (bitsReading (pre ++ p) names (attributes (pre ++ p) (length pre + a))))
+      (stop-moved pre p bitsPolicy a)
+      (λ (w : walked bitsPolicy p a .stop ≡ Whole).
+      rw (attributes-moved pre p a, bits-moved p a (attributes p a) (apart p a))
+      (as-bitset (length pre) nomask (bitsReading p names (attributes p a)))))
+
+  pub list-moved : (s : List ℕ) {p q : BitsetParts} → ShiftBitset (length pre) (length s) p q → p .bits .present ≡ true
+      → listReading (pre ++ s) names q ≡ movedReading (length pre) (listReading s names p)
+  unfolding listReading
+  list-moved s shift t = by-bits s (there (shift .nomask)) (shift .bits) t

@@ -1,5 +1,6 @@
 pub mod Attributes
 pub mod Walk
+pub mod Parts
 pub mod Compact
 pub mod Bit
 pub mod BitList

@@ -8,7 +8,8 @@ use Rattle.entries.specs.Entry.{count}
 use Rattle.netlink_attributes.specs.Attributes.{partOf}
 use Rattle.netlink.specs.declared.walk.Slot.{Slot}
 use Rattle.refusal.specs.declared.Refusal.{Refusal}
-use Rattle.bitset_form.specs.Bitset.{Reading, judgedAs}
+use Rattle.bitset_form.specs.Bitset.{Reading}
+use Rattle.bitset_form.specs.Form.{judgedAs}
 use Rattle.bitset_form.specs.Bitset.Reading.{refused, accepted}
 use Rattle.bitset_form.specs.declared.Judgement.the-variants as J
 use Rattle.bitset_form.specs.declared.Judged.{Judged}

@@ -3,17 +3,18 @@ use Prim.Native.Nat.{ℕ, _-_}
 use mathlib.Core.Path.{_≡_, refl, sym, ap, _∙_}
 use mathlib.Core.List.{List, [], _∷_, _++_}
 use mathlib.Core.Bool.{Bool, true, false, _&&_, not, cond}
-use lib.ListN.{getD}
 use lib.Dec.{leb}
 use Rattle.entries.specs.Entry.{count}
 use Rattle.names.specs.Search.{lookup}
 use Rattle.netlink_attributes.specs.Attributes.{Attributes, attributes, partOf}
 use Rattle.netlink_attributes.specs.Attributes.Attributes.{done, broken, attribute}
-use Rattle.netlink.specs.Walk.{absent, walked, slotNumber}
-use Rattle.netlink.specs.declared.walk.Slot.{Slot}
+use Rattle.netlink.specs.Walk.{walked, slotNumber}
 use Rattle.refusal.specs.declared.Refusal.{Refusal}
 use Rattle.refusal.specs.declared.Refusal.the-variants.{MissingIn, ShortBitmap, PastLength, UnknownBit, NoBit}
 use Rattle.bitset_form.specs.Policies.{bitsetPolicy, bitsPolicy, bitPolicy}
+use Rattle.bitset_form.specs.Parts.{bitsetParts, bitParts}
+use Rattle.bitset_form.specs.declared.parts.BitsetParts.{BitsetParts}
+use Rattle.bitset_form.specs.declared.parts.BitParts.{BitParts}
 use Rattle.bitset_form.specs.Bitset.{Reading}
 use Rattle.bitset_form.specs.Bitset.Reading.{refused, accepted}
 use Rattle.bitset_compact.specs.Compact.{nomaskReading, maskedReading, compactReading}
@@ -30,7 +31,7 @@ use Rattle.bitset_bit.specs.declared.BitRead.the-variants as B
 use Rattle.response.specs.declared.Kind.{Kind}
 use Rattle.response.specs.declared.Kind.the-variants.{Done, Refused}
 use Rattle.demands.specs.Check.{Check, refuseIf, firstKind}
-use Rattle.demands.specs.Bitset.{mixedChecks, tooShort, pastEnd, compactChecks, partChecks, bitChecks, eachBit, listChecks, formChecks, bitsetChecks}
+use Rattle.demands.specs.Bitset.{mixedChecks, tooShort, pastEnd, compactChecks, unknownName, partChecks, bitChecks, eachBit, listChecks, formChecks, bitsetChecks}
 use Rattle.demands.proofs.First.{step, walk-step, pass, fault, no-more, first-append}
 
 -- the kind that a reading comes to
@@ -44,34 +45,36 @@ check : (t : Bool) (why : Refusal) (x : Reading) (checks : List Check) → kindO
 check t why x checks e = step kindOf Done t why (refused why) x checks refl e
 
 -- a compact bitset, under NOMASK or not
-module _ (s : List ℕ) (nest n : ℕ) (nomask size value mask : Slot) where
+module _ (s : List ℕ) (nest n : ℕ) (parts : BitsetParts) where
+  abbrev size : ℕ
+  size = slotNumber s (parts .size)
+
   form-first : (t : Bool)
-      → kindOf (cond t (nomaskReading s n (slotNumber s size) value) (maskedReading s nest n (slotNumber s size) value mask))
+      → kindOf (cond t (nomaskReading s n size parts) (maskedReading s nest n size parts))
       ≡ firstKind Done
-      (refuseIf (not t && not (mask .present)) (MissingIn 5 nest)
-      ∷ refuseIf (tooShort s (slotNumber s size) value) (ShortBitmap (value .start - 4))
-      ∷ refuseIf (not t && tooShort s (slotNumber s size) mask) (ShortBitmap (mask .start - 4))
-      ∷ refuseIf (not t && pastEnd s n (slotNumber s size) mask) (PastLength (mask .start - 4))
-      ∷ refuseIf (t && pastEnd s n (slotNumber s size) value) (PastLength (value .start - 4))
+      (refuseIf (not t && not (parts .mask .present)) (MissingIn 5 nest)
+      ∷ refuseIf (tooShort s size (parts .value)) (ShortBitmap (parts .value .start - 4))
+      ∷ refuseIf (not t && tooShort s size (parts .mask)) (ShortBitmap (parts .mask .start - 4))
+      ∷ refuseIf (not t && pastEnd s n size (parts .mask)) (PastLength (parts .mask .start - 4))
+      ∷ refuseIf (t && pastEnd s n size (parts .value)) (PastLength (parts .value .start - 4))
       ∷ [])
   unfolding nomaskReading maskedReading tooShort pastEnd
   form-first true = pass _ _ _ _ (check _ _ _ _ (pass _ _ _ _ (pass _ _ _ _ (check _ _ _ _ (no-more Done)))))
   form-first false = check _ _ _ _ (check _ _ _ _ (check _ _ _ _ (check _ _ _ _ (pass _ _ _ _ (no-more Done)))))
 
-  compact-first : kindOf (compactReading s nest n nomask size value mask) ≡ firstKind Done (compactChecks s nest n nomask size value mask)
+  compact-first : kindOf (compactReading s nest n parts) ≡ firstKind Done (compactChecks s nest n parts)
   unfolding compactReading compactChecks
-  compact-first = check _ _ _ _ (check _ _ _ _ (form-first (nomask .present)))
+  compact-first = check _ _ _ _ (check _ _ _ _ (form-first (parts .nomask .present)))
 
 -- 18, then the form
-module _ (nomask bits value mask : Slot) (rest : Reading) (checks : List Check) where
-  mixed-first : kindOf rest ≡ firstKind Done checks
-      → kindOf (J.onMixing (J.mixedAt nomask bits value mask) rest) ≡ firstKind Done (mixedChecks nomask bits value mask ++ checks)
-  unfolding J.mixedAt mixedChecks
-  mixed-first e =
-      step kind Done _ _ _ _ _ refl (step kind Done _ _ _ _ _ refl (step kind Done _ _ _ _ _ refl e))
-    where
-      kind : Mixing → Kind
-      kind m = kindOf (J.onMixing m rest)
+mixed-first : (parts : BitsetParts) (rest : Reading) (checks : List Check) → kindOf rest ≡ firstKind Done checks
+    → kindOf (J.onMixing (J.mixedAt parts) rest) ≡ firstKind Done (mixedChecks parts ++ checks)
+unfolding J.mixedAt mixedChecks
+mixed-first parts rest checks e =
+    step kind Done _ _ _ _ _ refl (step kind Done _ _ _ _ _ refl (step kind Done _ _ _ _ _ refl e))
+  where
+    kind : Mixing → Kind
+    kind m = kindOf (J.onMixing m rest)
 
 -- the kind that the BITs of a list come to
 abbrev listKind : ListReading → Kind
@@ -96,31 +99,28 @@ module _ (s names : List ℕ) (rest : ListReading) where
     found-first true bit place checks e = pass last _ _ _ (bit-passes bit on rest ∙ e)
     found-first false bit place checks e = fault last _ _
 
-    parts-first : (index name : Slot) (t u : Bool)
-        → looked (cond t (bitByIndex s (count names) index) (cond u (bitByName s names name) (L.Read Neither)))
+    parts-first : (parts : BitParts) (t u : Bool)
+        → looked (cond t (bitByIndex s (count names) (parts .index)) (cond u (bitByName s names (parts .name)) (L.Read Neither)))
         ≡ firstKind last
-        (refuseIf (t && leb (count names) (slotNumber s index)) (PastLength (index .start - 4))
-        ∷ refuseIf (not t && (u && not (lookup names (partOf s (name .start) (name .end)) .found))) (UnknownBit (name .start - 4))
+        (refuseIf (t && leb (count names) (slotNumber s (parts .index))) (PastLength (parts .index .start - 4))
+        ∷ refuseIf (not t && (u && unknownName s names (parts .name))) (UnknownBit (parts .name .start - 4))
         ∷ refuseIf (not t && not u) (NoBit at)
         ∷ [])
-    unfolding bitByIndex bitByName
-    parts-first index name true u =
-        step looked last _ _ _ _ _ refl (pass last _ _ _ (pass last _ _ _ (bit-passes (slotNumber s index) on rest ∙ no-more last)))
-    parts-first index name false true =
-        let l = lookup names (partOf s (name .start) (name .end)) in
-        pass last _ _ _ (found-first (l .found) (l .bit) (name .start - 4) _ (pass last _ _ _ (no-more last)))
-    parts-first index name false false = pass last _ _ _ (pass last _ _ _ (fault last _ _))
+    unfolding bitByIndex bitByName unknownName
+    parts-first parts true u =
+        step looked last _ _ _ _ _ refl (pass last _ _ _ (pass last _ _ _ (bit-passes (slotNumber s (parts .index)) on rest ∙ no-more last)))
+    parts-first parts false true =
+        let l = lookup names (partOf s (parts .name .start) (parts .name .end)) in
+        pass last _ _ _ (found-first (l .found) (l .bit) (parts .name .start - 4) _ (pass last _ _ _ (no-more last)))
+    parts-first parts false false = pass last _ _ _ (pass last _ _ _ (fault last _ _))
 
   bit-first : (from : ℕ) → listKind (onBit (bitReading s names from) rest) ≡ firstKind last (bitChecks s names from)
   unfolding bitReading bitPartsReading identified bitChecks partChecks
   bit-first from =
-      let slots = walked bitPolicy s from .slots in
-      let index = getD slots 1 absent in
-      let name = getD slots 2 absent in
-      let on = getD slots 3 absent in
+      let parts = bitParts (walked bitPolicy s from .slots) in
       walk-step (λ r. listKind (onBit r rest)) last (walked bitPolicy s from .stop)
-      (λ stop. onStop stop B.Refused (bitPartsReading s names (from - 4) index name on)) _ (λ fault at. refl)
-      (parts-first (from - 4) (on .present) index name (index .present) (name .present))
+      (λ stop. onStop stop B.Refused (bitPartsReading s names (from - 4) parts)) _ (λ fault at. refl)
+      (parts-first (from - 4) (parts .on .present) parts (parts .index .present) (parts .name .present))
 
 each-first : (s names : List ℕ) (xs : Attributes) → listKind (bitsReading s names xs) ≡ firstKind Done (eachBit s names xs)
 unfolding bitsReading eachBit
@@ -138,30 +138,26 @@ as-kind false (listRefused why) = refl
 as-kind true (listEntries es) = refl
 as-kind false (listEntries es) = refl
 
-list-first : (s names : List ℕ) (nomask bits : Slot) → kindOf (listReading s names nomask bits) ≡ firstKind Done (listChecks s names bits)
+list-first : (s names : List ℕ) (parts : BitsetParts) → kindOf (listReading s names parts) ≡ firstKind Done (listChecks s names parts)
 unfolding listReading listChecks
-list-first s names nomask bits =
-    let p = partOf s 0 (bits .end) in
-    let xs = attributes p (bits .start) in
-    walk-step kindOf Done (walked bitsPolicy p (bits .start) .stop) (λ stop. onStop stop refused (asBitset (nomask .present) (bitsReading p names xs))) _
-    (λ fault at. refl) (as-kind (nomask .present) (bitsReading p names xs) ∙ each-first p names xs)
+list-first s names parts =
+    let p = partOf s 0 (parts .bits .end) in
+    let xs = attributes p (parts .bits .start) in
+    walk-step kindOf Done (walked bitsPolicy p (parts .bits .start) .stop)
+    (λ stop. onStop stop refused (asBitset (parts .nomask .present) (bitsReading p names xs))) _
+    (λ fault at. refl) (as-kind (parts .nomask .present) (bitsReading p names xs) ∙ each-first p names xs)
 
 -- a bitset
-either-first : (s : List ℕ) (nest : ℕ) (names : List ℕ) (nomask size bits value mask : Slot) (t : Bool)
-    → kindOf (cond t (listReading s names nomask bits) (compactReading s nest (count names) nomask size value mask))
-    ≡ firstKind Done (cond t (listChecks s names bits) (compactChecks s nest (count names) nomask size value mask))
-either-first s nest names nomask size bits value mask true = list-first s names nomask bits
-either-first s nest names nomask size bits value mask false = compact-first s nest (count names) nomask size value mask
+either-first : (s : List ℕ) (nest : ℕ) (names : List ℕ) (parts : BitsetParts) (t : Bool)
+    → kindOf (cond t (listReading s names parts) (compactReading s nest (count names) parts))
+    ≡ firstKind Done (cond t (listChecks s names parts) (compactChecks s nest (count names) parts))
+either-first s nest names parts true = list-first s names parts
+either-first s nest names parts false = compact-first s nest (count names) parts
 
 pub bitset-first : (s : List ℕ) (from : ℕ) (names : List ℕ) → kindOf (J.bitsetReading s from names) ≡ firstKind Done (bitsetChecks s from names)
 unfolding J.bitsetReading J.bitsetPartsReading bitsetChecks formChecks
 bitset-first s from names =
-    let slots = walked bitsetPolicy s from .slots in
-    let nomask = getD slots 1 absent in
-    let size = getD slots 2 absent in
-    let bits = getD slots 3 absent in
-    let value = getD slots 4 absent in
-    let mask = getD slots 5 absent in
-    walk-step kindOf Done (walked bitsetPolicy s from .stop) (λ stop. onStop stop refused (J.bitsetPartsReading s (from - 4) names nomask size bits value mask)) _
+    let parts = bitsetParts (walked bitsetPolicy s from .slots) in
+    walk-step kindOf Done (walked bitsetPolicy s from .stop) (λ stop. onStop stop refused (J.bitsetPartsReading s (from - 4) names parts)) _
     (λ fault at. refl)
-    (mixed-first nomask bits value mask _ _ (either-first s (from - 4) names nomask size bits value mask (bits .present)))
+    (mixed-first parts _ _ (either-first s (from - 4) names parts (parts .bits .present)))

@@ -25,7 +25,7 @@ use Rattle.netlink_headers.specs.declared.headers.MessageHeader.{MessageHeader}
 use Rattle.index_name.specs.IndexName.{indexNest}
 use Rattle.refusal.specs.Refusal.{errnoOf, detailOf}
 use Rattle.bitset_form.specs.Bitset.{Bitset}
-use Rattle.normal.specs.Claims.{Fits}
+use Rattle.normal.specs.Fits.{Fits}
 use Rattle.normal.proofs.Fits.{accepted-fits}
 use Rattle.roll.specs.Record.{portCount, indexOf, nameOf}
 use Rattle.boxes.specs.Box.{Box, State, portsIn, sizesIn, widthsIn, setOf}

@@ -11,7 +11,7 @@ use Rattle.bits.specs.Change.{Same, Below}
 use Rattle.bits.proofs.Words.{length-wordsOf, has-all}
 use Rattle.bits.proofs.Cut.{none-below, below-none}
 use Rattle.bitset_form.specs.Bitset.{Bitset, effect, valueOf}
-use Rattle.normal.specs.Claims.{Fits}
+use Rattle.normal.specs.Fits.{Fits}
 use Rattle.normal.proofs.Effect.{form-keeps-effect, mask-below}
 use Rattle.boxes.specs.Box.{Box, State, portsIn, sizesIn, widthsIn, placeIn, widthIn, setOf}
 use Rattle.boxes.specs.declared.Call.{Call}

@@ -13,6 +13,7 @@ use Rattle.netlink.specs.declared.walk.Stop.{Stop}
 use Rattle.netlink.specs.declared.walk.Stop.the-variants.{Whole, At}
 use Rattle.refusal.specs.Refusal.{numberOf, ofFault}
 use Rattle.refusal.specs.declared.Refusal.{Refusal}
+use Rattle.bitset_form.specs.declared.parts.BitsetParts.{BitsetParts}
 use Rattle.layout.specs.declared.Set.{Set}
 use Rattle.boxes.specs.Box.{Box}
 use Rattle.boxes.specs.declared.Call.{Call}
@@ -57,13 +58,13 @@ choice : (t : Bool) (xs ys : List Check) → Late xs → Late ys → Late (cond 
 choice true xs ys a b = a
 choice false xs ys a b = b
 
-mixed-late : (nomask bits value mask : Slot) → Late (mixedChecks nomask bits value mask)
+mixed-late : (parts : BitsetParts) → Late (mixedChecks parts)
 unfolding mixedChecks
-mixed-late nomask bits value mask = row _ _ (omega arith) (row _ _ (omega arith) (row _ _ (omega arith) nothing))
+mixed-late parts = row _ _ (omega arith) (row _ _ (omega arith) (row _ _ (omega arith) nothing))
 
-compact-late : (s : List ℕ) (nest n : ℕ) (nomask size value mask : Slot) → Late (compactChecks s nest n nomask size value mask)
+compact-late : (s : List ℕ) (nest n : ℕ) (parts : BitsetParts) → Late (compactChecks s nest n parts)
 unfolding compactChecks
-compact-late s nest n nomask size value mask =
+compact-late s nest n parts =
     row _ _ (omega arith) (row _ _ (omega arith) (row _ _ (omega arith) (row _ _ (omega arith) (row _ _ (omega arith) (row _ _ (omega arith) (row _ _ (omega arith) nothing))))))
 
 each-late : (s names : List ℕ) (xs : Attributes) → Late (eachBit s names xs)
@@ -73,18 +74,18 @@ each-late s names (broken at) = nothing
 each-late s names (attribute k b a e rest) =
     walk _ (row _ _ (omega arith) (row _ _ (omega arith) (row _ _ (omega arith) (each-late s names rest))))
 
-list-late : (s names : List ℕ) (bits : Slot) → Late (listChecks s names bits)
+list-late : (s names : List ℕ) (parts : BitsetParts) → Late (listChecks s names parts)
 unfolding listChecks
-list-late s names bits = walk _ (each-late _ names _)
+list-late s names parts = walk _ (each-late _ names _)
 
-form-late : (s : List ℕ) (nest : ℕ) (names : List ℕ) (nomask size bits value mask : Slot) → Late (formChecks s nest names nomask size bits value mask)
+form-late : (s : List ℕ) (nest : ℕ) (names : List ℕ) (parts : BitsetParts) → Late (formChecks s nest names parts)
 unfolding formChecks
-form-late s nest names nomask size bits value mask =
-    append (mixed-late nomask bits value mask) (choice (bits .present) _ _ (list-late s names bits) (compact-late s nest _ nomask size value mask))
+form-late s nest names parts =
+    append (mixed-late parts) (choice (parts .bits .present) _ _ (list-late s names parts) (compact-late s nest _ parts))
 
 bitset-late : (s : List ℕ) (from : ℕ) (names : List ℕ) → Late (bitsetChecks s from names)
 unfolding bitsetChecks
-bitset-late s from names = walk _ (form-late s (from - 4) names _ _ _ _ _)
+bitset-late s from names = walk _ (form-late s (from - 4) names _)
 
 level-late : (box : Box) (m : List ℕ) (change : Bool) (set : Set) (header bitset : Slot) → Late (levelChecks box m change set header bitset)
 unfolding levelChecks topChecks headerChecks portChecks

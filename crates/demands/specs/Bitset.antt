@@ -3,7 +3,7 @@
 use Prim.Native.Nat.{ℕ, _-_, _/_}
 use mathlib.Core.List.{List, [], _∷_, _++_}
 use mathlib.Core.Bool.{Bool, _&&_, not, cond}
-use lib.ListN.{length, getD}
+use lib.ListN.{length}
 use lib.Dec.{leb, ltb}
 use Rattle.bits.specs.Set.{has, wordsFor, somePast}
 use Rattle.word_bytes.specs.Bytes.{wordsIn}
@@ -11,19 +11,22 @@ use Rattle.entries.specs.Entry.{count}
 use Rattle.names.specs.Search.{lookup}
 use Rattle.netlink_attributes.specs.Attributes.{Attributes, attributes, partOf}
 use Rattle.netlink_attributes.specs.Attributes.Attributes.{done, broken, attribute}
-use Rattle.netlink.specs.Walk.{absent, walked, slotNumber}
+use Rattle.netlink.specs.Walk.{walked, slotNumber}
 use Rattle.netlink.specs.declared.walk.Slot.{Slot}
 use Rattle.refusal.specs.declared.Refusal.the-variants.{Mixed, MissingIn, ShortBitmap, PastLength, UnknownBit, NoBit}
 use Rattle.bitset_form.specs.Policies.{bitsetPolicy, bitsPolicy, bitPolicy}
+use Rattle.bitset_form.specs.Parts.{bitsetParts, bitParts}
+use Rattle.bitset_form.specs.declared.parts.BitsetParts.{BitsetParts}
+use Rattle.bitset_form.specs.declared.parts.BitParts.{BitParts}
 use Rattle.bitset_compact.specs.Compact.{bitmap}
 use Rattle.demands.specs.Check.{Check, refuseIf, walks}
 
 -- "18, in order: BITS with VALUE; BITS with MASK; NOMASK with MASK"
-unfoldable pub mixedChecks : Slot → Slot → Slot → Slot → List Check
-mixedChecks nomask bits value mask =
-    refuseIf (bits .present && value .present) (Mixed (value .start - 4))
-    ∷ refuseIf (bits .present && mask .present) (Mixed (mask .start - 4))
-    ∷ refuseIf (nomask .present && mask .present) (Mixed (mask .start - 4))
+unfoldable pub mixedChecks : BitsetParts → List Check
+mixedChecks parts =
+    refuseIf (parts .bits .present && parts .value .present) (Mixed (parts .value .start - 4))
+    ∷ refuseIf (parts .bits .present && parts .mask .present) (Mixed (parts .mask .start - 4))
+    ∷ refuseIf (parts .nomask .present && parts .mask .present) (Mixed (parts .mask .start - 4))
     ∷ []
 
 -- a bitmap holds fewer words than SIZE/32 rounded up
@@ -36,30 +39,33 @@ pastEnd s n size slot = somePast (has (wordsIn (bitmap s slot))) n size
 
 -- "SIZE, VALUE and, without NOMASK, MASK are required, missed in that order. VALUE, then MASK, hold at least SIZE/32 rounded up words. 20 if
 -- a bit i with N <= i < SIZE stands in MASK (in VALUE under NOMASK)"
-unfoldable pub compactChecks : List ℕ → ℕ → ℕ → Slot → Slot → Slot → Slot → List Check
-compactChecks s nest n nomask size value mask =
-    refuseIf (not (size .present)) (MissingIn 2 nest)
-    ∷ refuseIf (not (value .present)) (MissingIn 4 nest)
-    ∷ refuseIf (not (nomask .present) && not (mask .present)) (MissingIn 5 nest)
-    ∷ refuseIf (tooShort s (slotNumber s size) value) (ShortBitmap (value .start - 4))
-    ∷ refuseIf (not (nomask .present) && tooShort s (slotNumber s size) mask) (ShortBitmap (mask .start - 4))
-    ∷ refuseIf (not (nomask .present) && pastEnd s n (slotNumber s size) mask) (PastLength (mask .start - 4))
-    ∷ refuseIf (nomask .present && pastEnd s n (slotNumber s size) value) (PastLength (value .start - 4))
+unfoldable pub compactChecks : List ℕ → ℕ → ℕ → BitsetParts → List Check
+compactChecks s nest n parts =
+    refuseIf (not (parts .size .present)) (MissingIn 2 nest)
+    ∷ refuseIf (not (parts .value .present)) (MissingIn 4 nest)
+    ∷ refuseIf (not (parts .nomask .present) && not (parts .mask .present)) (MissingIn 5 nest)
+    ∷ refuseIf (tooShort s (slotNumber s (parts .size)) (parts .value)) (ShortBitmap (parts .value .start - 4))
+    ∷ refuseIf (not (parts .nomask .present) && tooShort s (slotNumber s (parts .size)) (parts .mask)) (ShortBitmap (parts .mask .start - 4))
+    ∷ refuseIf (not (parts .nomask .present) && pastEnd s n (slotNumber s (parts .size)) (parts .mask)) (PastLength (parts .mask .start - 4))
+    ∷ refuseIf (parts .nomask .present && pastEnd s n (slotNumber s (parts .size)) (parts .value)) (PastLength (parts .value .start - 4))
     ∷ []
 
+-- a NAME that no entry equals
+unfoldable pub unknownName : List ℕ → List ℕ → Slot → Bool
+unknownName s names name = not (lookup names (partOf s (name .start) (name .end)) .found)
+
 -- the parts of the BIT at a place: 20 by INDEX, which decides; else 21 by NAME; else 22
-unfoldable pub partChecks : List ℕ → List ℕ → ℕ → Slot → Slot → List Check
-partChecks s names at index name =
-    refuseIf (index .present && leb (count names) (slotNumber s index)) (PastLength (index .start - 4))
-    ∷ refuseIf (not (index .present) && (name .present && not (lookup names (partOf s (name .start) (name .end)) .found))) (UnknownBit (name .start - 4))
-    ∷ refuseIf (not (index .present) && not (name .present)) (NoBit at)
+unfoldable pub partChecks : List ℕ → List ℕ → ℕ → BitParts → List Check
+partChecks s names at parts =
+    refuseIf (parts .index .present && leb (count names) (slotNumber s (parts .index))) (PastLength (parts .index .start - 4))
+    ∷ refuseIf (not (parts .index .present) && (parts .name .present && unknownName s names (parts .name))) (UnknownBit (parts .name .start - 4))
+    ∷ refuseIf (not (parts .index .present) && not (parts .name .present)) (NoBit at)
     ∷ []
 
 -- a BIT: walked whole, then judged
 unfoldable pub bitChecks : List ℕ → List ℕ → ℕ → List Check
 bitChecks s names from =
-    walks (walked bitPolicy s from .stop)
-    ∷ partChecks s names (from - 4) (getD (walked bitPolicy s from .slots) 1 absent) (getD (walked bitPolicy s from .slots) 2 absent)
+    walks (walked bitPolicy s from .stop) ∷ partChecks s names (from - 4) (bitParts (walked bitPolicy s from .slots))
 
 -- each BIT in order
 unfoldable pub eachBit : List ℕ → List ℕ → Attributes → List Check
@@ -68,24 +74,17 @@ eachBit s names (broken at) = []
 eachBit s names (attribute k b a e rest) = bitChecks (partOf s 0 e) names a ++ eachBit s names rest
 
 -- a bit list: BITS walked whole, then each BIT
-unfoldable pub listChecks : List ℕ → List ℕ → Slot → List Check
-listChecks s names bits =
-    walks (walked bitsPolicy (partOf s 0 (bits .end)) (bits .start) .stop)
-    ∷ eachBit (partOf s 0 (bits .end)) names (attributes (partOf s 0 (bits .end)) (bits .start))
+unfoldable pub listChecks : List ℕ → List ℕ → BitsetParts → List Check
+listChecks s names parts =
+    walks (walked bitsPolicy (partOf s 0 (parts .bits .end)) (parts .bits .start) .stop)
+    ∷ eachBit (partOf s 0 (parts .bits .end)) names (attributes (partOf s 0 (parts .bits .end)) (parts .bits .start))
 
 -- "With BITS present it is a bit list, else compact"
-unfoldable pub formChecks : List ℕ → ℕ → List ℕ → Slot → Slot → Slot → Slot → Slot → List Check
-formChecks s nest names nomask size bits value mask =
-    mixedChecks nomask bits value mask
-    ++ cond (bits .present) (listChecks s names bits) (compactChecks s nest (count names) nomask size value mask)
+unfoldable pub formChecks : List ℕ → ℕ → List ℕ → BitsetParts → List Check
+formChecks s nest names parts =
+    mixedChecks parts ++ cond (parts .bits .present) (listChecks s names parts) (compactChecks s nest (count names) parts)
 
 -- the bitset whose contents are the bytes of s from a position on
 unfoldable pub bitsetChecks : List ℕ → ℕ → List ℕ → List Check
 bitsetChecks s from names =
-    walks (walked bitsetPolicy s from .stop)
-    ∷ formChecks s (from - 4) names
-    (getD (walked bitsetPolicy s from .slots) 1 absent)
-    (getD (walked bitsetPolicy s from .slots) 2 absent)
-    (getD (walked bitsetPolicy s from .slots) 3 absent)
-    (getD (walked bitsetPolicy s from .slots) 4 absent)
-    (getD (walked bitsetPolicy s from .slots) 5 absent)
+    walks (walked bitsetPolicy s from .stop) ∷ formChecks s (from - 4) names (bitsetParts (walked bitsetPolicy s from .slots))

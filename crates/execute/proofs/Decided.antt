@@ -11,7 +11,8 @@ use Rattle.bits.proofs.Cut.{none-below}
 use Rattle.entries.specs.Entry.{count}
 use Rattle.netlink_attributes.specs.Attributes.{partOf}
 use Rattle.netlink.specs.declared.walk.Slot.{Slot}
-use Rattle.bitset_form.specs.Bitset.{Bitset, Reading, effect, maskOf, valueOf, formOf}
+use Rattle.bitset_form.specs.Bitset.{Bitset, Reading, effect, maskOf, valueOf}
+use Rattle.bitset_form.specs.Form.{formOf}
 use Rattle.bitset_form.specs.Bitset.Reading.{refused, accepted}
 use Rattle.bitset.specs.Judge.{bitsetReading}
 use Rattle.normal.proofs.Effect.{form-keeps-effect}

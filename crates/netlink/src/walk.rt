@@ -1,6 +1,6 @@
 // The walk of a parent: every attribute in turn, judged by the policy.
 ghost use mathlib.Core.Path.{_≡_};
-ghost use Rattle.netlink.specs.Walk.{absentAll, found, stopped, walked, slotNumber};
+ghost use Rattle.netlink.specs.Walk.{absent, absentAll, found, stopped, walked, slotNumber};
 use crate::policy::Fault;
 use crate::policy::Rule;
 use crate::policy::Verdict;
@@ -30,6 +30,17 @@ pub struct Walked {
     pub slots: [Slot; 8],
 }
 
+// The slot of a type that no attribute has.
+pub fn absent_slot() -> Slot
+    ensures { λ r. ⌜ r ≡ absent ⌝ }
+{
+    Slot {
+        present: false,
+        start: 0,
+        end: 0,
+    }
+}
+
 fn no_slots() -> [Slot; 8]
     ensures { λ r. ⌜ r ≡ absentAll ⌝ }
 {
@@ -40,7 +51,8 @@ fn no_slots() -> [Slot; 8]
     }; 8]
 }
 
-fn found(start: usize, end: usize) -> Slot
+// The slot of an attribute whose payload stands from start to end.
+pub fn found(start: usize, end: usize) -> Slot
     ensures { λ r. ⌜ r ≡ found start end ⌝ }
 {
     Slot {

@@ -32,7 +32,8 @@ use Rattle.bitset_form.specs.Bitset.Reading.{refused, accepted}
 use Rattle.bitset.specs.Judge.{bitsetReading}
 use Rattle.bitset_write.specs.Form.{partsBytes}
 use Rattle.normal.specs.Normal.{normalForm, normalised}
-use Rattle.normal.specs.Claims.{Fits, ActAlike}
+use Rattle.normal.specs.Fits.{Fits}
+use Rattle.normal.specs.Claims.{ActAlike}
 use Rattle.normal.proofs.Effect.{form-keeps-effect, mask-below, value-within}
 use Rattle.normal.proofs.Fits.{accepted-fits}
 use Rattle.normal.proofs.Forms.{normal-bytes, alike-forms, forms-alike}

@@ -9,7 +9,8 @@ use Rattle.bits.specs.Change.{merge, Same, Below, Within, Alike, listMask}
 use Rattle.bits.proofs.Change.{list-is-merge, list-within}
 use Rattle.bitset_form.specs.Bitset.{Bitset, effect, maskOf, valueOf}
 use Rattle.bitset_form.specs.Bitset.Bitset.{maskedBitmap, nomaskBitmap, maskedList, nomaskList}
-use Rattle.normal.specs.Claims.{Fits, ActAlike}
+use Rattle.normal.specs.Fits.{Fits}
+use Rattle.normal.specs.Claims.{ActAlike}
 
 -- the form has the bitset's effect on every starting set
 pub form-keeps-effect : (n : ℕ) (b : Bitset) → Fits n b → (s : ℕ → Bool) → Below n s → Same (effect b s) (merge (maskOf n b) (valueOf b) s)

@@ -3,7 +3,7 @@ use Prim.Native.Nat.{ℕ, _-_, _/_, _<_}
 use mathlib.Core.Path.{_≡_, refl}
 use mathlib.Core.List.{List, [], _∷_}
 use mathlib.Core.Bool.{Bool, true, false, _&&_, not, cond}
-use lib.ListN.{length, getD}
+use lib.ListN.{length}
 use lib.Dec.{ltb, leb, eqb}
 use native.Mathlib.Omega.{arith}
 use borrow.Author.Tests.{le-leb, leb-false, ltb-true, ne-eqb}
@@ -17,12 +17,15 @@ use Rattle.names.specs.declared.Lookup.{Lookup}
 use Rattle.names.proofs.Search.{lookup-found}
 use Rattle.netlink_attributes.specs.Attributes.{Attributes, attributes, partOf}
 use Rattle.netlink_attributes.specs.Attributes.Attributes.{done, broken, attribute}
-use Rattle.netlink.specs.Walk.{absent, walked, slotNumber}
+use Rattle.netlink.specs.Walk.{walked, slotNumber}
 use Rattle.netlink.specs.declared.walk.Slot.{Slot}
 use Rattle.netlink.specs.declared.walk.Stop.{Stop}
 use Rattle.netlink.specs.declared.walk.Stop.the-variants as S
 use Rattle.refusal.specs.declared.Refusal.{Refusal}
 use Rattle.refusal.specs.declared.Refusal.the-variants.{MissingIn, ShortBitmap, PastLength, UnknownBit}
+use Rattle.bitset_form.specs.Parts.{bitsetParts, bitParts}
+use Rattle.bitset_form.specs.declared.parts.BitsetParts.{BitsetParts}
+use Rattle.bitset_form.specs.declared.parts.BitParts.{BitParts}
 use Rattle.bitset_form.specs.Policies.{bitsetPolicy, bitPolicy, bitsPolicy}
 use Rattle.bitset_form.specs.Bitset.{Bitset, Reading}
 use Rattle.bitset_form.specs.Bitset.Bitset.{maskedBitmap, nomaskBitmap, maskedList, nomaskList}
@@ -40,7 +43,7 @@ use Rattle.bitset_bit.specs.declared.IdentityRead.{IdentityRead}
 use Rattle.bitset_bit.specs.declared.IdentityRead.the-variants as L
 use Rattle.bitset_bit.specs.declared.BitRead.{BitRead}
 use Rattle.bitset_bit.specs.declared.BitRead.the-variants as B
-use Rattle.normal.specs.Claims.{Fits}
+use Rattle.normal.specs.Fits.{Fits}
 
 -- a refusal is no acceptance
 never : (r : Refusal) (b : Bitset) → refused r ≡ accepted b → ⊥
@@ -67,41 +70,41 @@ none-past f n size h i l = go (ltb i size) refl
     go false e = refl
     go true e = rw (le-leb n i l) at (any-not (past n f) size i h (ltb-true i size e))
 
-whole-fits : (s : List ℕ) (n size : ℕ) (value : Slot) (b : Bitset) → nomaskReading s n size value ≡ accepted b → Fits n b
+whole-fits : (s : List ℕ) (n size : ℕ) (parts : BitsetParts) (b : Bitset) → nomaskReading s n size parts ≡ accepted b → Fits n b
 unfolding nomaskReading
-whole-fits s n size value b e =
-    let f = has (wordsIn (bitmap s value)) in
+whole-fits s n size parts b e =
+    let f = has (wordsIn (bitmap s (parts .value))) in
     let last : Reading = accepted (nomaskBitmap size f) in
-    let then : Reading = cond (somePast f n size) (refused (PastLength (value .start - 4))) last in
-    let one = pass (ltb (length (bitmap s value) / 4) (wordsFor size)) (ShortBitmap (value .start - 4)) then b e in
-    let two = pass (somePast f n size) (PastLength (value .start - 4)) last b (one .1) in
+    let then : Reading = cond (somePast f n size) (refused (PastLength (parts .value .start - 4))) last in
+    let one = pass (ltb (length (bitmap s (parts .value)) / 4) (wordsFor size)) (ShortBitmap (parts .value .start - 4)) then b e in
+    let two = pass (somePast f n size) (PastLength (parts .value .start - 4)) last b (one .1) in
     rw (same-bitset (nomaskBitmap size f) b (two .1)) (none-past f n size (two .0))
 
-masked-fits : (s : List ℕ) (nest n size : ℕ) (value mask : Slot) (b : Bitset) → maskedReading s nest n size value mask ≡ accepted b → Fits n b
+masked-fits : (s : List ℕ) (nest n size : ℕ) (parts : BitsetParts) (b : Bitset) → maskedReading s nest n size parts ≡ accepted b → Fits n b
 unfolding maskedReading
-masked-fits s nest n size value mask b e =
-    let f = has (wordsIn (bitmap s mask)) in
-    let last : Reading = accepted (maskedBitmap size (has (wordsIn (bitmap s value))) f) in
-    let past : Reading = cond (somePast f n size) (refused (PastLength (mask .start - 4))) last in
-    let short : Reading = cond (ltb (length (bitmap s mask) / 4) (wordsFor size)) (refused (ShortBitmap (mask .start - 4))) past in
-    let rest : Reading = cond (ltb (length (bitmap s value) / 4) (wordsFor size)) (refused (ShortBitmap (value .start - 4))) short in
-    let one = pass (not (mask .present)) (MissingIn 5 nest) rest b e in
-    let two = pass (ltb (length (bitmap s value) / 4) (wordsFor size)) (ShortBitmap (value .start - 4)) short b (one .1) in
-    let three = pass (ltb (length (bitmap s mask) / 4) (wordsFor size)) (ShortBitmap (mask .start - 4)) past b (two .1) in
-    let four = pass (somePast f n size) (PastLength (mask .start - 4)) last b (three .1) in
-    rw (same-bitset (maskedBitmap size (has (wordsIn (bitmap s value))) f) b (four .1)) (none-past f n size (four .0))
+masked-fits s nest n size parts b e =
+    let f = has (wordsIn (bitmap s (parts .mask))) in
+    let last : Reading = accepted (maskedBitmap size (has (wordsIn (bitmap s (parts .value)))) f) in
+    let past : Reading = cond (somePast f n size) (refused (PastLength (parts .mask .start - 4))) last in
+    let short : Reading = cond (ltb (length (bitmap s (parts .mask)) / 4) (wordsFor size)) (refused (ShortBitmap (parts .mask .start - 4))) past in
+    let rest : Reading = cond (ltb (length (bitmap s (parts .value)) / 4) (wordsFor size)) (refused (ShortBitmap (parts .value .start - 4))) short in
+    let one = pass (not (parts .mask .present)) (MissingIn 5 nest) rest b e in
+    let two = pass (ltb (length (bitmap s (parts .value)) / 4) (wordsFor size)) (ShortBitmap (parts .value .start - 4)) short b (one .1) in
+    let three = pass (ltb (length (bitmap s (parts .mask)) / 4) (wordsFor size)) (ShortBitmap (parts .mask .start - 4)) past b (two .1) in
+    let four = pass (somePast f n size) (PastLength (parts .mask .start - 4)) last b (three .1) in
+    rw (same-bitset (maskedBitmap size (has (wordsIn (bitmap s (parts .value)))) f) b (four .1)) (none-past f n size (four .0))
 
-compact-fits : (s : List ℕ) (nest n : ℕ) (nomask size value mask : Slot) (b : Bitset) → compactReading s nest n nomask size value mask ≡ accepted b → Fits n b
+compact-fits : (s : List ℕ) (nest n : ℕ) (parts : BitsetParts) (b : Bitset) → compactReading s nest n parts ≡ accepted b → Fits n b
 unfolding compactReading
-compact-fits s nest n nomask size value mask b e =
-    let rest : Reading = cond (nomask .present) (nomaskReading s n (slotNumber s size) value) (maskedReading s nest n (slotNumber s size) value mask) in
-    let one = pass (not (size .present)) (MissingIn 2 nest) (cond (not (value .present)) (refused (MissingIn 4 nest)) rest) b e in
-    let two = pass (not (value .present)) (MissingIn 4 nest) rest b (one .1) in
-    go (nomask .present) (two .1)
+compact-fits s nest n parts b e =
+    let rest : Reading = cond (parts .nomask .present) (nomaskReading s n (slotNumber s (parts .size)) parts) (maskedReading s nest n (slotNumber s (parts .size)) parts) in
+    let one = pass (not (parts .size .present)) (MissingIn 2 nest) (cond (not (parts .value .present)) (refused (MissingIn 4 nest)) rest) b e in
+    let two = pass (not (parts .value .present)) (MissingIn 4 nest) rest b (one .1) in
+    go (parts .nomask .present) (two .1)
   where
-    go : (t : Bool) → cond t (nomaskReading s n (slotNumber s size) value) (maskedReading s nest n (slotNumber s size) value mask) ≡ accepted b → Fits n b
-    go true q = whole-fits s n (slotNumber s size) value b q
-    go false q = masked-fits s nest n (slotNumber s size) value mask b q
+    go : (t : Bool) → cond t (nomaskReading s n (slotNumber s (parts .size)) parts) (maskedReading s nest n (slotNumber s (parts .size)) parts) ≡ accepted b → Fits n b
+    go true q = whole-fits s n (slotNumber s (parts .size)) parts b q
+    go false q = masked-fits s nest n (slotNumber s (parts .size)) parts b q
 
 -- the number of a BIT is below N
 index-below : (s : List ℕ) (n : ℕ) (index : Slot) (k : ℕ) → bitByIndex s n index ≡ L.Read (Number k) → k < n
@@ -126,29 +129,29 @@ name-below s names name k e = go (lookup names (partOf s (name .start) (name .en
     go : (l : Lookup) → lookup names p ≡ l → onLookup (lookup names p) (name .start - 4) ≡ L.Read (Number k) → k < count names
     go l q e = found (lookup names p .found) refl e
 
-identified-below : (s names : List ℕ) (index name : Slot) (k : ℕ) → identified s names index name ≡ L.Read (Number k) → k < count names
+identified-below : (s names : List ℕ) (parts : BitParts) (k : ℕ) → identified s names parts ≡ L.Read (Number k) → k < count names
 unfolding identified
-identified-below s names index name k e = go (index .present) (name .present) e
+identified-below s names parts k e = go (parts .index .present) (parts .name .present) e
   where
-    go : (t u : Bool) → cond t (bitByIndex s (count names) index) (cond u (bitByName s names name) (L.Read Neither)) ≡ L.Read (Number k) → k < count names
-    go true u e = index-below s (count names) index k e
-    go false true e = name-below s names name k e
+    go : (t u : Bool) → cond t (bitByIndex s (count names) (parts .index)) (cond u (bitByName s names (parts .name)) (L.Read Neither)) ≡ L.Read (Number k)
+        → k < count names
+    go true u e = index-below s (count names) (parts .index) k e
+    go false true e = name-below s names (parts .name) k e
     go false false e = absurd (let z : _≡_ {A = ℕ} 0 1 = cc in omega arith)
 
 bit-below : (s names : List ℕ) (from k : ℕ) (on : Bool) → bitReading s names from ≡ B.Bit k on → k < count names
 unfolding bitReading bitPartsReading
-bit-below s names from k on e =
-    go (walked bitPolicy s from .stop) (identified s names (getD (walked bitPolicy s from .slots) 1 absent) (getD (walked bitPolicy s from .slots) 2 absent)) refl e
+bit-below s names from k on e = go (walked bitPolicy s from .stop) (identified s names parts) refl e
   where
-    slots : List Slot
-    slots = walked bitPolicy s from .slots
+    parts : BitParts
+    parts = bitParts (walked bitPolicy s from .slots)
 
-    go : (t : Stop) (l : IdentityRead) → identified s names (getD slots 1 absent) (getD slots 2 absent) ≡ l
-        → onStop t B.Refused (onIdentityRead l (from - 4) (getD slots 3 absent .present)) ≡ B.Bit k on → k < count names
+    go : (t : Stop) (l : IdentityRead) → identified s names parts ≡ l
+        → onStop t B.Refused (onIdentityRead l (from - 4) (parts .on .present)) ≡ B.Bit k on → k < count names
     go (S.At f at) l q e = absurd (let z : _≡_ {A = ℕ} 0 1 = cc in omega arith)
     go S.Whole (L.Refused r) q e = absurd (let z : _≡_ {A = ℕ} 0 1 = cc in omega arith)
     go S.Whole (L.Read Neither) q e = absurd (let z : _≡_ {A = ℕ} 0 1 = cc in omega arith)
-    go S.Whole (L.Read (Number j)) q e = let i : k ≡ j = cc in rw i (identified-below s names (getD slots 1 absent) (getD slots 2 absent) j q)
+    go S.Whole (L.Read (Number j)) q e = let i : k ≡ j = cc in rw i (identified-below s names parts j q)
 
 bits-below : (s names : List ℕ) (xs : Attributes) (es : List Listed) → bitsReading s names xs ≡ listEntries es → Below (count names) (listMask es)
 unfolding bitsReading listMask
@@ -167,16 +170,16 @@ bits-below s names (attribute k b a z rest) es e i l =
         let ne : eqb i j ≡ false = ne-eqb i j (λ h. omega arith) in
         rw w (rw (ne, f fs u))
 
-list-fits : (s names : List ℕ) (nomask bits : Slot) (b : Bitset) → listReading s names nomask bits ≡ accepted b → Fits (count names) b
+list-fits : (s names : List ℕ) (parts : BitsetParts) (b : Bitset) → listReading s names parts ≡ accepted b → Fits (count names) b
 unfolding listReading
-list-fits s names nomask bits b e =
-    go (nomask .present) (bitsReading p names xs) refl (pass-stop (walked bitsPolicy p (bits .start) .stop) _ b e)
+list-fits s names parts b e =
+    go (parts .nomask .present) (bitsReading p names xs) refl (pass-stop (walked bitsPolicy p (parts .bits .start) .stop) _ b e)
   where
     p : List ℕ
-    p = partOf s 0 (bits .end)
+    p = partOf s 0 (parts .bits .end)
 
     xs : Attributes
-    xs = attributes p (bits .start)
+    xs = attributes p (parts .bits .start)
 
     go : (t : Bool) (x : ListReading) → bitsReading p names xs ≡ x → asBitset t x ≡ accepted b → Fits (count names) b
     go true (listRefused r) q e = absurd (never r b e)
@@ -188,20 +191,13 @@ list-fits s names nomask bits b e =
 pub accepted-fits : (s : List ℕ) (from : ℕ) (names : List ℕ) (b : Bitset) → J.bitsetReading s from names ≡ accepted b → Fits (count names) b
 unfolding J.bitsetReading J.bitsetPartsReading
 accepted-fits s from names b e =
-    parts (getD slots 1 absent) (getD slots 2 absent) (getD slots 3 absent) (getD slots 4 absent) (getD slots 5 absent)
-    (pass-stop (walked bitsetPolicy s from .stop) _ b e)
+    go (J.mixedAt parts) (parts .bits .present) (pass-stop (walked bitsetPolicy s from .stop) _ b e)
   where
-    slots : List Slot
-    slots = walked bitsetPolicy s from .slots
+    parts : BitsetParts
+    parts = bitsetParts (walked bitsetPolicy s from .slots)
 
-    parts : (nomask size bits value mask : Slot)
-        → J.onMixing (J.mixedAt nomask bits value mask)
-        (cond (bits .present) (listReading s names nomask bits) (compactReading s (from - 4) (count names) nomask size value mask)) ≡ accepted b
+    go : (m : Mixing) (t : Bool) → J.onMixing m (cond t (listReading s names parts) (compactReading s (from - 4) (count names) parts)) ≡ accepted b
         → Fits (count names) b
-    parts nomask size bits value mask e = go (J.mixedAt nomask bits value mask) (bits .present) e
-      where
-        go : (m : Mixing) (t : Bool) → J.onMixing m (cond t (listReading s names nomask bits) (compactReading s (from - 4) (count names) nomask size value mask)) ≡ accepted b
-            → Fits (count names) b
-        go (At at) t e = absurd (never _ b e)
-        go Unmixed true e = list-fits s names nomask bits b e
-        go Unmixed false e = compact-fits s (from - 4) (count names) nomask size value mask b e
+    go (At at) t e = absurd (never _ b e)
+    go Unmixed true e = list-fits s names parts b e
+    go Unmixed false e = compact-fits s (from - 4) (count names) parts b e

@@ -19,7 +19,8 @@ use Rattle.netlink_write.proofs.attributes.Laws.{length-attr, attr-whole}
 use Rattle.bitset_form.specs.Bitset.{Bitset, maskOf, valueOf}
 use Rattle.bitset_write.specs.Form.{partsBytes, formBytes}
 use Rattle.normal.specs.Normal.{normalForm}
-use Rattle.normal.specs.Claims.{Fits, ActAlike}
+use Rattle.normal.specs.Fits.{Fits}
+use Rattle.normal.specs.Claims.{ActAlike}
 use Rattle.normal.proofs.Effect.{mask-below, value-within, alike-merge, merge-alike}
 
 -- the normal form's bytes, in the words that the set has

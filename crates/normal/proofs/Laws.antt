@@ -15,7 +15,8 @@ use Rattle.names.proofs.Rules.{right-means}
 use Rattle.refusal.specs.Refusal.{numberOf}
 use Rattle.refusal.specs.declared.Refusal.{Refusal}
 use Rattle.refusal.specs.declared.Refusal.the-variants.{Box, Page, Datagram}
-use Rattle.bitset_form.specs.Bitset.{Reading, maskOf, valueOf, judgedAs}
+use Rattle.bitset_form.specs.Bitset.{Reading, maskOf, valueOf}
+use Rattle.bitset_form.specs.Form.{judgedAs}
 use Rattle.bitset_form.specs.Bitset.Reading.{refused, accepted}
 use Rattle.bitset.specs.Judge.{bitsetReading}
 use Rattle.bitset_form.specs.declared.Judgement.the-variants.{Accepted, Refused}

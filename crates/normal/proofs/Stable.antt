@@ -8,7 +8,6 @@ use lib.Dec.{ltb}
 use native.Mathlib.Omega.{arith}
 use borrow.Author.Tests.{le-ltb, lt-leb}
 use Rattle.basics.specs.Numbers.{le32}
-use Rattle.basics.specs.Scan.{any}
 use Rattle.basics.proofs.Numbers.{u32-le32}
 use Rattle.basics.proofs.Scan.{any-none}
 use Rattle.basics.proofs.Truth.{cond-false}
@@ -28,6 +27,8 @@ use Rattle.netlink.specs.declared.walk.Stop.the-variants as S
 use Rattle.netlink_write.specs.Attributes.{attr}
 use Rattle.netlink_write.proofs.attributes.Laws.{length-attr}
 use Rattle.netlink_write.proofs.ReadBack.{payload-back, attributes-back, attributes-end}
+use Rattle.bitset_form.specs.Parts.{bitsetParts}
+use Rattle.bitset_form.specs.declared.parts.BitsetParts.{BitsetParts}
 use Rattle.bitset_form.specs.Policies.{bitsetPolicy}
 use Rattle.bitset_form.specs.Bitset.Bitset.{maskedBitmap}
 use Rattle.bitset_form.specs.Bitset.Reading.{accepted}
@@ -130,8 +131,8 @@ module _ (n w : ℕ) (vs ms : List ℕ) (lv : length vs ≡ w) (lm : length ms �
   form-walked = rw (all-three, size-back)
 
 -- a compact bitset whose SIZE is N and whose bitmaps have the words of the set
-module _ (s : List ℕ) (nest n w : ℕ) (value mask : Slot) (vs ms : List ℕ) (here : mask .present ≡ true)
-    (pv : partOf s (value .start) (value .end) ≡ bytesOf vs) (pm : partOf s (mask .start) (mask .end) ≡ bytesOf ms)
+module _ (s : List ℕ) (nest n w : ℕ) (parts : BitsetParts) (vs ms : List ℕ) (here : parts .mask .present ≡ true)
+    (pv : partOf s (parts .value .start) (parts .value .end) ≡ bytesOf vs) (pm : partOf s (parts .mask .start) (parts .mask .end) ≡ bytesOf ms)
     (lv : length vs ≡ w) (lm : length ms ≡ w) (ew : w ≡ wordsFor n) (sv : Small vs) (sm : Small ms) where
   enough : (l : List ℕ) → length l ≡ w → ltb (length (bytesOf l) / 4) (wordsFor n) ≡ false
   enough l e = le-ltb (length (bytesOf l) / 4) (wordsFor n) (omega (arith, length-bytesOf l, e, ew))
@@ -140,17 +141,17 @@ module _ (s : List ℕ) (nest n w : ℕ) (value mask : Slot) (vs ms : List ℕ) 
   unfolding somePast past
   no-past f = any-none (past n f) n (λ k l. ap (λ (t : Bool). t && f k) (lt-leb n k l))
 
-  pub masked-form : maskedReading s nest n n value mask ≡ accepted (maskedBitmap n (has vs) (has ms))
+  pub masked-form : maskedReading s nest n n parts ≡ accepted (maskedBitmap n (has vs) (has ms))
   unfolding maskedReading
   masked-form =
-      cond-false (not (mask .present)) _ _ (ap not here)
+      cond-false (not (parts .mask .present)) _ _ (ap not here)
       ∙ rw (pv, pm, enough vs lv, enough ms lm, words-of-bytes ms sm, words-of-bytes vs sv, no-past (has ms))
 
 -- the form of any mask and value
 module _ (names : List ℕ) (right : namesRight names ≡ true) (f g : ℕ → Bool) where
   pub parts-accepted : bitsetReading (partsBytes (count names) (wordsOf (wordsFor (count names)) f) (wordsOf (wordsFor (count names)) g)) 0 names
       ≡ accepted (maskedBitmap (count names) (has (wordsOf (wordsFor (count names)) f)) (has (wordsOf (wordsFor (count names)) g)))
-  unfolding bitsetReading bitsetPartsReading mixedAt compactReading slots slotNumber form
+  unfolding bitsetReading bitsetParts bitsetPartsReading mixedAt compactReading slots slotNumber form
   parts-accepted =
       let k : count names ≤ 512 = right-means names right .few in
       let u = wordsFor (count names) in
@@ -161,5 +162,5 @@ module _ (names : List ℕ) (right : namesRight names ≡ true) (f g : ℕ → B
       let s = partsBytes (count names) vs ms in
       let small : count names < 4294967296 = omega arith in
       rw (form-walked (count names) u vs ms lv lm (omega arith), size-back (count names) u vs ms lv lm (omega arith), u32-le32 (count names) [] small)
-      (masked-form s 0 (count names) u (found 12 (12 + u * 4)) (found (16 + u * 4) (16 + u * 4 + u * 4)) vs ms refl
+      (masked-form s 0 (count names) u (bitsetParts (slots (count names) u vs ms lv lm (omega arith))) vs ms refl
       (value-back (count names) u vs ms lv lm (omega arith)) (mask-back (count names) u vs ms lv lm (omega arith)) lv lm refl (small-wordsOf u f) (small-wordsOf u g))

@@ -1,17 +1,8 @@
 -- What the theorems of demand 3 speak of.
 use Prim.Native.Nat.{ℕ}
-use mathlib.Core.Bool.{Bool, _&&_}
-use lib.Dec.{ltb}
-use Rattle.bits.specs.Change.{Same, Below, listMask}
+use mathlib.Core.Bool.{Bool}
+use Rattle.bits.specs.Change.{Same, Below}
 use Rattle.bitset_form.specs.Bitset.{Bitset, effect}
-use Rattle.bitset_form.specs.Bitset.Bitset.{maskedBitmap, nomaskBitmap, maskedList, nomaskList}
-
--- no bit that the bitset speaks of is at or past N: so much 20 and 21 leave of an accepted bitset
-abbrev pub Fits : ℕ → Bitset → Type 0
-Fits n (maskedBitmap size value mask) = Below n (λ i. ltb i size && mask i)
-Fits n (nomaskBitmap size value) = Below n (λ i. ltb i size && value i)
-Fits n (maskedList es) = Below n (listMask es)
-Fits n (nomaskList es) = Below n (listMask es)
 
 -- "two bitsets change it alike if both make the same set of it", for every starting set of bits below N
 abbrev pub ActAlike : ℕ → Bitset → Bitset → Type 0

@@ -1,3 +1,4 @@
 pub mod Normal
 pub mod Claims
 pub mod Sheet
+pub mod Fits

@@ -4,7 +4,7 @@ use mathlib.Core.Path.{_≡_, refl, sym, ap, _∙_}
 use mathlib.Core.Bool.{Bool, true, false, _&&_}
 use mathlib.Core.Logic.{⊎-elim}
 use mathlib.Core.List.{List, [], _∷_, _++_, append-assoc, append-nil}
-use lib.ListN.{length, getD, length-append}
+use lib.ListN.{length, length-append}
 use native.Mathlib.Omega.{arith}
 use borrow.Author.Tests.{lt-ltb, le-ltb, lt-leb}
 use Rattle.basics.specs.Numbers.{le32, u32At}
@@ -29,11 +29,12 @@ use Rattle.netlink_write.proofs.ReadBack.{attributes-end}
 use Rattle.netlink.proofs.walk.Meaning.{stop-is}
 use Rattle.netlink_write.proofs.attributes.Laws.{length-attr, length-nest}
 use Rattle.bitset_form.specs.Policies.{bitsetPolicy, bitsPolicy}
+use Rattle.bitset_form.specs.Parts.{bitsetParts}
 use Rattle.bitset_form.specs.Bitset.{effect}
 use Rattle.bitset_form.specs.Bitset.Bitset.{nomaskBitmap, nomaskList}
 use Rattle.bitset_form.specs.Bitset.Reading.{refused, accepted}
 use Rattle.bitset_compact.specs.Compact.{nomaskReading, compactReading}
-use Rattle.refusal.specs.Refusal.{onStop}
+use Rattle.refusal.specs.Refusal.{onWalk}
 use Rattle.bitset_list.specs.BitList.{listReading}
 use Rattle.bitset.specs.Judge.{mixedAt, bitsetPartsReading, bitsetReading}
 use Rattle.bitset_reply.specs.List.{bitsBytes}
@@ -91,7 +92,7 @@ module _ (s pre post names : List ℕ) (n at : ℕ) (e : s ≡ pre ++ (openingBy
 
   -- a bitset by its walk
   by-walk : (w : Walked) → walked bitsetPolicy s at ≡ w → bitsetReading s at names
-      ≡ onStop (w .stop) refused (bitsetPartsReading s (at - 4) names (getD (w .slots) 1 absent) (getD (w .slots) 2 absent) (getD (w .slots) 3 absent) (getD (w .slots) 4 absent) (getD (w .slots) 5 absent))
+      ≡ onWalk w refused (λ slots. bitsetPartsReading s (at - 4) names (bitsetParts slots))
   unfolding bitsetReading
   by-walk w h = rw h
 
@@ -126,7 +127,7 @@ module _ (s pre post names : List ℕ) (n at : ℕ) (e : s ≡ pre ++ (openingBy
         walked-by bitsetPolicy s at (opened (attribute 4 0 (at + 16) (length s) done)) compact-attributes (rw (nomask-back, size-back))
 
     compact-back : bitsetReading s at names ≡ accepted (nomaskBitmap n (has words))
-    unfolding bitsetPartsReading mixedAt compactReading nomaskReading
+    unfolding bitsetParts bitsetPartsReading mixedAt compactReading nomaskReading
     compact-back =
         by-walk _ compact-walked
         ∙ rw (number-back, value-back, length-bytesOf words, en, le-ltb (length words * 4 / 4) (wordsFor n) (omega arith), words-of-bytes words small, none-between (has words) n)
@@ -158,7 +159,7 @@ module _ (s pre post names : List ℕ) (n at : ℕ) (e : s ≡ pre ++ (openingBy
         walked-by bitsetPolicy s at (opened (attribute 3 2 (at + 16) (length s) done)) verbose-attributes (rw (nomask-back, size-back))
 
     verbose-back : bitsetReading s at names ≡ accepted (nomaskList (listedFrom listed 0 n))
-    unfolding bitsetPartsReading mixedAt listReading
+    unfolding bitsetParts bitsetPartsReading mixedAt listReading
     verbose-back =
         let bits = bitsBytes names listed n in
         let all = part-all s (length s) refl in

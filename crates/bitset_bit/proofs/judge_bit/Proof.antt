@@ -9,8 +9,8 @@ walk-bit-requires c κs = search needs
 enum-known-why : tie.Need-enum-known-why
 enum-known-why c = search needs
 
-enum-known-index : tie.Need-enum-known-index
-enum-known-index c = search needs
+enum-known-parts : tie.Need-enum-known-parts
+enum-known-parts c = search needs
 
 place-requires : tie.Need-place-requires
 place-requires c κs = search needs
@@ -30,7 +30,7 @@ judge-bit-spec =
     (tie.spec
     walk-bit-requires
     enum-known-why
-    enum-known-index
+    enum-known-parts
     place-requires
     judge-bit-parts-requires
     returns

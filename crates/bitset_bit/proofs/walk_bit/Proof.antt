@@ -11,14 +11,14 @@ Inv-loop s from index₀ name₀ on₀ at₀ index name on at = BitFrom s from i
 abbrev μ-loop : tie.MeasureT-loop
 μ-loop s from index₀ name₀ on₀ at₀ index name on at = length s - at
 
-absent-requires : tie.Need-absent-requires Inv-loop μ-loop
-absent-requires c κs = search (needs, bit-laws)
+absent-slot-requires : tie.Need-absent-slot-requires Inv-loop μ-loop
+absent-slot-requires c κs = search (needs, bit-laws)
 
-absent-requires-2 : tie.Need-absent-requires-2 Inv-loop μ-loop
-absent-requires-2 c κs = search (needs, bit-laws)
+absent-slot-requires-2 : tie.Need-absent-slot-requires-2 Inv-loop μ-loop
+absent-slot-requires-2 c κs = search (needs, bit-laws)
 
-absent-requires-3 : tie.Need-absent-requires-3 Inv-loop μ-loop
-absent-requires-3 c κs = search (needs, bit-laws)
+absent-slot-requires-3 : tie.Need-absent-slot-requires-3 Inv-loop μ-loop
+absent-slot-requires-3 c κs = search (needs, bit-laws)
 
 loop-holds : tie.Need-loop-holds Inv-loop μ-loop
 loop-holds c = search (needs, bit-laws)
@@ -95,9 +95,9 @@ walk-bit-spec =
     (tie.spec
     Inv-loop
     μ-loop
-    absent-requires
-    absent-requires-2
-    absent-requires-3
+    absent-slot-requires
+    absent-slot-requires-2
+    absent-slot-requires-3
     loop-holds
     read-attribute-requires
     enum-told

@@ -1,4 +1,4 @@
-use Rattle.bitset_compact.proofs.Laws.{masked-missing, masked-short, masked-short-mask, masked-past, masked-right}
+use Rattle.bitset_compact.proofs.Laws.{masked-laws}
 use borrow.Author.Needs.{needs}
 use Rattle.bitset_compact.proofs.judge_masked.Statement.{statement}
 use Rattle.bitset_compact.proofs.judge_masked.Tie as tie
@@ -7,7 +7,7 @@ refused-requires : tie.Need-refused-requires
 refused-requires c κs = search needs
 
 returns : tie.Need-returns
-returns c = search (needs, masked-missing)
+returns c = search (needs, masked-laws)
 
 payload-requires : tie.Need-payload-requires
 payload-requires c κs = search needs
@@ -22,13 +22,10 @@ refused-requires-2 : tie.Need-refused-requires-2
 refused-requires-2 c κs = search needs
 
 returns-2 : tie.Need-returns-2
-returns-2 c = search (needs, masked-short)
+returns-2 c = search (needs, masked-laws)
 
 payload-requires-2 : tie.Need-payload-requires-2
 payload-requires-2 c κs = search needs
-
-words-for-requires-2 : tie.Need-words-for-requires-2
-words-for-requires-2 c κs = search needs
 
 place-requires-2 : tie.Need-place-requires-2
 place-requires-2 c κs = search needs
@@ -37,7 +34,7 @@ refused-requires-3 : tie.Need-refused-requires-3
 refused-requires-3 c κs = search needs
 
 returns-3 : tie.Need-returns-3
-returns-3 c = search (needs, masked-short-mask)
+returns-3 c = search (needs, masked-laws)
 
 some-past-requires : tie.Need-some-past-requires
 some-past-requires c κs = search needs
@@ -49,9 +46,7 @@ refused-requires-4 : tie.Need-refused-requires-4
 refused-requires-4 c κs = search needs
 
 returns-4 : tie.Need-returns-4
-returns-4 c =
-    let j = c .before .before .before in
-    masked-past _ _ _ _ _ _ (j .before .before .before .before .before .before .before .if1 .left) _ (j .before .before .before .before .before .before .payload .ensures) _ (j .before .before .before .before .before .words-for .ensures) (j .before .before .before .before .if2 .left) _ (j .before .before .before .payload2 .ensures) _ (j .before .before .words-for2 .ensures) (j .before .if3 .left) _ (j .some-past .ensures) _ _ (c .before .place3 .ensures) (c .before .before .if4 .taken) (c .refused4 .ensures)
+returns-4 c = search (needs, masked-laws)
 
 cut-at-requires : tie.Need-cut-at-requires
 cut-at-requires c κs = search needs
@@ -60,9 +55,7 @@ within-requires : tie.Need-within-requires
 within-requires c κs = search needs
 
 returns-5 : tie.Need-returns-5
-returns-5 c =
-    let j = c .before .before .before in
-    masked-right _ _ _ _ _ _ (j .before .before .before .before .before .before .before .if1 .left) _ (j .before .before .before .before .before .before .payload .ensures) _ (j .before .before .before .before .before .words-for .ensures) (j .before .before .before .before .if2 .left) _ (j .before .before .before .payload2 .ensures) _ (j .before .before .words-for2 .ensures) (j .before .if3 .left) _ (j .some-past .ensures) _ _ (c .before .before .if4 .left) (c .before .cut-at .ensures) (c .within .ensures)
+returns-5 c = search (needs, masked-laws)
 
 pub judge-masked-spec : {M : Type 1} → statement M
 judge-masked-spec =
@@ -76,7 +69,6 @@ judge-masked-spec =
     refused-requires-2
     returns-2
     payload-requires-2
-    words-for-requires-2
     place-requires-2
     refused-requires-3
     returns-3

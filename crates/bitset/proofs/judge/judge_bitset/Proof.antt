@@ -1,4 +1,4 @@
-use Rattle.bitset.proofs.judge.Laws.{bitset-fault, bitset-whole}
+use Rattle.bitset.proofs.judge.Laws.{bitset-laws}
 use borrow.Author.Needs.{needs}
 use Rattle.bitset.proofs.judge.judge_bitset.Statement.{statement}
 use Rattle.bitset.proofs.judge.judge_bitset.Tie as tie
@@ -19,34 +19,22 @@ refused-requires : tie.Need-refused-requires
 refused-requires c κs = search needs
 
 returns : tie.Need-returns
-returns c = search (needs, bitset-fault)
+returns c = search (needs, bitset-laws)
 
 enum-told : tie.Need-enum-told
 enum-told c = search needs
 
-element-copy-out-nomask : tie.Need-element-copy-out-nomask
-element-copy-out-nomask c = search needs
-
-element-copy-out-size : tie.Need-element-copy-out-size
-element-copy-out-size c = search needs
-
-element-copy-out-bits : tie.Need-element-copy-out-bits
-element-copy-out-bits c = search needs
-
-element-copy-out-value : tie.Need-element-copy-out-value
-element-copy-out-value c = search needs
-
-element-copy-out-mask : tie.Need-element-copy-out-mask
-element-copy-out-mask c = search needs
-
 place-requires : tie.Need-place-requires
 place-requires c κs = search needs
+
+bitset-parts-requires : tie.Need-bitset-parts-requires
+bitset-parts-requires c κs = search needs
 
 judge-bitset-parts-requires : tie.Need-judge-bitset-parts-requires
 judge-bitset-parts-requires c κs = search needs
 
 returns-2 : tie.Need-returns-2
-returns-2 c = search (needs, bitset-whole)
+returns-2 c = search (needs, bitset-laws)
 
 pub judge-bitset-spec : {M : Type 1} → statement M
 judge-bitset-spec =
@@ -59,11 +47,7 @@ judge-bitset-spec =
     refused-requires
     returns
     enum-told
-    element-copy-out-nomask
-    element-copy-out-size
-    element-copy-out-bits
-    element-copy-out-value
-    element-copy-out-mask
     place-requires
+    bitset-parts-requires
     judge-bitset-parts-requires
     returns-2)
