@@ -8,8 +8,8 @@ use layout::Set;
 use layout::Sizes;
 use layout::set_place;
 use layout::size_of;
-use layout::widths;
 use layout::total_words;
+use layout::widths;
 
 // The words of a set of the port at a position.
 pub fn set_at(settings: &[u32], ports: usize, width: Sizes, position: usize, set: Set) -> &[u32]

@@ -15,6 +15,7 @@ use Rattle.admission.specs.declared.commands.Command.{Command}
 use Rattle.request.specs.Top.{topOf}
 use Rattle.request.specs.Target.{targetOf}
 use Rattle.request.proofs.target.Place.{AimIn, target-counted}
+use Rattle.request.specs.declared.parts.TopParts.{TopParts}
 use Rattle.request.specs.declared.top.Top.{Top}
 use Rattle.request.specs.declared.top.Top.the-variants as T
 use Rattle.request.specs.declared.target.TargetRead.{TargetRead}
@@ -42,14 +43,15 @@ module _ (roll : List ℕ) where
   on-aim-in (A.Port position flags) true set h f = f position h
   on-aim-in (A.Port position flags) false set h f = h
 
-  header-in : (m : List ℕ) (change : Bool) (names : List ℕ) (header bitset : Slot) → PortIn roll (headerDecision m change roll names header bitset .plan)
+  header-in : (m : List ℕ) (change : Bool) (names : List ℕ) (parts : TopParts) → PortIn roll (headerDecision m change roll names parts .plan)
   unfolding headerDecision
-  header-in m change names header bitset = on-aim-in (targetOf m header roll) change (bitsetDecision m bitset names) (target-counted roll m header) (bitset-in m bitset names)
+  header-in m change names parts =
+      on-aim-in (targetOf m (parts .header) roll) change (bitsetDecision m (parts .bitset) names) (target-counted roll m (parts .header)) (bitset-in m (parts .bitset) names)
 
-  on-top-in : (t : Top) (rest : Slot → Slot → Decision) → ((header bitset : Slot) → PortIn roll (rest header bitset .plan)) → PortIn roll (topDecision t rest .plan)
+  on-top-in : (t : Top) (rest : TopParts → Decision) → ((parts : TopParts) → PortIn roll (rest parts .plan)) → PortIn roll (topDecision t rest .plan)
   unfolding PortIn
   on-top-in (T.Refused why) rest f = tt
-  on-top-in (T.Nests header bitset) rest f = f header bitset
+  on-top-in (T.Nests parts) rest f = f parts
 
   -- whatever is decided
   pub decided-in : (m : List ℕ) (command : Command) (names : Names) (d : Decision) → d ≡ decided m command roll names → PortIn roll (d .plan)

@@ -17,6 +17,7 @@ use Rattle.layout.specs.Layout.{Names, listOf}
 use Rattle.admission.specs.declared.commands.Command.{Command}
 use Rattle.request.specs.Top.{topOf}
 use Rattle.request.specs.Target.{targetOf}
+use Rattle.request.specs.declared.parts.TopParts.{TopParts}
 use Rattle.request.specs.declared.top.Top.{Top}
 use Rattle.request.specs.declared.top.Top.the-variants as T
 use Rattle.request.specs.declared.target.TargetRead.{TargetRead}
@@ -59,18 +60,18 @@ module _ (m : List ℕ) (bitset : Slot) (names : List ℕ) (position : ℕ) (p :
 pub ruleset bitset-laws = (bitset-refused, bitset-accepted)
 
 -- the header level
-module _ (m : List ℕ) (change : Bool) (roll names : List ℕ) (header bitset : Slot) (a : TargetRead) (ea : a ≡ targetOf m header roll) (d : Decision) where
-  pub header-refused : (why : Refusal) → a ≡ A.Refused why → d ≡ withoutForm (P.Refused why) → d ≡ headerDecision m change roll names header bitset
+module _ (m : List ℕ) (change : Bool) (roll names : List ℕ) (parts : TopParts) (a : TargetRead) (ea : a ≡ targetOf m (parts .header) roll) (d : Decision) where
+  pub header-refused : (why : Refusal) → a ≡ A.Refused why → d ≡ withoutForm (P.Refused why) → d ≡ headerDecision m change roll names parts
   unfolding headerDecision
   header-refused why q e = e ∙ sym (rw (← ea, q))
 
   module _ (position flags : ℕ) (q : a ≡ A.Port position flags) where
-    pub header-set : change ≡ true → d ≡ bitsetDecision m bitset names position → d ≡ headerDecision m change roll names header bitset
+    pub header-set : change ≡ true → d ≡ bitsetDecision m (parts .bitset) names position → d ≡ headerDecision m change roll names parts
     unfolding headerDecision
     header-set c e = e ∙ sym (rw (← ea, q, c))
 
     pub header-get : change ≡ false → d ≡ withoutForm (P.Get (record { position = position; flags = flags }))
-        → d ≡ headerDecision m change roll names header bitset
+        → d ≡ headerDecision m change roll names parts
     unfolding headerDecision
     header-get c e = e ∙ sym (rw (← ea, q, c))
 
@@ -82,9 +83,9 @@ module _ (m : List ℕ) (command : Command) (roll : List ℕ) (names : Names) (t
   unfolding decided
   decide-refused why q e = e ∙ sym (rw (← et, q))
 
-  pub decide-nests : (header bitset : Slot) (list : List ℕ) → t ≡ T.Nests header bitset → list ≡ listOf names (command .set)
-      → d ≡ headerDecision m (command .change) roll list header bitset → d ≡ decided m command roll names
+  pub decide-nests : (parts : TopParts) (list : List ℕ) → t ≡ T.Nests parts → list ≡ listOf names (command .set)
+      → d ≡ headerDecision m (command .change) roll list parts → d ≡ decided m command roll names
   unfolding decided
-  decide-nests header bitset list q en e = e ∙ sym (rw (← et, q, ← en))
+  decide-nests parts list q en e = e ∙ sym (rw (← et, q, ← en))
 
 pub ruleset decide-laws = (decide-refused, decide-nests)

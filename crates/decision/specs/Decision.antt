@@ -14,6 +14,7 @@ use Rattle.roll.specs.Record.{portCount}
 use Rattle.admission.specs.declared.commands.Command.{Command}
 use Rattle.request.specs.Top.{topOf}
 use Rattle.request.specs.Target.{targetOf}
+use Rattle.request.specs.declared.parts.TopParts.{TopParts}
 use Rattle.request.specs.declared.top.Top.{Top}
 use Rattle.request.specs.declared.top.Top.the-variants as T
 use Rattle.request.specs.declared.target.TargetRead.{TargetRead}
@@ -42,13 +43,13 @@ targetDecision (A.Refused why) change set = withoutForm (P.Refused why)
 targetDecision (A.Port position flags) change set = cond change (set position) (withoutForm (P.Get (record { position = position; flags = flags })))
 
 -- "Then the header is walked whole, then 14 to 17"
-unfoldable pub headerDecision : List ℕ → Bool → List ℕ → List ℕ → Slot → Slot → Decision
-headerDecision m change roll names header bitset = targetDecision (targetOf m header roll) change (bitsetDecision m bitset names)
+unfoldable pub headerDecision : List ℕ → Bool → List ℕ → List ℕ → TopParts → Decision
+headerDecision m change roll names parts = targetDecision (targetOf m (parts .header) roll) change (bitsetDecision m (parts .bitset) names)
 
 -- the nests of the top level, or what is wrong in it or absent
-abbrev pub topDecision : Top → (Slot → Slot → Decision) → Decision
+abbrev pub topDecision : Top → (TopParts → Decision) → Decision
 topDecision (T.Refused why) rest = withoutForm (P.Refused why)
-topDecision (T.Nests header bitset) rest = rest header bitset
+topDecision (T.Nests parts) rest = rest parts
 
 -- "top level is walked whole (10, 11, 12 for each attribute in turn), then header missing (13), then bitset missing in a SET (13)"
 unfoldable pub decided : List ℕ → Command → List ℕ → Names → Decision

@@ -12,6 +12,7 @@ use netlink::walk::Slot;
 use netlink_attributes::payload;
 use netlink_attributes::place;
 use refusal::Refusal;
+use request::parts::TopParts;
 use request::target::TargetRead;
 use request::target::read_target;
 use request::top::Top;
@@ -74,15 +75,16 @@ fn decide_bitset(m: &[u8], bitset: Slot, names: &[u8], position: usize) -> Decis
 fn decide_header(
     m: &[u8],
     change: bool,
-    header: Slot,
-    bitset: Slot,
+    parts: TopParts,
     roll: &[u8],
     ports: &[u64],
     names: &[u8],
 ) -> Decision
     requires { ⌜ Tabled (now roll) (now ports) ⌝ }
-    ensures { λ r. ⌜ r ≡ headerDecision (now (m .entry)) change (now (roll .entry)) (now (names .entry)) header bitset ⌝ }
+    ensures { λ r. ⌜ r ≡ headerDecision (now (m .entry)) change (now (roll .entry)) (now (names .entry)) parts ⌝ }
 {
+    let header = parts.header;
+    let bitset = parts.bitset;
     match read_target(m, header, roll, ports) {
         TargetRead::Refused(why) => {
             return without_form(Plan::Refused(why));
@@ -113,9 +115,9 @@ pub fn decide<'a>(
         Top::Refused(why) => {
             return without_form(Plan::Refused(why));
         }
-        Top::Nests { header, bitset } => {
+        Top::Nests(parts) => {
             let names = names_of(set, debug, flags);
-            return decide_header(m, command.change, header, bitset, roll, ports, names);
+            return decide_header(m, command.change, parts, roll, ports, names);
         }
     }
 }

@@ -60,7 +60,7 @@ use Rattle.demands.proofs.Port.{port-short}
 -- what is named is a port of the roll
 module _ (roll m : List ℕ) (n : Named roll m) where
   here : n .port .position < portCount roll
-  here = target-inside roll m (n .header) _ (n .port .position) (n .port .flags) refl (n .found)
+  here = target-inside roll m (n .parts .header) _ (n .port .position) (n .port .flags) refl (n .found)
 
   named-set : isSet (commandOf (byteAt m 16)) ≡ n .command .change
   unfolding isSet

@@ -23,6 +23,7 @@ use Rattle.boxes.specs.Box.{Box, State, portsIn, sizesIn, widthsIn, placeIn, wi
 use Rattle.request.specs.Top.{topOf}
 use Rattle.request.specs.Target.{targetOf}
 use Rattle.request.proofs.target.Place.{AimIn, target-counted}
+use Rattle.request.specs.declared.parts.TopParts.{TopParts}
 use Rattle.request.specs.declared.top.Top.{Top}
 use Rattle.request.specs.declared.top.Top.the-variants as T
 use Rattle.request.specs.declared.target.TargetRead.{TargetRead}
@@ -109,16 +110,16 @@ module _ (box : Box) (state : State) (fit : Fit box state) where
     aim-is bitset (A.Refused why) i = refl
     aim-is bitset (A.Port position flags) i = port-is bitset (record { position = position; flags = flags }) i
 
-    header-is : (header bitset : Slot)
-        → carriedOut box state m request (headerDecision m (request .command .change) (box .roll) names-here header bitset) ≡ headerOutcome box state m request header bitset
+    header-is : (parts : TopParts)
+        → carriedOut box state m request (headerDecision m (request .command .change) (box .roll) names-here parts) ≡ headerOutcome box state m request parts
     unfolding headerDecision headerOutcome
-    header-is header bitset = aim-is bitset (targetOf m header (box .roll)) (target-counted (box .roll) m header)
+    header-is parts = aim-is (parts .bitset) (targetOf m (parts .header) (box .roll)) (target-counted (box .roll) m (parts .header))
 
     -- the top level
     top-is : (t : Top) → carriedOut box state m request (D.topDecision t (headerDecision m (request .command .change) (box .roll) names-here)) ≡ topOutcome t state m request (headerOutcome box state m request)
     unfolding carriedOut
     top-is (T.Refused why) = refl
-    top-is (T.Nests header bitset) = header-is header bitset
+    top-is (T.Nests parts) = header-is parts
 
     pub carried-is : carriedOut box state m request (decided m (request .command) (box .roll) (box .names)) ≡ requestOutcome box state m request
     unfolding decided requestOutcome

@@ -27,6 +27,7 @@ use Rattle.decision.specs.declared.Target.{Target}
 use Rattle.decision.specs.declared.Plan.{Plan}
 use Rattle.decision.specs.declared.Plan.the-variants as P
 use Rattle.decision.specs.declared.Decision.{Decision}
+use Rattle.request.specs.declared.parts.TopParts.{TopParts}
 use Rattle.request.specs.declared.top.Top.{Top}
 use Rattle.request.specs.declared.top.Top.the-variants as T
 use Rattle.request.specs.declared.target.TargetRead.{TargetRead}
@@ -93,13 +94,14 @@ abbrev pub targetOutcome : TargetRead → State → List ℕ → Request → (Ta
 targetOutcome (A.Refused r) state m request f = unchanged (errorResponse m (request .next) r) state
 targetOutcome (A.Port position flags) state m request f = f (record { position = position; flags = flags })
 
-unfoldable pub headerOutcome : Box → State → List ℕ → Request → Slot → Slot → Outcome State
-headerOutcome box state m request header bitset = targetOutcome (targetOf m header (box .roll)) state m request (portOutcome box state m request bitset)
+unfoldable pub headerOutcome : Box → State → List ℕ → Request → TopParts → Outcome State
+headerOutcome box state m request parts =
+    targetOutcome (targetOf m (parts .header) (box .roll)) state m request (portOutcome box state m request (parts .bitset))
 
 -- the top level, then the header level
-abbrev pub topOutcome : Top → State → List ℕ → Request → (Slot → Slot → Outcome State) → Outcome State
+abbrev pub topOutcome : Top → State → List ℕ → Request → (TopParts → Outcome State) → Outcome State
 topOutcome (T.Refused r) state m request f = unchanged (errorResponse m (request .next) r) state
-topOutcome (T.Nests header bitset) state m request f = f header bitset
+topOutcome (T.Nests parts) state m request f = f parts
 
 unfoldable pub requestOutcome : Box → State → List ℕ → Request → Outcome State
 requestOutcome box state m request = topOutcome (topOf m (request .command .change)) state m request (headerOutcome box state m request)

@@ -1,9 +1,12 @@
 -- Document 01, "What a call says back": the table of refusals. A place is an offset from the start of the request.
 use Prim.Native.Nat.{ℕ}
+use mathlib.Core.List.{List}
 use Rattle.netlink.specs.declared.policy.Fault.{Fault}
 use Rattle.netlink.specs.declared.policy.Fault.the-variants as F
+use Rattle.netlink.specs.declared.walk.Slot.{Slot}
 use Rattle.netlink.specs.declared.walk.Stop.{Stop}
 use Rattle.netlink.specs.declared.walk.Stop.the-variants as S
+use Rattle.netlink.specs.declared.walk.Walked.{Walked}
 use Rattle.netlink_error.specs.declared.Detail.{Detail}
 use Rattle.netlink_error.specs.declared.Detail.the-variants.{Nothing, Offset, MissTop, MissIn}
 use Rattle.refusal.specs.declared.Refusal.{Refusal}
@@ -62,3 +65,7 @@ ofFault F.Payload at = Payload at
 abbrev pub onStop : {A : Type 0} → Stop → (Refusal → A) → A → A
 onStop S.Whole f rest = rest
 onStop (S.At fault at) f rest = f (ofFault fault at)
+
+-- the refusal of a walk's fault, or what the slots of a parent that is right as a whole come to
+abbrev pub onWalk : {A : Type 0} → Walked → (Refusal → A) → (List Slot → A) → A
+onWalk w f rest = onStop (w .stop) f (rest (w .slots))

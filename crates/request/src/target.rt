@@ -31,11 +31,8 @@ pub fn read_target(message: &[u8], header: Slot, roll: &[u8], ports: &[u64]) -> 
 {
     match read_header(message, header) {
         Header::Refused(why) => TargetRead::Refused(why),
-        Header::Parts { index, name, flags } => {
-            with_flags(
-                find_port(message, header, index, name, roll, ports),
-                flags,
-            )
+        Header::Parts { parts, flags } => {
+            with_flags(find_port(message, header, parts, roll, ports), flags)
         }
     }
 }

@@ -15,8 +15,8 @@ without-form-requires c κs = search needs
 returns : tie.Need-returns
 returns c = search (needs, decide-laws)
 
-enum-known-header : tie.Need-enum-known-header
-enum-known-header c = search needs
+enum-known-parts : tie.Need-enum-known-parts
+enum-known-parts c = search needs
 
 names-of-requires : tie.Need-names-of-requires
 names-of-requires c κs = search needs
@@ -35,7 +35,7 @@ decide-spec =
     enum-known-why
     without-form-requires
     returns
-    enum-known-header
+    enum-known-parts
     names-of-requires
     decide-header-requires
     returns-2)

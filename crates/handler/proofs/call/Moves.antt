@@ -30,6 +30,7 @@ use Rattle.admission.specs.declared.Admission.{Admission}
 use Rattle.admission.specs.declared.Admission.the-variants as A
 use Rattle.request.specs.Top.{topOf}
 use Rattle.request.specs.Target.{targetOf}
+use Rattle.request.specs.declared.parts.TopParts.{TopParts}
 use Rattle.request.specs.declared.top.Top.{Top}
 use Rattle.request.specs.declared.top.Top.the-variants as T
 use Rattle.request.specs.declared.target.TargetRead.{TargetRead}
@@ -61,13 +62,13 @@ module _ (box : Box) (state : State) (m : List ℕ) where
         by true = set-next bitset (port .position)
         by false = refl
 
-    header-next : (header bitset : Slot) → headerOutcome box state m request header bitset .response .next ≡ request .next
+    header-next : (parts : TopParts) → headerOutcome box state m request parts .response .next ≡ request .next
     unfolding headerOutcome
-    header-next header bitset = by (targetOf m header (box .roll))
+    header-next parts = by (targetOf m (parts .header) (box .roll))
       where
-        by : (x : TargetRead) → targetOutcome x state m request (portOutcome box state m request bitset) .response .next ≡ request .next
+        by : (x : TargetRead) → targetOutcome x state m request (portOutcome box state m request (parts .bitset)) .response .next ≡ request .next
         by (P.Refused r) = refl
-        by (P.Port position flags) = port-outcome-next bitset (record { position = position; flags = flags })
+        by (P.Port position flags) = port-outcome-next (parts .bitset) (record { position = position; flags = flags })
 
     request-next : requestOutcome box state m request .response .next ≡ request .next
     unfolding requestOutcome
@@ -75,7 +76,7 @@ module _ (box : Box) (state : State) (m : List ℕ) where
       where
         by : (x : Top) → topOutcome x state m request (headerOutcome box state m request) .response .next ≡ request .next
         by (T.Refused r) = refl
-        by (T.Nests header bitset) = header-next header bitset
+        by (T.Nests parts) = header-next parts
 
   message-next : (call : Call) (h : MessageHeader) (next : ℕ) → messageOutcome box state call m h next .response .next ≡ next
   unfolding messageOutcome

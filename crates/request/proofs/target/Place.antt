@@ -16,6 +16,7 @@ use Rattle.roll.proofs.find.Laws.{index-is, name-is}
 use Rattle.request.specs.Header.{headerOf}
 use Rattle.request.specs.Port.{onFound, otherName, portByIndex, portByName, portOf}
 use Rattle.request.specs.Target.{withFlags, onHeader, targetOf}
+use Rattle.request.specs.declared.parts.HeaderParts.{HeaderParts}
 use Rattle.request.specs.declared.header.Header.{Header}
 use Rattle.request.specs.declared.header.Header.the-variants as H
 use Rattle.request.specs.declared.port.PortRead.{PortRead}
@@ -37,11 +38,11 @@ module _ (roll : List ℕ) where
   found-in F.Nothing none some b p g = p
   found-in (F.At k) none some b p g = g k (b k refl)
 
-  by-index-in : (m : List ℕ) (header index name : Slot) → TargetIn (portByIndex m header index name roll)
+  by-index-in : (m : List ℕ) (header : Slot) (parts : HeaderParts) → TargetIn (portByIndex m header parts roll)
   unfolding portByIndex
-  by-index-in m header index name =
-      found-in (foundByIndex roll (slotNumber m index)) _ _ (λ k e. index-is roll (slotNumber m index) k e .0) (omega arith)
-      (λ k p. keeps TargetIn (otherName m name roll k) _ _ (omega arith) p)
+  by-index-in m header parts =
+      found-in (foundByIndex roll (slotNumber m (parts .index))) _ _ (λ k e. index-is roll (slotNumber m (parts .index)) k e .0) (omega arith)
+      (λ k p. keeps TargetIn (otherName m (parts .name) roll k) _ _ (omega arith) p)
 
   by-name-in : (m : List ℕ) (name : Slot) → TargetIn (portByName m name roll)
   unfolding portByName
@@ -49,11 +50,11 @@ module _ (roll : List ℕ) where
       found-in (foundByName roll (partOf m (name .start) (name .end))) _ _ (λ k e. name-is roll (partOf m (name .start) (name .end)) k e .0) (omega arith)
       (λ k p. p)
 
-  port-in : (m : List ℕ) (header index name : Slot) → TargetIn (portOf m header index name roll)
+  port-in : (m : List ℕ) (header : Slot) (parts : HeaderParts) → TargetIn (portOf m header parts roll)
   unfolding portOf
-  port-in m header index name =
-      keeps TargetIn (index .present) (portByIndex m header index name roll) (portByName m name roll)
-      (by-index-in m header index name) (by-name-in m name)
+  port-in m header parts =
+      keeps TargetIn (parts .index .present) (portByIndex m header parts roll) (portByName m (parts .name) roll)
+      (by-index-in m header parts) (by-name-in m (parts .name))
 
   abbrev pub AimIn : TargetRead → Type 0
   AimIn (A.Refused why) = 0 ≤ length roll
@@ -69,9 +70,9 @@ module _ (roll : List ℕ) where
   unfolding targetOf
   target-counted m header = go (headerOf m header)
     where
-      go : (h : Header) → AimIn (onHeader h (λ index name flags. withFlags (portOf m header index name roll) flags))
+      go : (h : Header) → AimIn (onHeader h (λ parts flags. withFlags (portOf m header parts roll) flags))
       go (H.Refused why) = omega arith
-      go (H.Parts index name flags) = with-flags-in (portOf m header index name roll) flags (port-in m header index name)
+      go (H.Parts parts flags) = with-flags-in (portOf m header parts roll) flags (port-in m header parts)
 
   -- a port that a request is aimed at
   pub target-inside : (m : List ℕ) (header : Slot) (r : TargetRead) (k f : ℕ) → r ≡ targetOf m header roll → r ≡ A.Port k f → k < portCount roll
