@@ -14,16 +14,16 @@ use Rattle.roll.specs.Record.{portCount}
 use Rattle.admission.specs.declared.commands.Command.{Command}
 use Rattle.request.specs.Top.{topOf}
 use Rattle.request.specs.Target.{targetOf}
-use Rattle.request.proofs.target.Place.{AimIn, target-counted}
+use Rattle.request.proofs.target.Place.{TargetIn, target-counted}
 use Rattle.request.specs.declared.parts.TopParts.{TopParts}
 use Rattle.request.specs.declared.top.Top.{Top}
 use Rattle.request.specs.declared.top.Top.the-variants as T
+use Rattle.request.specs.declared.target.Target.{Target}
 use Rattle.request.specs.declared.target.TargetRead.{TargetRead}
 use Rattle.request.specs.declared.target.TargetRead.the-variants as A
 use Rattle.decision.specs.Decision.{readingDecision, bitsetDecision, targetDecision, headerDecision, topDecision, decided, PortIn}
 use Rattle.decision.specs.declared.Plan.{Plan}
 use Rattle.decision.specs.declared.Plan.the-variants as P
-use Rattle.decision.specs.declared.Target.{Target}
 use Rattle.decision.specs.declared.Decision.{Decision}
 
 module _ (roll : List ℕ) where
@@ -36,17 +36,17 @@ module _ (roll : List ℕ) where
   unfolding bitsetDecision
   bitset-in m bitset names position h = reading-in (bitsetReading (partOf m 0 (bitset .end)) (bitset .start) names) (count names) position _ h
 
-  on-aim-in : (a : TargetRead) (change : Bool) (set : ℕ → Decision) → AimIn roll a → ((position : ℕ) → position < portCount roll → PortIn roll (set position .plan))
+  on-target-in : (a : TargetRead) (change : Bool) (set : ℕ → Decision) → TargetIn roll a → ((position : ℕ) → position < portCount roll → PortIn roll (set position .plan))
       → PortIn roll (targetDecision a change set .plan)
   unfolding PortIn
-  on-aim-in (A.Refused why) change set h f = tt
-  on-aim-in (A.Port position flags) true set h f = f position h
-  on-aim-in (A.Port position flags) false set h f = h
+  on-target-in (A.Refused why) change set h f = tt
+  on-target-in (A.Port target) true set h f = f (target .position) h
+  on-target-in (A.Port target) false set h f = h
 
   header-in : (m : List ℕ) (change : Bool) (names : List ℕ) (parts : TopParts) → PortIn roll (headerDecision m change roll names parts .plan)
   unfolding headerDecision
   header-in m change names parts =
-      on-aim-in (targetOf m (parts .header) roll) change (bitsetDecision m (parts .bitset) names) (target-counted roll m (parts .header)) (bitset-in m (parts .bitset) names)
+      on-target-in (targetOf m (parts .header) roll) change (bitsetDecision m (parts .bitset) names) (target-counted roll m (parts .header)) (bitset-in m (parts .bitset) names)
 
   on-top-in : (t : Top) (rest : TopParts → Decision) → ((parts : TopParts) → PortIn roll (rest parts .plan)) → PortIn roll (topDecision t rest .plan)
   unfolding PortIn
@@ -62,9 +62,9 @@ module _ (roll : List ℕ) where
       (header-in m (command .change) (listOf names (command .set))))
 
   -- the port of a GET, the port of a SET
-  pub get-in : (p : Plan) (port : Target) → PortIn roll p → p ≡ P.Get port → port .position < portCount roll
+  pub get-in : (p : Plan) (target : Target) → PortIn roll p → p ≡ P.Get target → target .position < portCount roll
   unfolding PortIn
-  get-in p port h q = rw q at h
+  get-in p target h q = rw q at h
 
   pub set-in : (p : Plan) (position nest : ℕ) → PortIn roll p → p ≡ P.Set position nest → position < portCount roll
   unfolding PortIn

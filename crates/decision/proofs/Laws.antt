@@ -20,6 +20,7 @@ use Rattle.request.specs.Target.{targetOf}
 use Rattle.request.specs.declared.parts.TopParts.{TopParts}
 use Rattle.request.specs.declared.top.Top.{Top}
 use Rattle.request.specs.declared.top.Top.the-variants as T
+use Rattle.request.specs.declared.target.Target.{Target}
 use Rattle.request.specs.declared.target.TargetRead.{TargetRead}
 use Rattle.request.specs.declared.target.TargetRead.the-variants as A
 use Rattle.decision.specs.Decision.{withoutForm, readingDecision, bitsetDecision, targetDecision, headerDecision, topDecision, decided}
@@ -65,12 +66,12 @@ module _ (m : List ℕ) (change : Bool) (roll names : List ℕ) (parts : TopPart
   unfolding headerDecision
   header-refused why q e = e ∙ sym (rw (← ea, q))
 
-  module _ (position flags : ℕ) (q : a ≡ A.Port position flags) where
-    pub header-set : change ≡ true → d ≡ bitsetDecision m (parts .bitset) names position → d ≡ headerDecision m change roll names parts
+  module _ (target : Target) (q : a ≡ A.Port target) where
+    pub header-set : change ≡ true → d ≡ bitsetDecision m (parts .bitset) names (target .position) → d ≡ headerDecision m change roll names parts
     unfolding headerDecision
     header-set c e = e ∙ sym (rw (← ea, q, c))
 
-    pub header-get : change ≡ false → d ≡ withoutForm (P.Get (record { position = position; flags = flags }))
+    pub header-get : change ≡ false → d ≡ withoutForm (P.Get target)
         → d ≡ headerDecision m change roll names parts
     unfolding headerDecision
     header-get c e = e ∙ sym (rw (← ea, q, c))

@@ -40,7 +40,7 @@ bitsetDecision m bitset names position =
 -- the port that is named: a SET goes on to the bitset, a GET is decided
 abbrev pub targetDecision : TargetRead → Bool → (ℕ → Decision) → Decision
 targetDecision (A.Refused why) change set = withoutForm (P.Refused why)
-targetDecision (A.Port position flags) change set = cond change (set position) (withoutForm (P.Get (record { position = position; flags = flags })))
+targetDecision (A.Port target) change set = cond change (set (target .position)) (withoutForm (P.Get target))
 
 -- "Then the header is walked whole, then 14 to 17"
 unfoldable pub headerDecision : List ℕ → Bool → List ℕ → List ℕ → TopParts → Decision
@@ -58,5 +58,5 @@ decided m command roll names = topDecision (topOf m (command .change)) (headerDe
 -- the port that a plan names is one of the roll's
 unfoldable pub PortIn : List ℕ → Plan → Type 0
 PortIn roll (P.Refused why) = Unit {0}
-PortIn roll (P.Get port) = port .position < portCount roll
+PortIn roll (P.Get target) = target .position < portCount roll
 PortIn roll (P.Set position nest) = position < portCount roll

@@ -13,16 +13,11 @@ use netlink_attributes::payload;
 use netlink_attributes::place;
 use refusal::Refusal;
 use request::parts::TopParts;
+use request::target::Target;
 use request::target::TargetRead;
 use request::target::read_target;
 use request::top::Top;
 use request::top::read_top;
-
-// The port that a request names: which it is, and the flags of the request's header.
-pub struct Target {
-    pub position: usize,
-    pub flags: u32,
-}
 
 pub enum Plan {
     Refused(Refusal),
@@ -89,11 +84,11 @@ fn decide_header(
         TargetRead::Refused(why) => {
             return without_form(Plan::Refused(why));
         }
-        TargetRead::Port { position, flags } => {
+        TargetRead::Port(target) => {
             if change {
-                return decide_bitset(m, bitset, names, position);
+                return decide_bitset(m, bitset, names, target.position);
             }
-            return without_form(Plan::Get(Target { position, flags }));
+            return without_form(Plan::Get(target));
         }
     }
 }

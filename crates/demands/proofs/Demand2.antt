@@ -59,8 +59,8 @@ use Rattle.demands.proofs.Port.{port-short}
 
 -- what is named is a port of the roll
 module _ (roll m : List ℕ) (n : Named roll m) where
-  here : n .port .position < portCount roll
-  here = target-inside roll m (n .parts .header) _ (n .port .position) (n .port .flags) refl (n .found)
+  here : n .target .position < portCount roll
+  here = target-inside roll m (n .parts .header) _ (n .target) refl (n .found)
 
   named-set : isSet (commandOf (byteAt m 16)) ≡ n .command .change
   unfolding isSet
@@ -126,7 +126,7 @@ module _ (box : Box) (state : State) (call : Call) (datagram : List ℕ) (room :
     fits : Fits (sizeOf (sizesIn box) (n .command .set)) b
     fits = rw (← lists-of count (box .names) (n .command .set)) at (accepted-fits _ _ (listOf (box .names) (n .command .set)) b carried)
 
-    did-set : {p : Outcome State} → p .state ≡ after box state call right (n .port .position) (here (box .roll) m n) (n .command .set) b fits
+    did-set : {p : Outcome State} → p .state ≡ after box state call right (n .target .position) (here (box .roll) m n) (n .command .set) b fits
         → p .response .bytes ≡ ackBytes m h → DoneSet box state call m h p
     did-set ew eb =
         record {
@@ -134,41 +134,41 @@ module _ (box : Box) (state : State) (call : Call) (datagram : List ℕ) (room :
           is-set = change;
           bits = b;
           carries = carried;
-          own = rw ew (set-own box state call right (n .port .position) (here (box .roll) m n) (n .command .set) b fits);
-          others = rw ew (set-others box state call right (n .port .position) (here (box .roll) m n) (n .command .set) b fits);
-          elsewhere = rw ew (set-elsewhere box state call right (n .port .position) (here (box .roll) m n) (n .command .set) b fits);
-          right = rw ew (set-right box state call right (n .port .position) (here (box .roll) m n) (n .command .set) b fits);
+          own = rw ew (set-own box state call right (n .target .position) (here (box .roll) m n) (n .command .set) b fits);
+          others = rw ew (set-others box state call right (n .target .position) (here (box .roll) m n) (n .command .set) b fits);
+          elsewhere = rw ew (set-elsewhere box state call right (n .target .position) (here (box .roll) m n) (n .command .set) b fits);
+          right = rw ew (set-right box state call right (n .target .position) (here (box .roll) m n) (n .command .set) b fits);
           bytes = eb;
         }
 
   -- a GET
   module _ (right : boxRight box state call ≡ true) (n : Named (box .roll) m) where
     abbrev words-of : List ℕ
-    words-of = setOf box state (n .port .position) (n .command .set)
+    words-of = setOf box state (n .target .position) (n .command .set)
 
     abbrev name-of : List ℕ
-    name-of = nameOf (box .roll) (n .port .position)
+    name-of = nameOf (box .roll) (n .target .position)
 
     abbrev bits-of : ℕ
     bits-of = sizeOf (sizesIn box) (n .command .set)
 
     short : nulAt name-of < 16
-    short = port-short (box .roll) (n .port .position) (rules box state call right (n .port .position) (here (box .roll) m n) (n .command .set) .roll-right) (here (box .roll) m n)
+    short = port-short (box .roll) (n .target .position) (rules box state call right (n .target .position) (here (box .roll) m n) (n .command .set) .roll-right) (here (box .roll) m n)
 
-    got-bytes : (next : ℕ) → getBytes box state m (requestOf h next (n .command)) (n .port) ≡ replyTo box state m h n ++ ackBytes m h
+    got-bytes : (next : ℕ) → getBytes box state m (requestOf h next (n .command)) (n .target) ≡ replyTo box state m h n ++ ackBytes m h
     unfolding getBytes replyAndAck
     got-bytes next = refl
 
     did-get : (next : ℕ) {p : Outcome State} → Small (state .words) → n .command .change ≡ false → p .state ≡ state
-        → p .response .bytes ≡ getBytes box state m (requestOf h next (n .command)) (n .port) → DoneGet box state m h p
+        → p .response .bytes ≡ getBytes box state m (requestOf h next (n .command)) (n .target) → DoneGet box state m h p
     did-get next small change ew eb =
         let setDone = n .command .set in
-        let x = indexOf (box .roll) (n .port .position) in
-        let compact = eqb (n .port .flags % 2) 1 in
+        let x = indexOf (box .roll) (n .target .position) in
+        let compact = eqb (n .target .flags % 2) 1 in
         let names = listOf (box .names) setDone in
         let inside = here (box .roll) m n in
-        let named = names-right box state call right (n .port .position) inside setDone in
-        let long = stored-long box state call right (n .port .position) inside setDone in
+        let named = names-right box state call right (n .target .position) inside setDone in
+        let long = stored-long box state call right (n .target .position) inside setDone in
         let parts = reply-attributes (headingOf h (n .command .reply)) x name-of compact names words-of bits-of named (sym (lists-of count (box .names) setDone)) long short in
         let at : 24 + length (numbered 1 x name-of) - 4 ≡ 20 + length (numbered 1 x name-of) = omega arith in
         record {
@@ -180,19 +180,19 @@ module _ (box : Box) (state : State) (call : Call) (datagram : List ℕ) (room :
           parts = rw at parts;
           reads-back =
               reply-back (headingOf h (n .command .reply)) x name-of compact names words-of bits-of named (sym (lists-of count (box .names) setDone)) long
-              (stored-small box state call right (n .port .position) inside setDone small)
-              (stored-below box state call right (n .port .position) inside setDone);
+              (stored-small box state call right (n .target .position) inside setDone small)
+              (stored-below box state call right (n .target .position) inside setDone);
         }
 
-    get-counted : (next : ℕ) → 16 ≤ length m → Counted (getBytes box state m (requestOf h next (n .command)) (n .port))
+    get-counted : (next : ℕ) → 16 ≤ length m → Counted (getBytes box state m (requestOf h next (n .command)) (n .target))
     get-counted next long =
         let setDone = n .command .set in
         let inside = here (box .roll) m n in
         let ack = ack-counted m h long in
         rw (got-bytes next)
-        (reply-counted (headingOf h (n .command .reply)) (indexOf (box .roll) (n .port .position)) name-of (eqb (n .port .flags % 2) 1) (listOf (box .names) setDone) words-of bits-of short
-        (names-right box state call right (n .port .position) inside setDone) (sym (lists-of count (box .names) setDone))
-        (stored-long box state call right (n .port .position) inside setDone) (ackBytes m h) (ack .0) (ack .1))
+        (reply-counted (headingOf h (n .command .reply)) (indexOf (box .roll) (n .target .position)) name-of (eqb (n .target .flags % 2) 1) (listOf (box .names) setDone) words-of bits-of short
+        (names-right box state call right (n .target .position) inside setDone) (sym (lists-of count (box .names) setDone))
+        (stored-long box state call right (n .target .position) inside setDone) (ackBytes m h) (ack .0) (ack .1))
 
   -- the theorems
   abbrev is-set : Bool
@@ -233,7 +233,7 @@ module _ (box : Box) (state : State) (call : Call) (datagram : List ℕ) (room :
       by (messageAnswered next right lo hi long first (messageRefused w e)) = same e refl
       by (messageAnswered next right lo hi long first (getDone n g e)) = same e refl
       by (messageAnswered next right lo hi long first (setDone n g b c e)) =
-          rw e (set-right box state call right (n .port .position) (here (box .roll) m n) (n .command .set) b (fits right n g b c))
+          rw e (set-right box state call right (n .target .position) (here (box .roll) m n) (n .command .set) b (fits right n g b c))
 
   pub count-told : Counted (o .response .bytes)
   count-told = by (call-case box state call datagram room)

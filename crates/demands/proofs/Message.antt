@@ -59,24 +59,24 @@ go-listed m h family admin command e =
 
 module _ (box : Box) (state : State) (m : List ℕ) (h : MessageHeader) (next : ℕ) where
   module _ (n : Named (box .roll) m) where
-    set-case : n .command .change ≡ true → MessageCase box state m h next (setOutcome box state m (requestOf h next (n .command)) (n .parts .bitset) (n .port .position))
+    set-case : n .command .change ≡ true → MessageCase box state m h next (setOutcome box state m (requestOf h next (n .command)) (n .parts .bitset) (n .target .position))
     unfolding setOutcome
     set-case change = go (bitsetReading (partOf m 0 (n .parts .bitset .end)) (n .parts .bitset .start) (listOf (box .names) (n .command .set))) refl
       where
         go : (x : Reading) → bitsetReading (partOf m 0 (n .parts .bitset .end)) (n .parts .bitset .start) (listOf (box .names) (n .command .set)) ≡ x
-            → MessageCase box state m h next (readingOutcome x box state m (requestOf h next (n .command)) (n .port .position))
+            → MessageCase box state m h next (readingOutcome x box state m (requestOf h next (n .command)) (n .target .position))
         go (refused why) e = messageRefused why refl
         go (accepted b) e = setDone n change b e refl
 
-    port-outcome-case : MessageCase box state m h next (portOutcome box state m (requestOf h next (n .command)) (n .parts .bitset) (n .port))
+    port-outcome-case : MessageCase box state m h next (portOutcome box state m (requestOf h next (n .command)) (n .parts .bitset) (n .target))
     unfolding portOutcome
     port-outcome-case = go (n .command .change) refl
       where
         shown : Outcome State
-        shown = unchanged (responseOf Done next (getBytes box state m (requestOf h next (n .command)) (n .port))) state
+        shown = unchanged (responseOf Done next (getBytes box state m (requestOf h next (n .command)) (n .target))) state
 
         go : (t : Bool) → n .command .change ≡ t
-            → MessageCase box state m h next (cond t (setOutcome box state m (requestOf h next (n .command)) (n .parts .bitset) (n .port .position)) shown)
+            → MessageCase box state m h next (cond t (setOutcome box state m (requestOf h next (n .command)) (n .parts .bitset) (n .target .position)) shown)
         go true e = set-case e
         go false e = getDone n e refl
 
@@ -88,14 +88,14 @@ module _ (box : Box) (state : State) (m : List ℕ) (h : MessageHeader) (next : 
       where
         go : (a : TargetRead) → targetOf m (parts .header) (box .roll) ≡ a → MessageCase box state m h next (targetOutcome a state m (requestOf h next command) (portOutcome box state m (requestOf h next command) (parts .bitset)))
         go (P.Refused why) e = messageRefused why refl
-        go (P.Port position request) e =
+        go (P.Port target) e =
             port-outcome-case
             (record {
               command = command;
               listed = listed;
               parts = parts;
               nests = nests;
-              port = record { position = position; flags = request };
+              target = target;
               found = e;
             })
 

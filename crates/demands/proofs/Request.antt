@@ -45,7 +45,7 @@ use Rattle.request.specs.declared.port.PortRead.the-variants as P
 use Rattle.request.specs.declared.top.Top.{Top}
 use Rattle.request.specs.declared.top.Top.the-variants as T
 use Rattle.response.specs.Answer.{Outcome, responseOf, unchanged}
-use Rattle.decision.specs.declared.Target.{Target}
+use Rattle.request.specs.declared.target.Target.{Target}
 use Rattle.execute.specs.declared.Request.{Request}
 use Rattle.demands.specs.Message.{requestOf}
 use Rattle.execute.specs.Execute.{getBytes, readingOutcome, setOutcome, portOutcome, targetOutcome, headerOutcome, topOutcome, requestOutcome}
@@ -84,13 +84,13 @@ module _ (box : Box) (state : State) (m : List ℕ) (h : MessageHeader) (next : 
         let names = listOf (box .names) (command .set) in
         reading-kind (bitsetReading s (bitset .start) names) request position ∙ bitset-first s (bitset .start) names
 
-    port-outcome-first : (port : Target) → kind (portOutcome box state m request bitset port) ≡ firstKind Done (after (command .change) (command .set) bitset)
+    port-outcome-first : (target : Target) → kind (portOutcome box state m request bitset target) ≡ firstKind Done (after (command .change) (command .set) bitset)
     unfolding portOutcome
-    port-outcome-first port = go (command .change) (unchanged (responseOf Done next (getBytes box state m request port)) state) refl
+    port-outcome-first target = go (command .change) (unchanged (responseOf Done next (getBytes box state m request target)) state) refl
       where
         go : (t : Bool) (got : Outcome State) → kind got ≡ Done
-            → kind (cond t (setOutcome box state m request bitset (port .position)) got) ≡ firstKind Done (after t (command .set) bitset)
-        go true got e = set-first (port .position)
+            → kind (cond t (setOutcome box state m request bitset (target .position)) got) ≡ firstKind Done (after t (command .set) bitset)
+        go true got e = set-first (target .position)
         go false got e = e ∙ no-more Done
 
     abbrev rest : List Check
@@ -99,7 +99,7 @@ module _ (box : Box) (state : State) (m : List ℕ) (h : MessageHeader) (next : 
     -- 16 and 17
     module _ (header : Slot) (parts : HeaderParts) (flags : ℕ) where
       abbrev targeted : PortRead → Kind
-      targeted target = kind (targetOutcome (withFlags target flags) state m request (portOutcome box state m request bitset))
+      targeted port = kind (targetOutcome (withFlags port flags) state m request (portOutcome box state m request bitset))
 
       port-first : (p : ℕ) → targeted (P.Port p) ≡ firstKind Done rest
       unfolding withFlags

@@ -32,13 +32,13 @@ pub record DoneSet (box : Box) (state : State) (call : Call) (m : List ℕ) (h :
   pub is-set : named .command .change ≡ true
   pub bits : Bitset
   pub carries : Carries box m named bits
-  pub own : Same (has (setOf box (o .state) (named .port .position) (named .command .set)))
-      (effect bits (has (setOf box state (named .port .position) (named .command .set))))
-  pub others : (position : ℕ) (set : Set) → position < portsIn box → (named .port .position ≡ position → named .command .set ≡ set → ⊥)
+  pub own : Same (has (setOf box (o .state) (named .target .position) (named .command .set)))
+      (effect bits (has (setOf box state (named .target .position) (named .command .set))))
+  pub others : (position : ℕ) (set : Set) → position < portsIn box → (named .target .position ≡ position → named .command .set ≡ set → ⊥)
       → setOf box (o .state) position set ≡ setOf box state position set
   pub elsewhere : (k : ℕ)
-      → (k < placeIn box (named .port .position) (named .command .set))
-      ⊎ (placeIn box (named .port .position) (named .command .set) + widthIn box (named .command .set) ≤ k)
+      → (k < placeIn box (named .target .position) (named .command .set))
+      ⊎ (placeIn box (named .target .position) (named .command .set) + widthIn box (named .command .set) ≤ k)
       → getD (o .state .words) k 0 ≡ getD (state .words) k 0
   pub right : boxRight box (o .state) call ≡ true
   pub bytes : o .response .bytes ≡ ackBytes m h
@@ -46,8 +46,8 @@ pub record DoneSet (box : Box) (state : State) (call : Call) (m : List ℕ) (h :
 -- the reply to a GET: the named set of the named port, compact with header flag 1
 abbrev pub replyTo : (box : Box) → State → (m : List ℕ) → MessageHeader → Named (box .roll) m → List ℕ
 replyTo box state m h n =
-    replyBytes (headingOf h (n .command .reply)) (indexOf (box .roll) (n .port .position)) (nameOf (box .roll) (n .port .position)) (eqb (n .port .flags % 2) 1) (listOf (box .names) (n .command .set))
-    (setOf box state (n .port .position) (n .command .set)) (sizeOf (sizesIn box) (n .command .set))
+    replyBytes (headingOf h (n .command .reply)) (indexOf (box .roll) (n .target .position)) (nameOf (box .roll) (n .target .position)) (eqb (n .target .flags % 2) 1) (listOf (box .names) (n .command .set))
+    (setOf box state (n .target .position) (n .command .set)) (sizeOf (sizesIn box) (n .command .set))
 
 -- a done GET: the settings stay; the reply is written, then the ACK if asked; the reply's two attributes are the port's nest and the set's,
 -- and the set's contents, which our own reader accepts, make the stored set of every starting set
@@ -60,4 +60,4 @@ pub record DoneGet (box : Box) (state : State) (m : List ℕ) (h : MessageHeader
   pub parts : attributes (replyTo box state m h named) 20
       ≡ attribute 1 2 24 (contents - 4) (attribute 2 2 contents (length (replyTo box state m h named)) done)
   pub reads-back : ReadsBack (replyTo box state m h named) contents (listOf (box .names) (named .command .set))
-      (has (setOf box state (named .port .position) (named .command .set)))
+      (has (setOf box state (named .target .position) (named .command .set)))

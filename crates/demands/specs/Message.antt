@@ -17,7 +17,7 @@ use Rattle.request.specs.Target.{targetOf}
 use Rattle.admission.specs.Commands.{commandOf}
 use Rattle.request.specs.Top.{topOf}
 use Rattle.request.specs.declared.target.TargetRead.the-variants as A
-use Rattle.decision.specs.declared.Target.{Target}
+use Rattle.request.specs.declared.target.Target.{Target}
 use Rattle.admission.specs.declared.commands.Command.{Command}
 use Rattle.admission.specs.declared.commands.CommandRead.the-variants.{Listed}
 use Rattle.request.specs.declared.parts.TopParts.{TopParts}
@@ -33,8 +33,8 @@ pub record Named (roll m : List ℕ) : Type 0 where
   pub listed : commandOf (byteAt m 16) ≡ Listed command
   pub parts : TopParts
   pub nests : topOf m (command .change) ≡ Nests parts
-  pub port : Target
-  pub found : targetOf m (parts .header) roll ≡ A.Port (port .position) (port .flags)
+  pub target : Target
+  pub found : targetOf m (parts .header) roll ≡ A.Port target
 
 -- the request as it is admitted
 abbrev pub requestOf : MessageHeader → ℕ → Command → Request
@@ -50,14 +50,14 @@ pub data MessageCase (box : Box) (state : State) (m : List ℕ) (h : MessageHead
   messageSkipped : o ≡ unchanged (noBytes Skipped next) state → MessageCase box state m h next o
   messageRefused : (why : Refusal) → o ≡ unchanged (errorResponse m next why) state → MessageCase box state m h next o
   getDone : (n : Named (box .roll) m) → n .command .change ≡ false
-      → o ≡ unchanged (responseOf Done next (getBytes box state m (requestOf h next (n .command)) (n .port))) state
+      → o ≡ unchanged (responseOf Done next (getBytes box state m (requestOf h next (n .command)) (n .target))) state
       → MessageCase box state m h next o
   setDone : (n : Named (box .roll) m) → n .command .change ≡ true → (b : Bitset) → Carries box m n b
       → o
       ≡ record {
         response = responseOf Done next (ackBytes m h);
         state =
-            withSet box state (n .port .position) (n .command .set)
-            (wordsOf (widthIn box (n .command .set)) (effect b (has (setOf box state (n .port .position) (n .command .set)))));
+            withSet box state (n .target .position) (n .command .set)
+            (wordsOf (widthIn box (n .command .set)) (effect b (has (setOf box state (n .target .position) (n .command .set)))));
       }
       → MessageCase box state m h next o

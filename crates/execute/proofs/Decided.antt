@@ -22,7 +22,7 @@ use Rattle.layout.proofs.Laws.{lists-of, widths-few, size-few}
 use Rattle.boxes.specs.Box.{Box, State, portsIn, sizesIn, widthsIn, placeIn, widthIn, setOf}
 use Rattle.request.specs.Top.{topOf}
 use Rattle.request.specs.Target.{targetOf}
-use Rattle.request.proofs.target.Place.{AimIn, target-counted}
+use Rattle.request.proofs.target.Place.{TargetIn, target-counted}
 use Rattle.request.specs.declared.parts.TopParts.{TopParts}
 use Rattle.request.specs.declared.top.Top.{Top}
 use Rattle.request.specs.declared.top.Top.the-variants as T
@@ -31,7 +31,7 @@ use Rattle.request.specs.declared.target.TargetRead.the-variants as A
 use Rattle.decision.specs.Decision as D
 use Rattle.decision.specs.Decision.{bitsetDecision, headerDecision, decided}
 use Rattle.decision.specs.declared.Decision.{Decision}
-use Rattle.decision.specs.declared.Target.{Target}
+use Rattle.request.specs.declared.target.Target.{Target}
 use Rattle.decision.specs.declared.Plan.the-variants as P
 use Rattle.response.specs.Answer.{Outcome, responseOf, ackBytes, unchanged, Performs}
 use Rattle.response.specs.declared.Kind.the-variants.{Done}
@@ -92,28 +92,28 @@ module _ (box : Box) (state : State) (fit : Fit box state) where
             (changed position here (request .command .set) (partOf m 0 (bitset .end)) (bitset .start) b e)
 
     -- GET or SET
-    port-is : (bitset : Slot) (port : Target) → port .position < portsIn box
-        → carriedOut box state m request (cond (request .command .change) (bitsetDecision m bitset names-here (port .position)) (D.withoutForm (P.Get port))) ≡ portOutcome box state m request bitset port
+    port-is : (bitset : Slot) (target : Target) → target .position < portsIn box
+        → carriedOut box state m request (cond (request .command .change) (bitsetDecision m bitset names-here (target .position)) (D.withoutForm (P.Get target))) ≡ portOutcome box state m request bitset target
     unfolding portOutcome carriedOut
-    port-is bitset port here = go (request .command .change)
+    port-is bitset target here = go (request .command .change)
       where
         go : (change : Bool)
-            → carriedOut box state m request (cond change (bitsetDecision m bitset names-here (port .position)) (D.withoutForm (P.Get port)))
-            ≡ cond change (setOutcome box state m request bitset (port .position)) (unchanged (responseOf Done (request .next) (getBytes box state m request port)) state)
-        go true = bitset-is bitset (port .position) here
+            → carriedOut box state m request (cond change (bitsetDecision m bitset names-here (target .position)) (D.withoutForm (P.Get target)))
+            ≡ cond change (setOutcome box state m request bitset (target .position)) (unchanged (responseOf Done (request .next) (getBytes box state m request target)) state)
+        go true = bitset-is bitset (target .position) here
         go false = refl
 
     -- the header level
-    aim-is : (bitset : Slot) (a : TargetRead) → AimIn (box .roll) a
+    target-is : (bitset : Slot) (a : TargetRead) → TargetIn (box .roll) a
         → carriedOut box state m request (D.targetDecision a (request .command .change) (bitsetDecision m bitset names-here)) ≡ targetOutcome a state m request (portOutcome box state m request bitset)
     unfolding carriedOut
-    aim-is bitset (A.Refused why) i = refl
-    aim-is bitset (A.Port position flags) i = port-is bitset (record { position = position; flags = flags }) i
+    target-is bitset (A.Refused why) i = refl
+    target-is bitset (A.Port target) i = port-is bitset target i
 
     header-is : (parts : TopParts)
         → carriedOut box state m request (headerDecision m (request .command .change) (box .roll) names-here parts) ≡ headerOutcome box state m request parts
     unfolding headerDecision headerOutcome
-    header-is parts = aim-is (parts .bitset) (targetOf m (parts .header) (box .roll)) (target-counted (box .roll) m (parts .header))
+    header-is parts = target-is (parts .bitset) (targetOf m (parts .header) (box .roll)) (target-counted (box .roll) m (parts .header))
 
     -- the top level
     top-is : (t : Top) → carriedOut box state m request (D.topDecision t (headerDecision m (request .command .change) (box .roll) names-here)) ≡ topOutcome t state m request (headerOutcome box state m request)

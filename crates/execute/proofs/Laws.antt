@@ -20,7 +20,7 @@ use Rattle.bitset_form.specs.declared.Form.{Form}
 use Rattle.reply.specs.declared.message.Heading.{Heading}
 use Rattle.response.specs.Answer.{Response, responseOf, errorResponse, ackBytes, unchanged, Responds, Performs}
 use Rattle.response.specs.declared.Kind.the-variants.{Done}
-use Rattle.decision.specs.declared.Target.{Target}
+use Rattle.request.specs.declared.target.Target.{Target}
 use Rattle.decision.specs.declared.Plan.{Plan}
 use Rattle.decision.specs.declared.Plan.the-variants as Pl
 use Rattle.decision.specs.declared.Decision.{Decision}
@@ -69,14 +69,14 @@ show-name roll nm k l e = rw e (omega (arith, name-long roll k l))
 
 pub ruleset show-laws = (show-words, show-few, show-name)
 
-pub get-responds : (box : Box) (state : State) (m : List ℕ) (request : Request) (port : Target) (hd : Heading) (x : ℕ) (nm ns held : List ℕ) (sizes : Sizes) (n : ℕ)
+pub get-responds : (box : Box) (state : State) (m : List ℕ) (request : Request) (target : Target) (hd : Heading) (x : ℕ) (nm ns held : List ℕ) (sizes : Sizes) (n : ℕ)
     (P Q : List ℕ) (r : Answer) → hd ≡ headingOf (request .header) (request .command .reply)
-    → x ≡ indexOf (box .roll) (port .position) → nm ≡ nameOf (box .roll) (port .position) → ns ≡ listOf (box .names) (request .command .set) → sizes ≡ sizesIn box
-    → held ≡ setOf box state (port .position) (request .command .set) → n ≡ sizeOf sizes (request .command .set)
-    → Responds (responseOf Done (request .next) (replyAndAck m (request .header) hd x nm (eqb (port .flags % 2) 1) ns held n)) P Q r
-    → Responds (responseOf Done (request .next) (getBytes box state m request port)) P Q r
+    → x ≡ indexOf (box .roll) (target .position) → nm ≡ nameOf (box .roll) (target .position) → ns ≡ listOf (box .names) (request .command .set) → sizes ≡ sizesIn box
+    → held ≡ setOf box state (target .position) (request .command .set) → n ≡ sizeOf sizes (request .command .set)
+    → Responds (responseOf Done (request .next) (replyAndAck m (request .header) hd x nm (eqb (target .flags % 2) 1) ns held n)) P Q r
+    → Responds (responseOf Done (request .next) (getBytes box state m request target)) P Q r
 unfolding getBytes
-get-responds box state m request port hd x nm ns held sizes n P Q r ehd ex enm ens es eh en s =
+get-responds box state m request target hd x nm ns held sizes n P Q r ehd ex enm ens es eh en s =
     let bits : n ≡ sizeOf (sizesIn box) (request .command .set) = en ∙ rw es in
     rw (← ehd, ← ex, ← enm, ← ens, ← eh, ← bits) s
 
@@ -111,12 +111,12 @@ module _ (box : Box) (state : State) (m : List ℕ) (request : Request) (d : Dec
       go : (p : Plan) → p ≡ Pl.Refused why → Performs (planOutcome p (d .form) box state m request) P Q state r
       go p e = rw e (unchanged-performs (errorResponse m (request .next) why) P Q state r s)
 
-  pub carry-get : (port : Target) → d .plan ≡ Pl.Get port → Responds (responseOf Done (request .next) (getBytes box state m request port)) P Q r
+  pub carry-get : (target : Target) → d .plan ≡ Pl.Get target → Responds (responseOf Done (request .next) (getBytes box state m request target)) P Q r
       → Performs (carriedOut box state m request d) P Q state r
   unfolding carriedOut
-  carry-get port q s = go (d .plan) q
+  carry-get target q s = go (d .plan) q
     where
-      go : (p : Plan) → p ≡ Pl.Get port → Performs (planOutcome p (d .form) box state m request) P Q state r
+      go : (p : Plan) → p ≡ Pl.Get target → Performs (planOutcome p (d .form) box state m request) P Q state r
       go p e = rw e (unchanged-performs _ P Q state r s)
 
   pub carry-set : (position nest : ℕ) (new : State) → d .plan ≡ Pl.Set position nest → new ≡ changedBy box state position (request .command .set) (d .form)

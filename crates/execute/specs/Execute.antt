@@ -23,7 +23,7 @@ use Rattle.reply.specs.declared.message.Heading.{Heading}
 use Rattle.request.specs.Top.{topOf}
 use Rattle.request.specs.Target.{targetOf}
 use Rattle.bitset_form.specs.declared.Form.{Form}
-use Rattle.decision.specs.declared.Target.{Target}
+use Rattle.request.specs.declared.target.Target.{Target}
 use Rattle.decision.specs.declared.Plan.{Plan}
 use Rattle.decision.specs.declared.Plan.the-variants as P
 use Rattle.decision.specs.declared.Decision.{Decision}
@@ -61,9 +61,9 @@ replyAndAck message h heading index name compact names words n = replyBytes head
 
 -- a done GET: the reply about the port, compact with header flag 1
 unfoldable pub getBytes : Box → State → List ℕ → Request → Target → List ℕ
-getBytes box state m request port =
-    replyAndAck m (request .header) (headingOf (request .header) (request .command .reply)) (indexOf (box .roll) (port .position)) (nameOf (box .roll) (port .position))
-    (eqb (port .flags % 2) 1) (listOf (box .names) (request .command .set)) (setOf box state (port .position) (request .command .set))
+getBytes box state m request target =
+    replyAndAck m (request .header) (headingOf (request .header) (request .command .reply)) (indexOf (box .roll) (target .position)) (nameOf (box .roll) (target .position))
+    (eqb (target .flags % 2) 1) (listOf (box .names) (request .command .set)) (setOf box state (target .position) (request .command .set))
     (sizeOf (sizesIn box) (request .command .set))
 
 -- "Settings change only in a done SET, and there only in the named set of the named port": that set becomes what the bitset makes of it
@@ -84,15 +84,15 @@ setOutcome box state m request bitset position =
 
 -- GET or SET
 unfoldable pub portOutcome : Box → State → List ℕ → Request → Slot → Target → Outcome State
-portOutcome box state m request bitset port =
+portOutcome box state m request bitset target =
     cond (request .command .change)
-    (setOutcome box state m request bitset (port .position))
-    (unchanged (responseOf Done (request .next) (getBytes box state m request port)) state)
+    (setOutcome box state m request bitset (target .position))
+    (unchanged (responseOf Done (request .next) (getBytes box state m request target)) state)
 
 -- the header level, then GET or SET
 abbrev pub targetOutcome : TargetRead → State → List ℕ → Request → (Target → Outcome State) → Outcome State
 targetOutcome (A.Refused r) state m request f = unchanged (errorResponse m (request .next) r) state
-targetOutcome (A.Port position flags) state m request f = f (record { position = position; flags = flags })
+targetOutcome (A.Port target) state m request f = f target
 
 unfoldable pub headerOutcome : Box → State → List ℕ → Request → TopParts → Outcome State
 headerOutcome box state m request parts =
@@ -109,7 +109,7 @@ requestOutcome box state m request = topOutcome (topOf m (request .command .chan
 -- what a decision comes to: "5 to 22 write one error message"; a GET is answered; a SET changes the set by its form and is acknowledged
 abbrev pub planOutcome : Plan → Form → Box → State → List ℕ → Request → Outcome State
 planOutcome (P.Refused why) form box state m request = unchanged (errorResponse m (request .next) why) state
-planOutcome (P.Get port) form box state m request = unchanged (responseOf Done (request .next) (getBytes box state m request port)) state
+planOutcome (P.Get target) form box state m request = unchanged (responseOf Done (request .next) (getBytes box state m request target)) state
 planOutcome (P.Set position nest) form box state m request =
     record { response = responseOf Done (request .next) (ackBytes m (request .header)); state = changedBy box state position (request .command .set) form }
 

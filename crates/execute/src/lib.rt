@@ -18,7 +18,6 @@ use boxes::lists::sizes;
 use boxes::settings::set_at;
 use decision::Decision;
 use decision::Plan;
-use decision::Target;
 use decision::decide;
 use layout::Set;
 use layout::change::apply;
@@ -28,6 +27,7 @@ use layout::size_of;
 use layout::widths;
 use netlink_headers::headers::MessageHeader;
 use reply::message::heading_of;
+use request::target::Target;
 use response::Answer;
 use response::acknowledge;
 use response::refuse;
@@ -73,14 +73,14 @@ fn get<'a>(
     flags: &'a [u8],
     m: &[u8],
     request: Request,
-    port: Target,
+    target: Target,
 ) -> Answer
-    requires { ⌜ (32768 ≤ length (now page)) × (16 ≤ length (now m)) × (port .position < portCount (now roll)) ⌝ }
+    requires { ⌜ (32768 ≤ length (now page)) × (16 ≤ length (now m)) × (target .position < portCount (now roll)) ⌝ }
     requires { ⌜ Tabled (now roll) (now ports) ⌝ }
     requires { ⌜ Fit (boxOf (now roll) (now debug) (now flags)) (stateOf (now settings)) ⌝ }
-    ensures { λ r. ⌜ Responds (responseOf Done (request .next) (getBytes (boxOf (now (roll .entry)) (now (debug .entry)) (now (flags .entry))) (stateOf (now (settings .entry))) (now (m .entry)) request port)) (now (page .entry)) (now (page .exit)) r ⌝ }
+    ensures { λ r. ⌜ Responds (responseOf Done (request .next) (getBytes (boxOf (now (roll .entry)) (now (debug .entry)) (now (flags .entry))) (stateOf (now (settings .entry))) (now (m .entry)) request target)) (now (page .entry)) (now (page .exit)) r ⌝ }
 {
-    let position = port.position;
+    let position = target.position;
     let index = index_of(roll, ports, position);
     let name = name_of(roll, ports, position);
     let h = request.header;
@@ -97,7 +97,7 @@ fn get<'a>(
         heading_of(h, command.reply),
         index,
         name,
-        port.flags % 2 == 1,
+        target.flags % 2 == 1,
         names,
         words,
         n,
@@ -148,8 +148,18 @@ fn carry_out<'a>(
         Plan::Refused(why) => {
             return refuse(page, m, why, request.next);
         }
-        Plan::Get(port) => {
-            return get(page, settings, roll, ports, debug, flags, m, request, port);
+        Plan::Get(target) => {
+            return get(
+                page,
+                settings,
+                roll,
+                ports,
+                debug,
+                flags,
+                m,
+                request,
+                target,
+            );
         }
         Plan::Set {
             position,

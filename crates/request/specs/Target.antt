@@ -15,7 +15,7 @@ use Rattle.request.specs.declared.target.TargetRead.the-variants.{Port, 
 -- a port with the header's flags, or 16 or 17
 unfoldable pub withFlags : PortRead → ℕ → TargetRead
 withFlags (T.Refused why) flags = Refused why
-withFlags (T.Port position) flags = Port position flags
+withFlags (T.Port position) flags = Port (record { position = position; flags = flags })
 
 -- a refusal of the header level, or what its parts come to
 abbrev pub onHeader : Header → (HeaderParts → ℕ → TargetRead) → TargetRead

@@ -24,7 +24,7 @@ use Rattle.layout.specs.Layout.{listOf}
 use Rattle.boxes.specs.Box.{Box, State}
 use Rattle.boxes.specs.Rule.{boxRight}
 use Rattle.boxes.specs.declared.Call.{Call}
-use Rattle.decision.specs.declared.Target.{Target}
+use Rattle.request.specs.declared.target.Target.{Target}
 use Rattle.admission.specs.Admission.{admitted}
 use Rattle.admission.specs.declared.Admission.{Admission}
 use Rattle.admission.specs.declared.Admission.the-variants as A
@@ -52,14 +52,14 @@ module _ (box : Box) (state : State) (m : List ℕ) where
         by (refused r) = refl
         by (accepted b) = refl
 
-    port-outcome-next : (bitset : Slot) (port : Target) → portOutcome box state m request bitset port .response .next ≡ request .next
+    port-outcome-next : (bitset : Slot) (target : Target) → portOutcome box state m request bitset target .response .next ≡ request .next
     unfolding portOutcome
-    port-outcome-next bitset port = by (request .command .change)
+    port-outcome-next bitset target = by (request .command .change)
       where
         by : (t : Bool)
-            → cond t (setOutcome box state m request bitset (port .position)) (unchanged (responseOf Done (request .next) (getBytes box state m request port)) state) .response .next
+            → cond t (setOutcome box state m request bitset (target .position)) (unchanged (responseOf Done (request .next) (getBytes box state m request target)) state) .response .next
             ≡ request .next
-        by true = set-next bitset (port .position)
+        by true = set-next bitset (target .position)
         by false = refl
 
     header-next : (parts : TopParts) → headerOutcome box state m request parts .response .next ≡ request .next
@@ -68,7 +68,7 @@ module _ (box : Box) (state : State) (m : List ℕ) where
       where
         by : (x : TargetRead) → targetOutcome x state m request (portOutcome box state m request (parts .bitset)) .response .next ≡ request .next
         by (P.Refused r) = refl
-        by (P.Port position flags) = port-outcome-next (parts .bitset) (record { position = position; flags = flags })
+        by (P.Port target) = port-outcome-next (parts .bitset) target
 
     request-next : requestOutcome box state m request .response .next ≡ request .next
     unfolding requestOutcome

@@ -20,7 +20,7 @@ module _ (t : PortRead) (flags : ℕ) where
   unfolding withFlags
   flags-refused why q = sym (rw q)
 
-  pub flags-port : (k : ℕ) → t ≡ T.Port k → Port k flags ≡ withFlags t flags
+  pub flags-port : (k : ℕ) → t ≡ T.Port k → Port (record { position = k; flags = flags }) ≡ withFlags t flags
   unfolding withFlags
   flags-port k q = sym (rw q)
 
