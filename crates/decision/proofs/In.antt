@@ -9,8 +9,9 @@ use Rattle.netlink.specs.declared.walk.Slot.{Slot}
 use Rattle.bitset_form.specs.Bitset.{Reading}
 use Rattle.bitset_form.specs.Bitset.Reading.{refused, accepted}
 use Rattle.bitset.specs.Judge.{bitsetReading}
-use Rattle.layout.specs.Layout.{Names, listOf}
+use Rattle.layout.specs.Layout.{listOf}
 use Rattle.roll.specs.Record.{portCount}
+use Rattle.boxes.specs.Box.{Box}
 use Rattle.admission.specs.declared.commands.Command.{Command}
 use Rattle.request.specs.Top.{topOf}
 use Rattle.request.specs.Target.{targetOf}
@@ -43,23 +44,10 @@ module _ (roll : List ℕ) where
   on-target-in (A.Port target) true set h f = f (target .position) h
   on-target-in (A.Port target) false set h f = h
 
-  header-in : (m : List ℕ) (change : Bool) (names : List ℕ) (parts : TopParts) → PortIn roll (headerDecision m change roll names parts .plan)
-  unfolding headerDecision
-  header-in m change names parts =
-      on-target-in (targetOf m (parts .header) roll) change (bitsetDecision m (parts .bitset) names) (target-counted roll m (parts .header)) (bitset-in m (parts .bitset) names)
-
   on-top-in : (t : Top) (rest : TopParts → Decision) → ((parts : TopParts) → PortIn roll (rest parts .plan)) → PortIn roll (topDecision t rest .plan)
   unfolding PortIn
   on-top-in (T.Refused why) rest f = tt
   on-top-in (T.Nests parts) rest f = f parts
-
-  -- whatever is decided
-  pub decided-in : (m : List ℕ) (command : Command) (names : Names) (d : Decision) → d ≡ decided m command roll names → PortIn roll (d .plan)
-  unfolding decided
-  decided-in m command names d e =
-      rw e
-      (on-top-in (topOf m (command .change)) (headerDecision m (command .change) roll (listOf names (command .set)))
-      (header-in m (command .change) (listOf names (command .set))))
 
   -- the port of a GET, the port of a SET
   pub get-in : (p : Plan) (target : Target) → PortIn roll p → p ≡ P.Get target → target .position < portCount roll
@@ -69,3 +57,16 @@ module _ (roll : List ℕ) where
   pub set-in : (p : Plan) (position nest : ℕ) → PortIn roll p → p ≡ P.Set position nest → position < portCount roll
   unfolding PortIn
   set-in p position nest h q = rw q at h
+
+module _ (box : Box) (m : List ℕ) (command : Command) where
+  header-in : (parts : TopParts) → PortIn (box .roll) (headerDecision box m command parts .plan)
+  unfolding headerDecision
+  header-in parts =
+      let names = listOf (box .names) (command .set) in
+      on-target-in (box .roll) (targetOf m (parts .header) (box .roll)) (command .change) (bitsetDecision m (parts .bitset) names)
+      (target-counted (box .roll) m (parts .header)) (bitset-in (box .roll) m (parts .bitset) names)
+
+  -- whatever is decided
+  pub decided-in : (d : Decision) (roll : List ℕ) → d ≡ decided box m command → roll ≡ box .roll → PortIn roll (d .plan)
+  unfolding decided
+  decided-in d roll e er = rw (e, er) (on-top-in (box .roll) (topOf m (command .change)) (headerDecision box m command) header-in)

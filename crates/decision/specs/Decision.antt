@@ -9,8 +9,9 @@ use Rattle.netlink.specs.declared.walk.Slot.{Slot}
 use Rattle.bitset_form.specs.Bitset.{Reading, formOf}
 use Rattle.bitset_form.specs.Bitset.Reading.{refused, accepted}
 use Rattle.bitset.specs.Judge.{bitsetReading}
-use Rattle.layout.specs.Layout.{Names, listOf}
+use Rattle.layout.specs.Layout.{listOf}
 use Rattle.roll.specs.Record.{portCount}
+use Rattle.boxes.specs.Box.{Box}
 use Rattle.admission.specs.declared.commands.Command.{Command}
 use Rattle.request.specs.Top.{topOf}
 use Rattle.request.specs.Target.{targetOf}
@@ -43,8 +44,9 @@ targetDecision (A.Refused why) change set = withoutForm (P.Refused why)
 targetDecision (A.Port target) change set = cond change (set (target .position)) (withoutForm (P.Get target))
 
 -- "Then the header is walked whole, then 14 to 17"
-unfoldable pub headerDecision : List ℕ → Bool → List ℕ → List ℕ → TopParts → Decision
-headerDecision m change roll names parts = targetDecision (targetOf m (parts .header) roll) change (bitsetDecision m (parts .bitset) names)
+unfoldable pub headerDecision : Box → List ℕ → Command → TopParts → Decision
+headerDecision box m command parts =
+    targetDecision (targetOf m (parts .header) (box .roll)) (command .change) (bitsetDecision m (parts .bitset) (listOf (box .names) (command .set)))
 
 -- the nests of the top level, or what is wrong in it or absent
 abbrev pub topDecision : Top → (TopParts → Decision) → Decision
@@ -52,8 +54,8 @@ topDecision (T.Refused why) rest = withoutForm (P.Refused why)
 topDecision (T.Nests parts) rest = rest parts
 
 -- "top level is walked whole (10, 11, 12 for each attribute in turn), then header missing (13), then bitset missing in a SET (13)"
-unfoldable pub decided : List ℕ → Command → List ℕ → Names → Decision
-decided m command roll names = topDecision (topOf m (command .change)) (headerDecision m (command .change) roll (listOf names (command .set)))
+unfoldable pub decided : Box → List ℕ → Command → Decision
+decided box m command = topDecision (topOf m (command .change)) (headerDecision box m command)
 
 -- the port that a plan names is one of the roll's
 unfoldable pub PortIn : List ℕ → Plan → Type 0

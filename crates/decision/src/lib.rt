@@ -1,6 +1,6 @@
 // What an admitted request asks for: judged level by level, by value. No stage here sees the page or the settings.
 ghost use mathlib.Core.Path.{_≡_};
-ghost use Rattle.layout.specs.Layout.{namesOf};
+ghost use Rattle.boxes.specs.Box.{boxOf};
 ghost use Rattle.roll.specs.Table.{Tabled};
 ghost use Rattle.decision.specs.Decision.{withoutForm, bitsetDecision, headerDecision, decided};
 use admission::commands::Command;
@@ -67,25 +67,28 @@ fn decide_bitset(m: &[u8], bitset: Slot, names: &[u8], position: usize) -> Decis
 }
 
 // The header level, then in a SET the bitset.
-fn decide_header(
+fn decide_header<'a>(
     m: &[u8],
-    change: bool,
+    command: Command,
     parts: TopParts,
     roll: &[u8],
     ports: &[u64],
-    names: &[u8],
+    debug: &'a [u8],
+    flags: &'a [u8],
 ) -> Decision
     requires { ⌜ Tabled (now roll) (now ports) ⌝ }
-    ensures { λ r. ⌜ r ≡ headerDecision (now (m .entry)) change (now (roll .entry)) (now (names .entry)) parts ⌝ }
+    ensures { λ r. ⌜ r ≡ headerDecision (boxOf (now (roll .entry)) (now (debug .entry)) (now (flags .entry))) (now (m .entry)) command parts ⌝ }
 {
     let header = parts.header;
     let bitset = parts.bitset;
+    let set = command.set;
     match read_target(m, header, roll, ports) {
         TargetRead::Refused(why) => {
             return without_form(Plan::Refused(why));
         }
         TargetRead::Port(target) => {
-            if change {
+            if command.change {
+                let names = names_of(set, debug, flags);
                 return decide_bitset(m, bitset, names, target.position);
             }
             return without_form(Plan::Get(target));
@@ -103,16 +106,14 @@ pub fn decide<'a>(
     flags: &'a [u8],
 ) -> Decision
     requires { ⌜ Tabled (now roll) (now ports) ⌝ }
-    ensures { λ r. ⌜ r ≡ decided (now (m .entry)) command (now (roll .entry)) (namesOf (now (debug .entry)) (now (flags .entry))) ⌝ }
+    ensures { λ r. ⌜ r ≡ decided (boxOf (now (roll .entry)) (now (debug .entry)) (now (flags .entry))) (now (m .entry)) command ⌝ }
 {
-    let set = command.set;
     match read_top(m, command.change) {
         Top::Refused(why) => {
             return without_form(Plan::Refused(why));
         }
         Top::Nests(parts) => {
-            let names = names_of(set, debug, flags);
-            return decide_header(m, command.change, parts, roll, ports, names);
+            return decide_header(m, command, parts, roll, ports, debug, flags);
         }
     }
 }

@@ -111,21 +111,21 @@ module _ (box : Box) (state : State) (fit : Fit box state) where
     target-is bitset (A.Port target) i = port-is bitset target i
 
     header-is : (parts : TopParts)
-        → carriedOut box state m request (headerDecision m (request .command .change) (box .roll) names-here parts) ≡ headerOutcome box state m request parts
+        → carriedOut box state m request (headerDecision box m (request .command) parts) ≡ headerOutcome box state m request parts
     unfolding headerDecision headerOutcome
     header-is parts = target-is (parts .bitset) (targetOf m (parts .header) (box .roll)) (target-counted (box .roll) m (parts .header))
 
     -- the top level
-    top-is : (t : Top) → carriedOut box state m request (D.topDecision t (headerDecision m (request .command .change) (box .roll) names-here)) ≡ topOutcome t state m request (headerOutcome box state m request)
+    top-is : (t : Top) → carriedOut box state m request (D.topDecision t (headerDecision box m (request .command))) ≡ topOutcome t state m request (headerOutcome box state m request)
     unfolding carriedOut
     top-is (T.Refused why) = refl
     top-is (T.Nests parts) = header-is parts
 
-    pub carried-is : carriedOut box state m request (decided m (request .command) (box .roll) (box .names)) ≡ requestOutcome box state m request
+    pub carried-is : carriedOut box state m request (decided box m (request .command)) ≡ requestOutcome box state m request
     unfolding decided requestOutcome
     carried-is = top-is (topOf m (request .command .change))
 
 -- the return of `execute`
 pub execute-told : (box : Box) (state : State) (m : List ℕ) (request : Request) (d : Decision) (P Q : List ℕ) (new : State) (r : Answer)
-    → Fit box state → d ≡ decided m (request .command) (box .roll) (box .names) → Performs (carriedOut box state m request d) P Q new r → Performs (requestOutcome box state m request) P Q new r
+    → Fit box state → d ≡ decided box m (request .command) → Performs (carriedOut box state m request d) P Q new r → Performs (requestOutcome box state m request) P Q new r
 execute-told box state m request d P Q new r fit e did = rw (← carried-is box state fit m request, ← e) did

@@ -18,9 +18,6 @@ returns c = search (needs, decide-laws)
 enum-known-parts : tie.Need-enum-known-parts
 enum-known-parts c = search needs
 
-names-of-requires : tie.Need-names-of-requires
-names-of-requires c κs = search needs
-
 decide-header-requires : tie.Need-decide-header-requires
 decide-header-requires c κs = search needs
 
@@ -36,6 +33,5 @@ decide-spec =
     without-form-requires
     returns
     enum-known-parts
-    names-of-requires
     decide-header-requires
     returns-2)

@@ -18,6 +18,9 @@ returns c = search (needs, header-laws)
 enum-known-target : tie.Need-enum-known-target
 enum-known-target c = search needs
 
+names-of-requires : tie.Need-names-of-requires
+names-of-requires c κs = search needs
+
 decide-bitset-requires : tie.Need-decide-bitset-requires
 decide-bitset-requires c κs = search needs
 
@@ -39,6 +42,7 @@ decide-header-spec =
     without-form-requires
     returns
     enum-known-target
+    names-of-requires
     decide-bitset-requires
     returns-2
     without-form-requires-2
