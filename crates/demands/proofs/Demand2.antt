@@ -3,12 +3,11 @@
 --     read-back        a done GET: the settings stay, and the reply's bitset, read by our own reader, makes the stored set of every starting set
 --     box-kept         a right box stays right, whatever is asked
 --     count-told       what is written is whole messages, each as long as it states, and never more than 24,684 bytes
-use Prim.Native.Nat.{ℕ, _+_, _-_, _%_, _≤_, _<_}
+use Prim.Native.Nat.{ℕ, _+_, _-_, _≤_, _<_}
 use mathlib.Core.Path.{_≡_, refl, sym, ap, _∙_}
 use mathlib.Core.List.{List, _++_}
 use mathlib.Core.Bool.{Bool, true, false}
 use lib.ListN.{length, drop, getD}
-use lib.Dec.{eqb}
 use lib.Seq.{getD-take, getD-drop}
 use native.Mathlib.Omega.{arith}
 use Rattle.basics.specs.Numbers.{byteAt}
@@ -27,7 +26,7 @@ use Rattle.refusal.specs.Refusal.{errnoOf, detailOf}
 use Rattle.bitset_form.specs.Bitset.{Bitset}
 use Rattle.normal.specs.Claims.{Fits}
 use Rattle.normal.proofs.Fits.{accepted-fits}
-use Rattle.roll.specs.Record.{portCount, indexOf, nameOf}
+use Rattle.roll.specs.Record.{portCount}
 use Rattle.boxes.specs.Box.{Box, State, portsIn, sizesIn, widthsIn, setOf}
 use Rattle.boxes.specs.declared.Call.{Call}
 use Rattle.boxes.specs.Rule.{boxRight}
@@ -39,10 +38,9 @@ use Rattle.read_back.proofs.Reply.{reply-attributes, reply-back}
 use Rattle.admission.specs.Commands.{commandOf}
 use Rattle.request.proofs.target.Place.{target-inside}
 use Rattle.response.specs.Answer.{Outcome, ackBytes}
-use Rattle.execute.specs.Execute.{replyAndAck}
 use Rattle.handler.specs.Call.{outcome}
-use Rattle.reply.specs.Message.{headingOf}
-use Rattle.execute.specs.Execute.{getBytes}
+use Rattle.reply.specs.Message.{headingOf, Content}
+use Rattle.execute.specs.Execute.{contentIn, replyAndAck, getBytes}
 use Rattle.response.specs.declared.Kind.the-variants.{Done}
 use Rattle.demands.specs.Answer.{Counted}
 use Rattle.demands.specs.Call.{messageOf}
@@ -143,17 +141,27 @@ module _ (box : Box) (state : State) (call : Call) (datagram : List ℕ) (room :
 
   -- a GET
   module _ (right : boxRight box state call ≡ true) (n : Named (box .roll) m) where
-    abbrev words-of : List ℕ
-    words-of = setOf box state (n .target .position) (n .command .set)
+    abbrev content : Content
+    content = contentIn box state (n .command .set) (n .target)
 
-    abbrev name-of : List ℕ
-    name-of = nameOf (box .roll) (n .target .position)
+    inside : n .target .position < portsIn box
+    inside = here (box .roll) m n
 
-    abbrev bits-of : ℕ
-    bits-of = sizeOf (sizesIn box) (n .command .set)
+    short : nulAt (content .name) < 16
+    unfolding contentIn
+    short = port-short (box .roll) (n .target .position) (rules box state call right (n .target .position) inside (n .command .set) .roll-right) inside
 
-    short : nulAt name-of < 16
-    short = port-short (box .roll) (n .target .position) (rules box state call right (n .target .position) (here (box .roll) m n) (n .command .set) .roll-right) (here (box .roll) m n)
+    named : namesRight (content .names) ≡ true
+    unfolding contentIn
+    named = names-right box state call right (n .target .position) inside (n .command .set)
+
+    counted : count (content .names) ≡ content .bits
+    unfolding contentIn
+    counted = sym (lists-of count (box .names) (n .command .set))
+
+    long : length (content .words) ≡ wordsFor (content .bits)
+    unfolding contentIn
+    long = stored-long box state call right (n .target .position) inside (n .command .set)
 
     got-bytes : (next : ℕ) → getBytes box state m (requestOf h next (n .command)) (n .target) ≡ replyTo box state m h n ++ ackBytes m h
     unfolding getBytes replyAndAck
@@ -161,15 +169,12 @@ module _ (box : Box) (state : State) (call : Call) (datagram : List ℕ) (room :
 
     did-get : (next : ℕ) {p : Outcome State} → Small (state .words) → n .command .change ≡ false → p .state ≡ state
         → p .response .bytes ≡ getBytes box state m (requestOf h next (n .command)) (n .target) → DoneGet box state m h p
+    unfolding contentIn
     did-get next small change ew eb =
-        let setDone = n .command .set in
-        let x = indexOf (box .roll) (n .target .position) in
-        let compact = eqb (n .target .flags % 2) 1 in
-        let names = listOf (box .names) setDone in
-        let inside = here (box .roll) m n in
-        let named = names-right box state call right (n .target .position) inside setDone in
-        let long = stored-long box state call right (n .target .position) inside setDone in
-        let parts = reply-attributes (headingOf h (n .command .reply)) x name-of compact names words-of bits-of named (sym (lists-of count (box .names) setDone)) long short in
+        let heading = headingOf h (n .command .reply) in
+        let x = content .index in
+        let name-of = content .name in
+        let parts = reply-attributes heading x name-of (content .compact) (content .names) (content .words) (content .bits) named counted long short in
         let at : 24 + length (numbered 1 x name-of) - 4 ≡ 20 + length (numbered 1 x name-of) = omega arith in
         record {
           named = n;
@@ -179,20 +184,15 @@ module _ (box : Box) (state : State) (call : Call) (datagram : List ℕ) (room :
           contents = 24 + length (numbered 1 x name-of);
           parts = rw at parts;
           reads-back =
-              reply-back (headingOf h (n .command .reply)) x name-of compact names words-of bits-of named (sym (lists-of count (box .names) setDone)) long
-              (stored-small box state call right (n .target .position) inside setDone small)
-              (stored-below box state call right (n .target .position) inside setDone);
+              reply-back heading x name-of (content .compact) (content .names) (content .words) (content .bits) named counted long
+              (stored-small box state call right (n .target .position) inside (n .command .set) small)
+              (stored-below box state call right (n .target .position) inside (n .command .set));
         }
 
     get-counted : (next : ℕ) → 16 ≤ length m → Counted (getBytes box state m (requestOf h next (n .command)) (n .target))
-    get-counted next long =
-        let setDone = n .command .set in
-        let inside = here (box .roll) m n in
-        let ack = ack-counted m h long in
-        rw (got-bytes next)
-        (reply-counted (headingOf h (n .command .reply)) (indexOf (box .roll) (n .target .position)) name-of (eqb (n .target .flags % 2) 1) (listOf (box .names) setDone) words-of bits-of short
-        (names-right box state call right (n .target .position) inside setDone) (sym (lists-of count (box .names) setDone))
-        (stored-long box state call right (n .target .position) inside setDone) (ackBytes m h) (ack .0) (ack .1))
+    get-counted next most =
+        let ack = ack-counted m h most in
+        rw (got-bytes next) (reply-counted (headingOf h (n .command .reply)) content short named counted long (ackBytes m h) (ack .0) (ack .1))
 
   -- the theorems
   abbrev is-set : Bool

@@ -72,11 +72,11 @@ module _ (box : Box) (state : State) (m : List ℕ) (h : MessageHeader) (next : 
     unfolding portOutcome
     port-outcome-case = go (n .command .change) refl
       where
-        shown : Outcome State
-        shown = unchanged (responseOf Done next (getBytes box state m (requestOf h next (n .command)) (n .target))) state
+        got : Outcome State
+        got = unchanged (responseOf Done next (getBytes box state m (requestOf h next (n .command)) (n .target))) state
 
         go : (t : Bool) → n .command .change ≡ t
-            → MessageCase box state m h next (cond t (setOutcome box state m (requestOf h next (n .command)) (n .parts .bitset) (n .target .position)) shown)
+            → MessageCase box state m h next (cond t (setOutcome box state m (requestOf h next (n .command)) (n .parts .bitset) (n .target .position)) got)
         go true e = set-case e
         go false e = getDone n e refl
 

@@ -153,14 +153,14 @@ module _ (box : Box) (state : State) (call : Call) (datagram : List ℕ) (room :
             ap (λ (a : Admission). kind (onAdmission a box state m h next)) admit
             ∙ ap (λ (t : Top). kind (topOutcome t state m request (headerOutcome box state m request))) (n .nests)
             ∙ ap (λ (a : TargetRead). kind (targetOutcome a state m request (portOutcome box state m request (n .parts .bitset)))) (n .found)
-            ∙ ap (λ (t : Bool). kind (cond t (setOutcome box state m request (n .parts .bitset) (n .target .position)) shown)) change
+            ∙ ap (λ (t : Bool). kind (cond t (setOutcome box state m request (n .parts .bitset) (n .target .position)) got)) change
             ∙ read-kind reading
           where
             request : Request
             request = requestOf h next (n .command)
 
-            shown : Outcome State
-            shown = unchanged (responseOf Done next (getBytes box state m request (n .target))) state
+            got : Outcome State
+            got = unchanged (responseOf Done next (getBytes box state m request (n .target))) state
 
             read-kind : (r : Reading) → kind (readingOutcome r box state m request (n .target .position)) ≡ kindOf r
             read-kind (refused why) = refl

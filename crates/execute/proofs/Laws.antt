@@ -17,7 +17,6 @@ use Rattle.layout.specs.declared.Sizes.{Sizes}
 use Rattle.layout.proofs.Laws.{sizes-of, size-few, widths-few, place-inside, set-length}
 use Rattle.boxes.specs.Box.{Box, State, stateOf, portsIn, sizesIn, widthsIn, placeIn, widthIn, setOf}
 use Rattle.bitset_form.specs.declared.Form.{Form}
-use Rattle.reply.specs.declared.message.Heading.{Heading}
 use Rattle.response.specs.Answer.{Response, responseOf, errorResponse, ackBytes, unchanged, Responds, Performs}
 use Rattle.response.specs.declared.Kind.the-variants.{Done}
 use Rattle.request.specs.declared.target.Target.{Target}
@@ -25,8 +24,8 @@ use Rattle.decision.specs.declared.Plan.{Plan}
 use Rattle.decision.specs.declared.Plan.the-variants as Pl
 use Rattle.decision.specs.declared.Decision.{Decision}
 use Rattle.execute.specs.declared.Request.{Request}
-use Rattle.execute.specs.Execute.{Fit, withSet, changedBy, replyAndAck, getBytes, planOutcome, carriedOut}
-use Rattle.reply.specs.Message.{headingOf}
+use Rattle.execute.specs.Execute.{Fit, withSet, changedBy, contentIn, replyAndAck, getBytes, planOutcome, carriedOut}
+use Rattle.reply.specs.Message.{Content, contentOf}
 use Rattle.response.specs.declared.Answer.{Answer}
 
 -- a stage that leaves the state
@@ -56,29 +55,33 @@ pub ruleset stored-words-laws = (few-by, ports-few, exact-by, stored-words-told,
 
 -- GET
 module _ (box : Box) (state : State) (fit : Fit box state) (set : Set) (sizes : Sizes) (n : ℕ) (es : sizes ≡ sizesIn box) (en : n ≡ sizeOf sizes set) where
-  pub show-words : (position : ℕ) (held : List ℕ) → position < portsIn box → held ≡ setOf box state position set → length held ≡ wordsFor n
+  pub reply-words : (position : ℕ) (held : List ℕ) → position < portsIn box → held ≡ setOf box state position set → length held ≡ wordsFor n
   unfolding setOf
-  show-words position held here eh =
+  reply-words position held here eh =
       ap length eh ∙ set-length (portsIn box) (widthsIn box) position set here (state .words) (fit .exact) ∙ sizes-of wordsFor (sizesIn box) set ∙ sym (rw (en, es))
 
-  pub show-few : n ≤ 512
-  show-few = rw (en, es) (size-few 512 (sizesIn box) set (fit .few))
+  pub reply-few : n ≤ 512
+  reply-few = rw (en, es) (size-few 512 (sizesIn box) set (fit .few))
 
-pub show-name : (roll nm : List ℕ) (k : ℕ) → k < portCount roll → nm ≡ nameOf roll k → length nm ≤ 16
-show-name roll nm k l e = rw e (omega (arith, name-long roll k l))
+pub reply-name : (roll nm : List ℕ) (k : ℕ) → k < portCount roll → nm ≡ nameOf roll k → length nm ≤ 16
+reply-name roll nm k l e = rw e (omega (arith, name-long roll k l))
 
-pub ruleset show-laws = (show-words, show-few, show-name)
+pub ruleset reply-laws = (reply-words, reply-few, reply-name)
 
-pub get-responds : (box : Box) (state : State) (m : List ℕ) (request : Request) (target : Target) (hd : Heading) (x : ℕ) (nm ns held : List ℕ) (sizes : Sizes) (n : ℕ)
-    (P Q : List ℕ) (r : Answer) → hd ≡ headingOf (request .header) (request .command .reply)
-    → x ≡ indexOf (box .roll) (target .position) → nm ≡ nameOf (box .roll) (target .position) → ns ≡ listOf (box .names) (request .command .set) → sizes ≡ sizesIn box
-    → held ≡ setOf box state (target .position) (request .command .set) → n ≡ sizeOf sizes (request .command .set)
-    → Responds (responseOf Done (request .next) (replyAndAck m (request .header) hd x nm (eqb (target .flags % 2) 1) ns held n)) P Q r
+module _ (box : Box) (state : State) (set : Set) (target : Target) where
+  pub content-is : (index : ℕ) (name names words : List ℕ) (sizes : Sizes) (bits : ℕ) → index ≡ indexOf (box .roll) (target .position)
+      → name ≡ nameOf (box .roll) (target .position) → names ≡ listOf (box .names) set → words ≡ setOf box state (target .position) set → sizes ≡ sizesIn box
+      → bits ≡ sizeOf sizes set → contentOf index name (eqb (target .flags % 2) 1) names words bits ≡ contentIn box state set target
+  unfolding contentIn
+  content-is index name names words sizes bits ei en el ew es eb = let size : bits ≡ sizeOf (sizesIn box) set = eb ∙ rw es in rw (ei, en, el, ew, size)
+
+pub get-responds : (box : Box) (state : State) (m : List ℕ) (request : Request) (target : Target) (content : Content) (P Q : List ℕ) (r : Answer)
+    → content ≡ contentIn box state (request .command .set) target → Responds (responseOf Done (request .next) (replyAndAck m request content)) P Q r
     → Responds (responseOf Done (request .next) (getBytes box state m request target)) P Q r
 unfolding getBytes
-get-responds box state m request target hd x nm ns held sizes n P Q r ehd ex enm ens es eh en s =
-    let bits : n ≡ sizeOf (sizesIn box) (request .command .set) = en ∙ rw es in
-    rw (← ehd, ← ex, ← enm, ← ens, ← eh, ← bits) s
+get-responds box state m request target content P Q r e s = rw (← e) s
+
+pub ruleset get-laws = (content-is, get-responds)
 
 -- SET
 module _ (box : Box) (state : State) (fit : Fit box state) (sizes width : Sizes) (es : sizes ≡ sizesIn box) (ew : width ≡ widthsOf sizes) (set : Set) (w : ℕ)

@@ -2,14 +2,13 @@
 use Prim.Native.Nat.{ℕ, _≤_, _<_, _%_}
 use mathlib.Core.Path.{_≡_}
 use mathlib.Core.List.{List, _++_}
-use mathlib.Core.Bool.{Bool, true, cond}
+use mathlib.Core.Bool.{true, cond}
 use lib.ListN.{length, take, drop}
 use lib.Dec.{eqb}
 use Rattle.basics.specs.Put.{splice}
 use Rattle.bits.specs.Set.{has, wordsOf, noneFrom}
 use Rattle.bits.specs.Change.{merge}
 use Rattle.netlink_attributes.specs.Attributes.{partOf}
-use Rattle.netlink_headers.specs.declared.headers.MessageHeader.{MessageHeader}
 use Rattle.netlink.specs.declared.walk.Slot.{Slot}
 use Rattle.bitset_form.specs.Bitset.{Reading, effect}
 use Rattle.bitset_form.specs.Bitset.Reading.{refused, accepted}
@@ -18,8 +17,7 @@ use Rattle.roll.specs.Record.{indexOf, nameOf}
 use Rattle.layout.specs.Layout.{AtMost, listOf, sizeOf, totalWords}
 use Rattle.layout.specs.declared.Set.{Set}
 use Rattle.boxes.specs.Box.{Box, State, portsIn, sizesIn, widthsIn, placeIn, widthIn, setOf}
-use Rattle.reply.specs.Message.{headingOf, replyBytes}
-use Rattle.reply.specs.declared.message.Heading.{Heading}
+use Rattle.reply.specs.Message.{headingOf, Content, replyBytes}
 use Rattle.request.specs.Top.{topOf}
 use Rattle.request.specs.Target.{targetOf}
 use Rattle.bitset_form.specs.declared.Form.{Form}
@@ -55,16 +53,26 @@ changedBy box state position set form =
     (merge (has (take (widthIn box set) (form .mask))) (has (take (widthIn box set) (form .value)))
     (has (take (widthIn box set) (drop (placeIn box position set) (state .words))))))
 
--- "A done GET writes the reply, then the ACK if asked"
-unfoldable pub replyAndAck : List ℕ → MessageHeader → Heading → ℕ → List ℕ → Bool → List ℕ → List ℕ → ℕ → List ℕ
-replyAndAck message h heading index name compact names words n = replyBytes heading index name compact names words n ++ ackBytes message h
+-- what the reply to a GET is about: a set of the port that is named, compact with header flag 1
+unfoldable pub contentIn : Box → State → Set → Target → Content
+contentIn box state set target =
+    record {
+      index = indexOf (box .roll) (target .position);
+      name = nameOf (box .roll) (target .position);
+      compact = eqb (target .flags % 2) 1;
+      names = listOf (box .names) set;
+      words = setOf box state (target .position) set;
+      bits = sizeOf (sizesIn box) set;
+    }
 
--- a done GET: the reply about the port, compact with header flag 1
+-- "A done GET writes the reply, then the ACK if asked"
+unfoldable pub replyAndAck : List ℕ → Request → Content → List ℕ
+replyAndAck m request content =
+    replyBytes (headingOf (request .header) (request .command .reply)) content ++ ackBytes m (request .header)
+
+-- a done GET
 unfoldable pub getBytes : Box → State → List ℕ → Request → Target → List ℕ
-getBytes box state m request target =
-    replyAndAck m (request .header) (headingOf (request .header) (request .command .reply)) (indexOf (box .roll) (target .position)) (nameOf (box .roll) (target .position))
-    (eqb (target .flags % 2) 1) (listOf (box .names) (request .command .set)) (setOf box state (target .position) (request .command .set))
-    (sizeOf (sizesIn box) (request .command .set))
+getBytes box state m request target = replyAndAck m request (contentIn box state (request .command .set) target)
 
 -- "Settings change only in a done SET, and there only in the named set of the named port": that set becomes what the bitset makes of it
 abbrev pub readingOutcome : Reading → Box → State → List ℕ → Request → ℕ → Outcome State

@@ -1,5 +1,5 @@
 // A command that is admitted: decided by value, then carried out.
-pub mod show;
+pub mod get_reply;
 
 ghost use mathlib.Core.Path.{_≡_};
 ghost use Prim.Native.Nat.{_≤_, _<_};
@@ -11,7 +11,7 @@ ghost use Rattle.response.specs.Answer.{Responds, Performs, responseOf};
 ghost use Rattle.response.specs.declared.Kind.the-variants.{Done};
 ghost use Rattle.decision.specs.Decision.{PortIn};
 ghost use Rattle.execute.specs.Execute.{Fit, changedBy, getBytes, requestOutcome, carriedOut};
-use crate::show::show;
+use crate::get_reply::put_get_reply;
 use admission::commands::Command;
 use bitset_form::Form;
 use boxes::lists::sizes;
@@ -26,7 +26,6 @@ use layout::set_place;
 use layout::size_of;
 use layout::widths;
 use netlink_headers::headers::MessageHeader;
-use reply::message::heading_of;
 use request::target::Target;
 use response::Answer;
 use response::acknowledge;
@@ -83,18 +82,15 @@ fn get<'a>(
     let position = target.position;
     let index = index_of(roll, ports, position);
     let name = name_of(roll, ports, position);
-    let h = request.header;
     let command = request.command;
     let set = command.set;
     let words = stored_words(settings, roll, ports, debug, flags, position, set);
     let n = size_of(sizes(debug, flags), set);
     let names = names_of(set, debug, flags);
-    show(
+    put_get_reply(
         page,
         m,
-        h,
-        request.next,
-        heading_of(h, command.reply),
+        request,
         index,
         name,
         target.flags % 2 == 1,
