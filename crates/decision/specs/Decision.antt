@@ -1,5 +1,5 @@
 -- Document 01, "What a call says back", the levels below the table: what an admitted request asks for.
-use Prim.Native.Nat.{ℕ, _-_, _<_}
+use Prim.Native.Nat.{ℕ, _-_}
 use mathlib.Core.List.{List}
 use mathlib.Core.Bool.{Bool, cond}
 use lib.ListN.{replicate}
@@ -10,7 +10,6 @@ use Rattle.bitset_form.specs.Bitset.{Reading, formOf}
 use Rattle.bitset_form.specs.Bitset.Reading.{refused, accepted}
 use Rattle.bitset.specs.Judge.{bitsetReading}
 use Rattle.layout.specs.Layout.{listOf}
-use Rattle.roll.specs.Record.{portCount}
 use Rattle.boxes.specs.Box.{Box}
 use Rattle.admission.specs.declared.commands.Command.{Command}
 use Rattle.request.specs.Top.{topOf}
@@ -56,9 +55,3 @@ topDecision (T.Nests parts) rest = rest parts
 -- "top level is walked whole (10, 11, 12 for each attribute in turn), then header missing (13), then bitset missing in a SET (13)"
 unfoldable pub decided : Box → List ℕ → Command → Decision
 decided box m command = topDecision (topOf m (command .change)) (headerDecision box m command)
-
--- the port that a plan names is one of the roll's
-unfoldable pub PortIn : List ℕ → Plan → Type 0
-PortIn roll (P.Refused why) = Unit {0}
-PortIn roll (P.Get target) = target .position < portCount roll
-PortIn roll (P.Set position nest) = position < portCount roll

@@ -2,7 +2,7 @@
 --     effect           a done SET: the named set of the named port is what `effect` makes of it, every other word is as before
 --     read-back        a done GET: the settings stay, and the reply's bitset, read by our own reader, makes the stored set of every starting set
 --     box-kept         a right box stays right, whatever is asked
---     count-told       what is written is whole messages, each as long as it states, and never more than 24,684 bytes
+--     bytes-counted       what is written is whole messages, each as long as it states, and never more than 24,684 bytes
 use Prim.Native.Nat.{ℕ, _+_, _-_, _≤_, _<_}
 use mathlib.Core.Path.{_≡_, refl, sym, ap, _∙_}
 use mathlib.Core.List.{List, _++_}
@@ -47,7 +47,7 @@ use Rattle.demands.specs.Call.{messageOf}
 use Rattle.demands.specs.CallCase.{CallCase}
 use Rattle.demands.specs.CallCase.CallCase.{ended, notRead, messageAnswered}
 use Rattle.demands.specs.Message.{Named, requestOf, Carries}
-use Rattle.demands.specs.Message.MessageCase.{messageSkipped, messageRefused, getDone, setDone}
+use Rattle.demands.specs.CallCase.MessageCase.{messageSkipped, messageRefused, getDone, setDone}
 use Rattle.demands.specs.Done.{DoneSet, DoneGet, replyTo}
 use Rattle.demands.specs.Request.{isSet}
 use Rattle.demands.proofs.Count.{none-counted, error-counted, ack-counted, reply-counted}
@@ -199,24 +199,24 @@ module _ (box : Box) (state : State) (call : Call) (datagram : List ℕ) (room :
   is-set = isSet (commandOf (byteAt m 16))
 
   pub effect : o .response .kind ≡ Done → is-set ≡ true → DoneSet box state call m h o
-  effect told request = by (call-case box state call datagram room)
+  effect kind-of request = by (call-case box state call datagram room)
     where
       by : CallCase box state call datagram o → DoneSet box state call m h o
-      by (ended e) = absurd (let q = kind-is e ∙ told in let z : _≡_ {A = ℕ} 0 1 = cc in omega arith)
-      by (notRead w l e) = absurd (let q = kind-is e ∙ told in let z : _≡_ {A = ℕ} 0 1 = cc in omega arith)
-      by (messageAnswered next right lo hi long first (messageSkipped e)) = absurd (let q = kind-is e ∙ told in let z : _≡_ {A = ℕ} 0 1 = cc in omega arith)
-      by (messageAnswered next right lo hi long first (messageRefused w e)) = absurd (let q = kind-is e ∙ told in let z : _≡_ {A = ℕ} 0 1 = cc in omega arith)
+      by (ended e) = absurd (let q = kind-is e ∙ kind-of in let z : _≡_ {A = ℕ} 0 1 = cc in omega arith)
+      by (notRead w l e) = absurd (let q = kind-is e ∙ kind-of in let z : _≡_ {A = ℕ} 0 1 = cc in omega arith)
+      by (messageAnswered next right lo hi long first (messageSkipped e)) = absurd (let q = kind-is e ∙ kind-of in let z : _≡_ {A = ℕ} 0 1 = cc in omega arith)
+      by (messageAnswered next right lo hi long first (messageRefused w e)) = absurd (let q = kind-is e ∙ kind-of in let z : _≡_ {A = ℕ} 0 1 = cc in omega arith)
       by (messageAnswered next right lo hi long first (getDone n g e)) = absurd (clash request (named-set (box .roll) m n ∙ g))
       by (messageAnswered next right lo hi long first (setDone n g b c e)) = rw e (did-set right n g b c refl refl)
 
   pub read-back : Small (state .words) → o .response .kind ≡ Done → is-set ≡ false → DoneGet box state m h o
-  read-back small told request = by (call-case box state call datagram room)
+  read-back small kind-of request = by (call-case box state call datagram room)
     where
       by : CallCase box state call datagram o → DoneGet box state m h o
-      by (ended e) = absurd (let q = kind-is e ∙ told in let z : _≡_ {A = ℕ} 0 1 = cc in omega arith)
-      by (notRead w l e) = absurd (let q = kind-is e ∙ told in let z : _≡_ {A = ℕ} 0 1 = cc in omega arith)
-      by (messageAnswered next right lo hi long first (messageSkipped e)) = absurd (let q = kind-is e ∙ told in let z : _≡_ {A = ℕ} 0 1 = cc in omega arith)
-      by (messageAnswered next right lo hi long first (messageRefused w e)) = absurd (let q = kind-is e ∙ told in let z : _≡_ {A = ℕ} 0 1 = cc in omega arith)
+      by (ended e) = absurd (let q = kind-is e ∙ kind-of in let z : _≡_ {A = ℕ} 0 1 = cc in omega arith)
+      by (notRead w l e) = absurd (let q = kind-is e ∙ kind-of in let z : _≡_ {A = ℕ} 0 1 = cc in omega arith)
+      by (messageAnswered next right lo hi long first (messageSkipped e)) = absurd (let q = kind-is e ∙ kind-of in let z : _≡_ {A = ℕ} 0 1 = cc in omega arith)
+      by (messageAnswered next right lo hi long first (messageRefused w e)) = absurd (let q = kind-is e ∙ kind-of in let z : _≡_ {A = ℕ} 0 1 = cc in omega arith)
       by (messageAnswered next right lo hi long first (getDone n g e)) = rw e (did-get right n next small g refl refl)
       by (messageAnswered next right lo hi long first (setDone n g b c e)) = absurd (clash (named-set (box .roll) m n ∙ g) request)
 
@@ -235,8 +235,8 @@ module _ (box : Box) (state : State) (call : Call) (datagram : List ℕ) (room :
       by (messageAnswered next right lo hi long first (setDone n g b c e)) =
           rw e (set-right box state call right (n .target .position) (here (box .roll) m n) (n .command .set) b (fits right n g b c))
 
-  pub count-told : Counted (o .response .bytes)
-  count-told = by (call-case box state call datagram room)
+  pub bytes-counted : Counted (o .response .bytes)
+  bytes-counted = by (call-case box state call datagram room)
     where
       by : CallCase box state call datagram o → Counted (o .response .bytes)
       by (ended e) = rw (bytes-are e) none-counted

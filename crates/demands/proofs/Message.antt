@@ -34,8 +34,9 @@ use Rattle.response.specs.Answer.{Outcome, responseOf, unchanged}
 use Rattle.response.specs.declared.Kind.the-variants.{Done}
 use Rattle.execute.specs.Execute.{getBytes, readingOutcome, setOutcome, portOutcome, targetOutcome, headerOutcome, topOutcome, requestOutcome}
 use Rattle.handler.specs.Call.{onAdmission, messageOutcome}
-use Rattle.demands.specs.Message.{Named, requestOf, MessageCase}
-use Rattle.demands.specs.Message.MessageCase.{messageSkipped, messageRefused, getDone, setDone}
+use Rattle.demands.specs.Message.{Named, requestOf}
+use Rattle.demands.specs.CallCase.{MessageCase}
+use Rattle.demands.specs.CallCase.MessageCase.{messageSkipped, messageRefused, getDone, setDone}
 
 -- a command that is admitted is listed
 go-listed : (m : List ℕ) (h : MessageHeader) (family : ℕ) (admin : Bool) (command : Command) → admitted m h family admin ≡ A.Admitted command

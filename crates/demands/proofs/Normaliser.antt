@@ -197,9 +197,9 @@ module _ (box : Box) (state : State) (call : Call) (datagram : List ℕ) (room :
   pub done-normal : o .response .kind ≡ Done → (d : DoneSet box state call m h o) (page : ℕ) → 144 ≤ page
       → normaliserAnswer box m (d .named) page
       ≡ record { number = 0; bytes = normalForm (count (namesFor box m (d .named))) (d .bits) }
-  done-normal told d page wide =
+  done-normal kind-of d page wide =
       let n = d .named in
       let i = bitset-inside (box .roll) m n in
       both-accept m (namesFor box m n) (n .parts .bitset .start) (n .parts .bitset .end) (i .0) (i .1)
       (box-means box (o .state) call (d .right) .names-right (n .command .set)) page wide
-      (payload-short (ap endsRun told) (n .parts .bitset .start) (n .parts .bitset .end)) (d .bits) (d .carries)
+      (payload-short (ap endsRun kind-of) (n .parts .bitset .start) (n .parts .bitset .end)) (d .bits) (d .carries)

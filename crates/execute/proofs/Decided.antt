@@ -37,7 +37,9 @@ use Rattle.response.specs.Answer.{Outcome, responseOf, ackBytes, unchanged, Per
 use Rattle.response.specs.declared.Kind.the-variants.{Done}
 use Rattle.response.specs.declared.Answer.{Answer}
 use Rattle.execute.specs.declared.Request.{Request}
-use Rattle.execute.specs.Execute.{Fit, withSet, changedBy, getBytes, readingOutcome, setOutcome, portOutcome, targetOutcome, headerOutcome, topOutcome, requestOutcome, carriedOut}
+use Rattle.execute.specs.Execute.{withSet, getBytes, readingOutcome, setOutcome, portOutcome, targetOutcome, headerOutcome, topOutcome, requestOutcome}
+use Rattle.execute.specs.CarriedOut.{changedBy, carriedOut}
+use Rattle.execute.specs.Fit.{Fit}
 
 module _ (box : Box) (state : State) (fit : Fit box state) where
   -- the form of an accepted bitset, applied to a set of a port, makes of it what the bitset says
@@ -126,6 +128,6 @@ module _ (box : Box) (state : State) (fit : Fit box state) where
     carried-is = top-is (topOf m (request .command .change))
 
 -- the return of `execute`
-pub execute-told : (box : Box) (state : State) (m : List ℕ) (request : Request) (d : Decision) (P Q : List ℕ) (new : State) (r : Answer)
+pub execute-performs : (box : Box) (state : State) (m : List ℕ) (request : Request) (d : Decision) (P Q : List ℕ) (new : State) (r : Answer)
     → Fit box state → d ≡ decided box m (request .command) → Performs (carriedOut box state m request d) P Q new r → Performs (requestOutcome box state m request) P Q new r
-execute-told box state m request d P Q new r fit e did = rw (← carried-is box state fit m request, ← e) did
+execute-performs box state m request d P Q new r fit e did = rw (← carried-is box state fit m request, ← e) did

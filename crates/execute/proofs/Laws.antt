@@ -11,7 +11,8 @@ use Rattle.bits.specs.Change.{merge}
 use Rattle.refusal.specs.declared.Refusal.{Refusal}
 use Rattle.roll.specs.Record.{portCount, indexOf, nameOf}
 use Rattle.roll.proofs.table.Laws.{name-long}
-use Rattle.layout.specs.Layout.{AtMost, listOf, sizeOf, widthsOf, totalWords, setPlace, setAt}
+use Rattle.layout.specs.Layout.{listOf, sizeOf, widthsOf, totalWords, setPlace, setAt}
+use Rattle.layout.specs.AtMost.{AtMost}
 use Rattle.layout.specs.declared.Set.{Set}
 use Rattle.layout.specs.declared.Sizes.{Sizes}
 use Rattle.layout.proofs.Laws.{sizes-of, size-few, widths-few, place-inside, set-length}
@@ -24,7 +25,9 @@ use Rattle.decision.specs.declared.Plan.{Plan}
 use Rattle.decision.specs.declared.Plan.the-variants as Pl
 use Rattle.decision.specs.declared.Decision.{Decision}
 use Rattle.execute.specs.declared.Request.{Request}
-use Rattle.execute.specs.Execute.{Fit, withSet, changedBy, contentIn, replyAndAck, getBytes, planOutcome, carriedOut}
+use Rattle.execute.specs.Execute.{withSet, contentIn, replyAndAck, getBytes}
+use Rattle.execute.specs.CarriedOut.{changedBy, planOutcome, carriedOut}
+use Rattle.execute.specs.Fit.{Fit}
 use Rattle.reply.specs.Message.{Content, contentOf}
 use Rattle.response.specs.declared.Answer.{Answer}
 
@@ -44,14 +47,14 @@ module _ (box : Box) (state : State) (fit : Fit box state) (sizes width : Sizes)
     pub exact-by : (ws : List ℕ) → ws ≡ state .words → length ws ≡ totalWords ports width
     exact-by ws e = ap length e ∙ rw (ep, ew, es) (fit .exact)
 
-    pub stored-words-told : (h : List ℕ) (position : ℕ) (set : Set) → h ≡ setAt (state .words) ports width position set → h ≡ setOf box state position set
+    pub stored-words-are : (h : List ℕ) (position : ℕ) (set : Set) → h ≡ setAt (state .words) ports width position set → h ≡ setOf box state position set
     unfolding setOf
-    stored-words-told h position set e = e ∙ rw (ep, ew, es)
+    stored-words-are h position set e = e ∙ rw (ep, ew, es)
 
 pub port-here : (roll : List ℕ) (ports position : ℕ) → position < portCount roll → ports ≡ portCount roll → position < ports
 port-here roll ports position h e = rw e h
 
-pub ruleset stored-words-laws = (few-by, ports-few, exact-by, stored-words-told, port-here)
+pub ruleset stored-words-laws = (few-by, ports-few, exact-by, stored-words-are, port-here)
 
 -- GET
 module _ (box : Box) (state : State) (fit : Fit box state) (set : Set) (sizes : Sizes) (n : ℕ) (es : sizes ≡ sizesIn box) (en : n ≡ sizeOf sizes set) where
@@ -97,13 +100,13 @@ module _ (box : Box) (state : State) (fit : Fit box state) (sizes width : Sizes)
         let l = exact-by box state fit sizes width es ew (portsIn box) refl ws e in
         omega arith
 
-    pub change-told : (form : Form) (new : List ℕ)
+    pub change-is : (form : Form) (new : List ℕ)
         → new ≡ splice at (state .words) (wordsOf w (merge (has (take w (form .mask))) (has (take w (form .value))) (has (take w (drop at (state .words))))))
         → stateOf new ≡ changedBy box state position set form
     unfolding changedBy withSet placeIn widthIn setPlace
-    change-told form new e = ap stateOf (e ∙ rw (ea, en, ew, es))
+    change-is form new e = ap stateOf (e ∙ rw (ea, en, ew, es))
 
-pub ruleset change-laws = (few-by, apply-width, apply-room, change-told)
+pub ruleset change-laws = (few-by, apply-width, apply-room, change-is)
 
 -- a decision carried out
 module _ (box : Box) (state : State) (m : List ℕ) (request : Request) (d : Decision) (P Q : List ℕ) (r : Answer) where

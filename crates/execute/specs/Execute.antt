@@ -1,30 +1,23 @@
 -- Document 01, "What a call says back", from the levels on: an admitted command judged level by level, then carried out.
-use Prim.Native.Nat.{ℕ, _≤_, _<_, _%_}
-use mathlib.Core.Path.{_≡_}
+use Prim.Native.Nat.{ℕ, _%_}
 use mathlib.Core.List.{List, _++_}
-use mathlib.Core.Bool.{true, cond}
-use lib.ListN.{length, take, drop}
+use mathlib.Core.Bool.{cond}
 use lib.Dec.{eqb}
 use Rattle.basics.specs.Put.{splice}
-use Rattle.bits.specs.Set.{has, wordsOf, noneFrom}
-use Rattle.bits.specs.Change.{merge}
+use Rattle.bits.specs.Set.{has, wordsOf}
 use Rattle.netlink_attributes.specs.Attributes.{partOf}
 use Rattle.netlink.specs.declared.walk.Slot.{Slot}
 use Rattle.bitset_form.specs.Bitset.{Reading, effect}
 use Rattle.bitset_form.specs.Bitset.Reading.{refused, accepted}
 use Rattle.bitset.specs.Judge.{bitsetReading}
 use Rattle.roll.specs.Record.{indexOf, nameOf}
-use Rattle.layout.specs.Layout.{AtMost, listOf, sizeOf, totalWords}
+use Rattle.layout.specs.Layout.{listOf, sizeOf}
 use Rattle.layout.specs.declared.Set.{Set}
-use Rattle.boxes.specs.Box.{Box, State, portsIn, sizesIn, widthsIn, placeIn, widthIn, setOf}
+use Rattle.boxes.specs.Box.{Box, State, sizesIn, placeIn, widthIn, setOf}
 use Rattle.reply.specs.Message.{headingOf, Content, replyBytes}
 use Rattle.request.specs.Top.{topOf}
 use Rattle.request.specs.Target.{targetOf}
-use Rattle.bitset_form.specs.declared.Form.{Form}
 use Rattle.request.specs.declared.target.Target.{Target}
-use Rattle.decision.specs.declared.Plan.{Plan}
-use Rattle.decision.specs.declared.Plan.the-variants as P
-use Rattle.decision.specs.declared.Decision.{Decision}
 use Rattle.request.specs.declared.parts.TopParts.{TopParts}
 use Rattle.request.specs.declared.top.Top.{Top}
 use Rattle.request.specs.declared.top.Top.the-variants as T
@@ -34,24 +27,9 @@ use Rattle.response.specs.Answer.{Outcome, responseOf, errorResponse, ackBytes,
 use Rattle.response.specs.declared.Kind.the-variants.{Done}
 use Rattle.execute.specs.declared.Request.{Request}
 
--- what a right box says of its parts
-pub record Fit (box : Box) (state : State) : Type 0 where
-  pub ports : portsIn box ≤ 64
-  pub few : AtMost 512 (sizesIn box)
-  pub exact : length (state .words) ≡ totalWords (portsIn box) (widthsIn box)
-  pub clear : (position : ℕ) → position < portsIn box → (set : Set) → noneFrom (setOf box state position set) (sizeOf (sizesIn box) set) ≡ true
-
 -- the state with new words for a set of the port at a position
 unfoldable pub withSet : Box → State → ℕ → Set → List ℕ → State
 withSet box state position set new = record { words = splice (placeIn box position set) (state .words) new }
-
--- a form applied to that set, word by word
-unfoldable pub changedBy : Box → State → ℕ → Set → Form → State
-changedBy box state position set form =
-    withSet box state position set
-    (wordsOf (widthIn box set)
-    (merge (has (take (widthIn box set) (form .mask))) (has (take (widthIn box set) (form .value)))
-    (has (take (widthIn box set) (drop (placeIn box position set) (state .words))))))
 
 -- what the reply to a GET is about: a set of the port that is named, compact with header flag 1
 unfoldable pub contentIn : Box → State → Set → Target → Content
@@ -113,13 +91,3 @@ topOutcome (T.Nests parts) state m request f = f parts
 
 unfoldable pub requestOutcome : Box → State → List ℕ → Request → Outcome State
 requestOutcome box state m request = topOutcome (topOf m (request .command .change)) state m request (headerOutcome box state m request)
-
--- what a decision comes to: "5 to 22 write one error message"; a GET is answered; a SET changes the set by its form and is acknowledged
-abbrev pub planOutcome : Plan → Form → Box → State → List ℕ → Request → Outcome State
-planOutcome (P.Refused why) form box state m request = unchanged (errorResponse m (request .next) why) state
-planOutcome (P.Get target) form box state m request = unchanged (responseOf Done (request .next) (getBytes box state m request target)) state
-planOutcome (P.Set position nest) form box state m request =
-    record { response = responseOf Done (request .next) (ackBytes m (request .header)); state = changedBy box state position (request .command .set) form }
-
-unfoldable pub carriedOut : Box → State → List ℕ → Request → Decision → Outcome State
-carriedOut box state m request d = planOutcome (d .plan) (d .form) box state m request

@@ -9,8 +9,10 @@ ghost use Rattle.roll.specs.Table.{Tabled};
 ghost use Rattle.boxes.specs.Box.{boxOf, stateOf, setOf};
 ghost use Rattle.response.specs.Answer.{Responds, Performs, responseOf};
 ghost use Rattle.response.specs.declared.Kind.the-variants.{Done};
-ghost use Rattle.decision.specs.Decision.{PortIn};
-ghost use Rattle.execute.specs.Execute.{Fit, changedBy, getBytes, requestOutcome, carriedOut};
+ghost use Rattle.decision.specs.PortIn.{PortIn};
+ghost use Rattle.execute.specs.Execute.{getBytes, requestOutcome};
+ghost use Rattle.execute.specs.CarriedOut.{changedBy, carriedOut};
+ghost use Rattle.execute.specs.Fit.{Fit};
 use crate::get_reply::put_get_reply;
 use admission::commands::Command;
 use bitset_form::Form;
@@ -30,6 +32,7 @@ use request::target::Target;
 use response::Answer;
 use response::acknowledge;
 use response::refuse;
+use roll::table::PORTS;
 use roll::table::index_of;
 use roll::table::name_of;
 
@@ -39,9 +42,6 @@ pub struct Request {
     pub next: usize,
     pub command: Command,
 }
-
-// The most ports of a box: where a set lies does not depend on how many ports follow.
-const PORTS: usize = 64;
 
 // The words of a set of the port at a position.
 fn stored_words<'s>(
@@ -115,6 +115,7 @@ fn change(
     ensures { λ _. ⌜ stateOf (now (settings .exit)) ≡ changedBy (boxOf (now (roll .entry)) (now (debug .entry)) (now (flags .entry))) (stateOf (now (settings .entry))) position set form ⌝ }
 {
     let width = widths(sizes(debug, flags));
+    // Where a set lies does not depend on how many ports follow.
     let at = set_place(PORTS, width, position, set);
     let w = size_of(width, set);
     let mask = form.mask;

@@ -41,7 +41,7 @@ use Rattle.execute.specs.declared.Request.{Request}
 use Rattle.execute.specs.Execute.{getBytes, readingOutcome, setOutcome, portOutcome, targetOutcome, headerOutcome, topOutcome, requestOutcome}
 use Rattle.handler.specs.Call.{onAdmission, messageOutcome, refusedInPlace, onMessage, positionOutcome, outcome, endsRun}
 
--- whatever is said of a message, the next position is the one after it
+-- whatever a message comes to, the next position is the one after it
 module _ (box : Box) (state : State) (m : List ℕ) where
   module _ (request : Request) where
     set-next : (bitset : Slot) (position : ℕ) → setOutcome box state m request bitset position .response .next ≡ request .next
@@ -108,27 +108,36 @@ module _ (box : Box) (state : State) (call : Call) (datagram : List ℕ) (room :
       let n = message-next box state (partOf datagram position (position + stated)) call (messageHeader datagram position) after in
       (omega arith, omega arith)
 
-  pub moves : Moved (outcome box state call datagram room)
-  unfolding outcome positionOutcome messageAt
-  moves =
-      by (boxRight box state call) (ltb room 32768) (ltb 32768 (length datagram)) (ltb (length datagram) position)
-      (eqb position (length datagram)) (ltb (length datagram) (position + 16)) (ltb stated 16) (ltb (length datagram) (position + stated)) refl refl
+  -- the message at the position
+  position-moved : Moved (positionOutcome box state call datagram)
+  unfolding positionOutcome messageAt
+  position-moved =
+      by (ltb (length datagram) position) (eqb position (length datagram)) (ltb (length datagram) (position + 16)) (ltb stated 16)
+      (ltb (length datagram) (position + stated)) refl refl
     where
-      by : (right page long past end cut low high : Bool) → ltb stated 16 ≡ low → ltb (length datagram) (position + stated) ≡ high
+      by : (past end cut low high : Bool) → ltb stated 16 ≡ low → ltb (length datagram) (position + stated) ≡ high
+          → Moved
+          (onMessage
+          (cond past Outside (cond end AtEnd (cond cut Cut (cond (low || high) Misstated (Message (messageHeader datagram position) (position + stated) after)))))
+          call state (λ h end next. messageOutcome box state call (partOf datagram position end) h next))
+      by true end cut low high el eh e = absurd (clash refl e)
+      by false true cut low high el eh e = absurd (clash refl e)
+      by false false true low high el eh e = absurd (clash refl e)
+      by false false false true high el eh e = absurd (clash refl e)
+      by false false false false true el eh e = absurd (clash refl e)
+      by false false false false false el eh e =
+          answer-moved (ltb-false stated 16 el) (ltb-false (length datagram) (position + stated) eh) e
+
+  pub moves : Moved (outcome box state call datagram room)
+  unfolding outcome
+  moves = by (boxRight box state call) (ltb room 32768) (ltb 32768 (length datagram))
+    where
+      by : (right page long : Bool)
           → Moved
           (cond (not right) (refusedInPlace R.Box call state)
           (cond page (refusedInPlace R.Page call state)
-          (cond long (refusedInPlace R.Datagram call state)
-          (onMessage
-          (cond past Outside (cond end AtEnd (cond cut Cut (cond (low || high) Misstated (Message (messageHeader datagram position) (position + stated) after)))))
-          call state (λ h end next. messageOutcome box state call (partOf datagram position end) h next)))))
-      by false page long past end cut low high el eh e = absurd (clash refl e)
-      by true true long past end cut low high el eh e = absurd (clash refl e)
-      by true false true past end cut low high el eh e = absurd (clash refl e)
-      by true false false true end cut low high el eh e = absurd (clash refl e)
-      by true false false false true cut low high el eh e = absurd (clash refl e)
-      by true false false false false true low high el eh e = absurd (clash refl e)
-      by true false false false false false true high el eh e = absurd (clash refl e)
-      by true false false false false false false true el eh e = absurd (clash refl e)
-      by true false false false false false false false el eh e =
-          answer-moved (ltb-false stated 16 el) (ltb-false (length datagram) (position + stated) eh) e
+          (cond long (refusedInPlace R.Datagram call state) (positionOutcome box state call datagram))))
+      by false page long e = absurd (clash refl e)
+      by true true long e = absurd (clash refl e)
+      by true false true e = absurd (clash refl e)
+      by true false false e = position-moved e
