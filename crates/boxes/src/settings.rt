@@ -2,7 +2,8 @@
 ghost use mathlib.Core.Path.{_≡_};
 ghost use Prim.Native.Nat.{_≤_, _<_};
 ghost use lib.ListN.{length};
-ghost use Rattle.layout.specs.Layout.{widthsOf, AtMost, totalWords as wordsOf, setAt};
+ghost use Rattle.layout.specs.Layout.{widthsOf, totalWords as wordsOf, setAt};
+ghost use Rattle.layout.specs.AtMost.{AtMost};
 ghost use Rattle.boxes.specs.Settings.{setClear, portClear, settingsRight};
 use layout::Set;
 use layout::Sizes;

@@ -2,8 +2,9 @@
 use Prim.Native.Nat.{ℕ, _-_}
 use mathlib.Core.Path.{_≡_, refl, sym, ap, _∙_}
 use mathlib.Core.List.{List}
-use mathlib.Core.Bool.{Bool, true, false}
+use mathlib.Core.Bool.{true, false, cond}
 use native.Mathlib.Omega.{arith}
+use Rattle.basics.proofs.Truth.{cond-true, cond-false}
 use Rattle.entries.specs.Entry.{count}
 use Rattle.netlink_attributes.specs.Attributes.{partOf}
 use Rattle.netlink.specs.declared.walk.Slot.{Slot}
@@ -14,12 +15,15 @@ use Rattle.bitset_form.specs.Bitset.Reading.{refused, accepted}
 use Rattle.bitset_form.specs.declared.Judgement.the-variants as J
 use Rattle.bitset_form.specs.declared.Judged.{Judged}
 use Rattle.bitset.specs.Judge.{bitsetReading}
-use Rattle.layout.specs.Layout.{Names, listOf}
+use Rattle.layout.specs.Layout.{listOf}
+use Rattle.boxes.specs.Box.{Box}
 use Rattle.admission.specs.declared.commands.Command.{Command}
 use Rattle.request.specs.Top.{topOf}
 use Rattle.request.specs.Target.{targetOf}
+use Rattle.request.specs.declared.parts.TopParts.{TopParts}
 use Rattle.request.specs.declared.top.Top.{Top}
 use Rattle.request.specs.declared.top.Top.the-variants as T
+use Rattle.request.specs.declared.target.Target.{Target}
 use Rattle.request.specs.declared.target.TargetRead.{TargetRead}
 use Rattle.request.specs.declared.target.TargetRead.the-variants as A
 use Rattle.decision.specs.Decision.{withoutForm, readingDecision, bitsetDecision, targetDecision, headerDecision, topDecision, decided}
@@ -60,32 +64,34 @@ module _ (m : List ℕ) (bitset : Slot) (names : List ℕ) (position : ℕ) (p :
 pub ruleset bitset-laws = (bitset-refused, bitset-accepted)
 
 -- the header level
-module _ (m : List ℕ) (change : Bool) (roll names : List ℕ) (header bitset : Slot) (a : TargetRead) (ea : a ≡ targetOf m header roll) (d : Decision) where
-  pub header-refused : (why : Refusal) → a ≡ A.Refused why → d ≡ withoutForm (P.Refused why) → d ≡ headerDecision m change roll names header bitset
+module _ (box : Box) (m : List ℕ) (command : Command) (parts : TopParts) (a : TargetRead) (ea : a ≡ targetOf m (parts .header) (box .roll)) (d : Decision) where
+  pub header-refused : (why : Refusal) → a ≡ A.Refused why → d ≡ withoutForm (P.Refused why) → d ≡ headerDecision box m command parts
   unfolding headerDecision
   header-refused why q e = e ∙ sym (rw (← ea, q))
 
-  module _ (position flags : ℕ) (q : a ≡ A.Port position flags) where
-    pub header-set : change ≡ true → d ≡ bitsetDecision m bitset names position → d ≡ headerDecision m change roll names header bitset
+  module _ (target : Target) (q : a ≡ A.Port target) where
+    by-target : headerDecision box m command parts
+        ≡ cond (command .change) (bitsetDecision m (parts .bitset) (listOf (box .names) (command .set)) (target .position)) (withoutForm (P.Get target))
     unfolding headerDecision
-    header-set c e = e ∙ sym (rw (← ea, q, c))
+    by-target = rw (← ea, q)
 
-    pub header-get : change ≡ false → d ≡ withoutForm (P.Get (record { position = position; flags = flags }))
-        → d ≡ headerDecision m change roll names header bitset
-    unfolding headerDecision
-    header-get c e = e ∙ sym (rw (← ea, q, c))
+    pub header-set : (names : List ℕ) → command .change ≡ true → names ≡ listOf (box .names) (command .set)
+        → d ≡ bitsetDecision m (parts .bitset) names (target .position) → d ≡ headerDecision box m command parts
+    header-set names c en e = e ∙ (rw en) ∙ sym (by-target ∙ cond-true (command .change) _ _ c)
+
+    pub header-get : command .change ≡ false → d ≡ withoutForm (P.Get target) → d ≡ headerDecision box m command parts
+    header-get c e = e ∙ sym (by-target ∙ cond-false (command .change) _ _ c)
 
 pub ruleset header-laws = (header-refused, header-set, header-get)
 
 -- the top level
-module _ (m : List ℕ) (command : Command) (roll : List ℕ) (names : Names) (t : Top) (et : t ≡ topOf m (command .change)) (d : Decision) where
-  pub decide-refused : (why : Refusal) → t ≡ T.Refused why → d ≡ withoutForm (P.Refused why) → d ≡ decided m command roll names
+module _ (box : Box) (m : List ℕ) (command : Command) (t : Top) (et : t ≡ topOf m (command .change)) (d : Decision) where
+  pub decide-refused : (why : Refusal) → t ≡ T.Refused why → d ≡ withoutForm (P.Refused why) → d ≡ decided box m command
   unfolding decided
   decide-refused why q e = e ∙ sym (rw (← et, q))
 
-  pub decide-nests : (header bitset : Slot) (list : List ℕ) → t ≡ T.Nests header bitset → list ≡ listOf names (command .set)
-      → d ≡ headerDecision m (command .change) roll list header bitset → d ≡ decided m command roll names
+  pub decide-nests : (parts : TopParts) → t ≡ T.Nests parts → d ≡ headerDecision box m command parts → d ≡ decided box m command
   unfolding decided
-  decide-nests header bitset list q en e = e ∙ sym (rw (← et, q, ← en))
+  decide-nests parts q e = e ∙ sym (rw (← et, q))
 
 pub ruleset decide-laws = (decide-refused, decide-nests)

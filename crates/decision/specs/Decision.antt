@@ -1,5 +1,5 @@
 -- Document 01, "What a call says back", the levels below the table: what an admitted request asks for.
-use Prim.Native.Nat.{ℕ, _-_, _<_}
+use Prim.Native.Nat.{ℕ, _-_}
 use mathlib.Core.List.{List}
 use mathlib.Core.Bool.{Bool, cond}
 use lib.ListN.{replicate}
@@ -10,11 +10,12 @@ use Rattle.bitset_form.specs.Bitset.{Reading}
 use Rattle.bitset_form.specs.Form.{formOf}
 use Rattle.bitset_form.specs.Bitset.Reading.{refused, accepted}
 use Rattle.bitset.specs.Judge.{bitsetReading}
-use Rattle.layout.specs.Layout.{Names, listOf}
-use Rattle.roll.specs.Record.{portCount}
+use Rattle.layout.specs.Layout.{listOf}
+use Rattle.boxes.specs.Box.{Box}
 use Rattle.admission.specs.declared.commands.Command.{Command}
 use Rattle.request.specs.Top.{topOf}
 use Rattle.request.specs.Target.{targetOf}
+use Rattle.request.specs.declared.parts.TopParts.{TopParts}
 use Rattle.request.specs.declared.top.Top.{Top}
 use Rattle.request.specs.declared.top.Top.the-variants as T
 use Rattle.request.specs.declared.target.TargetRead.{TargetRead}
@@ -40,23 +41,18 @@ bitsetDecision m bitset names position =
 -- the port that is named: a SET goes on to the bitset, a GET is decided
 abbrev pub targetDecision : TargetRead → Bool → (ℕ → Decision) → Decision
 targetDecision (A.Refused why) change set = withoutForm (P.Refused why)
-targetDecision (A.Port position flags) change set = cond change (set position) (withoutForm (P.Get (record { position = position; flags = flags })))
+targetDecision (A.Port target) change set = cond change (set (target .position)) (withoutForm (P.Get target))
 
 -- "Then the header is walked whole, then 14 to 17"
-unfoldable pub headerDecision : List ℕ → Bool → List ℕ → List ℕ → Slot → Slot → Decision
-headerDecision m change roll names header bitset = targetDecision (targetOf m header roll) change (bitsetDecision m bitset names)
+unfoldable pub headerDecision : Box → List ℕ → Command → TopParts → Decision
+headerDecision box m command parts =
+    targetDecision (targetOf m (parts .header) (box .roll)) (command .change) (bitsetDecision m (parts .bitset) (listOf (box .names) (command .set)))
 
 -- the nests of the top level, or what is wrong in it or absent
-abbrev pub topDecision : Top → (Slot → Slot → Decision) → Decision
+abbrev pub topDecision : Top → (TopParts → Decision) → Decision
 topDecision (T.Refused why) rest = withoutForm (P.Refused why)
-topDecision (T.Nests header bitset) rest = rest header bitset
+topDecision (T.Nests parts) rest = rest parts
 
 -- "top level is walked whole (10, 11, 12 for each attribute in turn), then header missing (13), then bitset missing in a SET (13)"
-unfoldable pub decided : List ℕ → Command → List ℕ → Names → Decision
-decided m command roll names = topDecision (topOf m (command .change)) (headerDecision m (command .change) roll (listOf names (command .set)))
-
--- the port that a plan names is one of the roll's
-unfoldable pub PortIn : List ℕ → Plan → Type 0
-PortIn roll (P.Refused why) = Unit {0}
-PortIn roll (P.Get port) = port .position < portCount roll
-PortIn roll (P.Set position nest) = position < portCount roll
+unfoldable pub decided : Box → List ℕ → Command → Decision
+decided box m command = topDecision (topOf m (command .change)) (headerDecision box m command)

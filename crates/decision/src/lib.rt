@@ -1,6 +1,6 @@
 // What an admitted request asks for: judged level by level, by value. No stage here sees the page or the settings.
 ghost use mathlib.Core.Path.{_≡_};
-ghost use Rattle.layout.specs.Layout.{namesOf};
+ghost use Rattle.boxes.specs.Box.{boxOf};
 ghost use Rattle.roll.specs.Table.{Tabled};
 ghost use Rattle.decision.specs.Decision.{withoutForm, bitsetDecision, headerDecision, decided};
 use admission::commands::Command;
@@ -12,16 +12,12 @@ use netlink::walk::Slot;
 use netlink_attributes::payload;
 use netlink_attributes::place;
 use refusal::Refusal;
+use request::parts::TopParts;
+use request::target::Target;
 use request::target::TargetRead;
 use request::target::read_target;
 use request::top::Top;
 use request::top::read_top;
-
-// The port that a request names: which it is, and the flags of the request's header.
-pub struct Target {
-    pub position: usize,
-    pub flags: u32,
-}
 
 pub enum Plan {
     Refused(Refusal),
@@ -71,27 +67,31 @@ fn decide_bitset(m: &[u8], bitset: Slot, names: &[u8], position: usize) -> Decis
 }
 
 // The header level, then in a SET the bitset.
-fn decide_header(
+fn decide_header<'a>(
     m: &[u8],
-    change: bool,
-    header: Slot,
-    bitset: Slot,
+    command: Command,
+    parts: TopParts,
     roll: &[u8],
     ports: &[u64],
-    names: &[u8],
+    debug: &'a [u8],
+    flags: &'a [u8],
 ) -> Decision
     requires { ⌜ Tabled (now roll) (now ports) ⌝ }
-    ensures { λ r. ⌜ r ≡ headerDecision (now (m .entry)) change (now (roll .entry)) (now (names .entry)) header bitset ⌝ }
+    ensures { λ r. ⌜ r ≡ headerDecision (boxOf (now (roll .entry)) (now (debug .entry)) (now (flags .entry))) (now (m .entry)) command parts ⌝ }
 {
+    let header = parts.header;
+    let bitset = parts.bitset;
+    let set = command.set;
     match read_target(m, header, roll, ports) {
         TargetRead::Refused(why) => {
             return without_form(Plan::Refused(why));
         }
-        TargetRead::Port { position, flags } => {
-            if change {
-                return decide_bitset(m, bitset, names, position);
+        TargetRead::Port(target) => {
+            if command.change {
+                let names = names_of(set, debug, flags);
+                return decide_bitset(m, bitset, names, target.position);
             }
-            return without_form(Plan::Get(Target { position, flags }));
+            return without_form(Plan::Get(target));
         }
     }
 }
@@ -106,16 +106,14 @@ pub fn decide<'a>(
     flags: &'a [u8],
 ) -> Decision
     requires { ⌜ Tabled (now roll) (now ports) ⌝ }
-    ensures { λ r. ⌜ r ≡ decided (now (m .entry)) command (now (roll .entry)) (namesOf (now (debug .entry)) (now (flags .entry))) ⌝ }
+    ensures { λ r. ⌜ r ≡ decided (boxOf (now (roll .entry)) (now (debug .entry)) (now (flags .entry))) (now (m .entry)) command ⌝ }
 {
-    let set = command.set;
     match read_top(m, command.change) {
         Top::Refused(why) => {
             return without_form(Plan::Refused(why));
         }
-        Top::Nests { header, bitset } => {
-            let names = names_of(set, debug, flags);
-            return decide_header(m, command.change, header, bitset, roll, ports, names);
+        Top::Nests(parts) => {
+            return decide_header(m, command, parts, roll, ports, debug, flags);
         }
     }
 }

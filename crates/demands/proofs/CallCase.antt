@@ -54,32 +54,40 @@ module _ (box : Box) (state : State) (call : Call) (datagram : List ℕ) where
       messageAnswered next right (omega arith) (omega arith) (long lo hi)
       (message-first box state m h next call) (message-case box state m h next call)
 
-  pub call-case : (room : ℕ) → CallCase box state call datagram (outcome box state call datagram room)
-  unfolding outcome positionOutcome messageAt messageOf
-  call-case room =
-      go (boxRight box state call) (ltb room 32768) (ltb 32768 (length datagram)) (ltb (length datagram) position)
-      (eqb position (length datagram)) (ltb (length datagram) (position + 16)) (ltb stated 16) (ltb (length datagram) (position + stated)) refl refl refl
+  -- the message at the position
+  position-case : boxRight box state call ≡ true → CallCase box state call datagram (positionOutcome box state call datagram)
+  unfolding positionOutcome messageAt messageOf
+  position-case right =
+      go (ltb (length datagram) position) (eqb position (length datagram)) (ltb (length datagram) (position + 16)) (ltb stated 16)
+      (ltb (length datagram) (position + stated)) refl refl
     where
-      go : (right page long past end cut low high : Bool) → boxRight box state call ≡ right → ltb stated 16 ≡ low
-          → ltb (length datagram) (position + stated) ≡ high
+      go : (past end cut low high : Bool) → ltb stated 16 ≡ low → ltb (length datagram) (position + stated) ≡ high
           → CallCase box state call datagram
-          (cond (not right) (refusedInPlace R.Box call state)
-          (cond page (refusedInPlace R.Page call state)
-          (cond long (refusedInPlace R.Datagram call state)
           (onMessage
           (cond past Outside
           (cond end AtEnd
           (cond cut Cut
           (cond (low || high) Misstated (Message (messageHeader datagram position) (position + stated) next)))))
           call state
-          (λ h end next. messageOutcome box state call (partOf datagram position end) h next)))))
-      go false page long past end cut low high er el eh = notRead R.Box (omega arith) refl
-      go true true long past end cut low high er el eh = notRead R.Page (omega arith) refl
-      go true false true past end cut low high er el eh = notRead R.Datagram (omega arith) refl
-      go true false false true end cut low high er el eh = notRead R.Datagram (omega arith) refl
-      go true false false false true cut low high er el eh = ended refl
-      go true false false false false true low high er el eh = notRead R.Datagram (omega arith) refl
-      go true false false false false false true high er el eh = notRead R.Length (omega arith) refl
-      go true false false false false false false true er el eh = notRead R.Length (omega arith) refl
-      go true false false false false false false false er el eh =
-          message er (ltb-false stated 16 el) (ltb-false (length datagram) (position + stated) eh)
+          (λ h end next. messageOutcome box state call (partOf datagram position end) h next))
+      go true end cut low high el eh = notRead R.Datagram (omega arith) refl
+      go false true cut low high el eh = ended refl
+      go false false true low high el eh = notRead R.Datagram (omega arith) refl
+      go false false false true high el eh = notRead R.Length (omega arith) refl
+      go false false false false true el eh = notRead R.Length (omega arith) refl
+      go false false false false false el eh =
+          message right (ltb-false stated 16 el) (ltb-false (length datagram) (position + stated) eh)
+
+  pub call-case : (room : ℕ) → CallCase box state call datagram (outcome box state call datagram room)
+  unfolding outcome
+  call-case room = go (boxRight box state call) (ltb room 32768) (ltb 32768 (length datagram)) refl
+    where
+      go : (right page long : Bool) → boxRight box state call ≡ right
+          → CallCase box state call datagram
+          (cond (not right) (refusedInPlace R.Box call state)
+          (cond page (refusedInPlace R.Page call state)
+          (cond long (refusedInPlace R.Datagram call state) (positionOutcome box state call datagram))))
+      go false page long e = notRead R.Box (omega arith) refl
+      go true true long e = notRead R.Page (omega arith) refl
+      go true false true e = notRead R.Datagram (omega arith) refl
+      go true false false e = position-case e

@@ -21,7 +21,7 @@ use Rattle.netlink_error.specs.declared.Detail.the-variants.{Nothing, Offset, M
 use Rattle.netlink_write.proofs.attributes.Laws.{length-attr}
 use Rattle.netlink_error.proofs.Laws.{length-start}
 use Rattle.reply.proofs.message.Lengths.{length-reply, reply-whole, longest}
-use Rattle.reply.specs.Message.{headersBytes, attributesBytes, replyBytes}
+use Rattle.reply.specs.Message.{headersBytes, Content, attributesBytes, replyBytes}
 use Rattle.reply.specs.declared.message.Heading.{Heading}
 use Rattle.response.specs.Answer.{ackBytes}
 use Rattle.demands.specs.Answer.{Messages, Counted}
@@ -77,20 +77,20 @@ ack-counted m h long = go (eqb (h .flags / 4 % 2) 1)
     go false = (none-counted, omega arith)
 
 -- a reply, and messages after it
-module _ (h : Heading) (index : ℕ) (name : List ℕ) (compact : Bool) (names words : List ℕ) (n : ℕ) (port : nulAt name < 16) (right : namesRight names ≡ true)
-    (en : count names ≡ n) (ew : length words ≡ wordsFor n) where
-  reply-stated : u32At (replyBytes h index name compact names words n) 0 ≡ length (replyBytes h index name compact names words n)
+module _ (h : Heading) (content : Content) (port : nulAt (content .name) < 16) (right : namesRight (content .names) ≡ true)
+    (en : count (content .names) ≡ content .bits) (ew : length (content .words) ≡ wordsFor (content .bits)) where
+  reply-stated : u32At (replyBytes h content) 0 ≡ length (replyBytes h content)
   unfolding replyBytes headersBytes messageHeaderBytes u32At
   reply-stated =
-      let e = length-reply h index name compact names words n in
-      let l = longest h index name compact names words n port right en ew in
-      digits32 (length (attributesBytes index name compact names words n) + 20) (omega arith) ∙ sym e
+      let e = length-reply h content in
+      let l = longest h content port right en ew in
+      digits32 (length (attributesBytes content) + 20) (omega arith) ∙ sym e
 
-  pub reply-counted : (rest : List ℕ) → Counted rest → length rest ≤ 36 → Counted (replyBytes h index name compact names words n ++ rest)
+  pub reply-counted : (rest : List ℕ) → Counted rest → length rest ≤ 36 → Counted (replyBytes h content ++ rest)
   reply-counted rest counted few =
-      let reply = replyBytes h index name compact names words n in
-      let most = longest h index name compact names words n port right en ew in
-      let whole = reply-whole h index name compact names words n in
+      let reply = replyBytes h content in
+      let most = longest h content port right en ew in
+      let whole = reply-whole h content in
       let all = length-append reply rest in
       let after = counted .words in
       record { messages = next reply rest reply-stated (counted .messages); words = omega arith; most = omega arith }

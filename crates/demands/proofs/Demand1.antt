@@ -1,8 +1,8 @@
 -- Demand 1: "Any datagram, roll, name list or stored state gets an answer and an end. .. A refusal .. changes no setting, and writes the error
 -- message fixed there or no byte at all."
 --     refused-keeps    a refusal leaves the settings, and writes its error message (5 to 22) or nothing (1 to 4)
---     idle-keeps       so do the end and a skipped message, and they write nothing
---     over-stays       the end and 1 to 4 give the position back
+--     skipped-keeps    so do the end and a skipped message, and they write nothing
+--     last-in-place    the end and 1 to 4 give the position back
 --     moves            every other call moves on, by at least a header and not past the datagram's end
 --     run-ends         so a run over a datagram ends, wherever it starts
 use Prim.Native.Nat.{ℕ, zero, suc, _+_, _*_, _≤_, _<_}
@@ -26,7 +26,7 @@ use Rattle.handler.proofs.call.Moves as M
 use Rattle.response.specs.declared.Kind.the-variants.{End, Skipped, Done, Refused}
 use Rattle.demands.specs.Answer.{refusalBytes}
 use Rattle.demands.specs.Call.{messageOf}
-use Rattle.demands.specs.Message.MessageCase.{messageSkipped, messageRefused, getDone, setDone}
+use Rattle.demands.specs.CallCase.MessageCase.{messageSkipped, messageRefused, getDone, setDone}
 use Rattle.demands.specs.CallCase.{CallCase}
 use Rattle.demands.specs.CallCase.CallCase.{ended, notRead, messageAnswered}
 use Rattle.demands.specs.Run.{atPosition, endsWithin}
@@ -79,26 +79,26 @@ module _ (box : Box) (state : State) (call : Call) (datagram : List ℕ) (room :
   next e = ap (λ (x : Outcome State). x .response .next) e
 
   -- a refusal
-  module _ (why : Refusal) (told : o .response .kind ≡ Refused why) where
+  module _ (why : Refusal) (kind-of : o .response .kind ≡ Refused why) where
     pub refused-keeps : (o .state ≡ state) × (o .response .bytes ≡ refusalBytes m why)
     refused-keeps = by (call-case box state call datagram room)
       where
         by : CallCase box state call datagram o → (o .state ≡ state) × (o .response .bytes ≡ refusalBytes m why)
-        by (ended e) = absurd (end-not why (response e ∙ told))
+        by (ended e) = absurd (end-not why (response e ∙ kind-of))
         by (notRead w l e) =
-            let same = same-why w why (response e ∙ told) in
+            let same = same-why w why (response e ∙ kind-of) in
             (kept e, bytes e ∙ quiet-bytes m why (rw (← same) l))
-        by (messageAnswered n right lo hi long first (messageSkipped e)) = absurd (skipped-not why (response e ∙ told))
-        by (messageAnswered n right lo hi long first (getDone d g e)) = absurd (done-not why (response e ∙ told))
-        by (messageAnswered n right lo hi long first (setDone d g b c e)) = absurd (done-not why (response e ∙ told))
+        by (messageAnswered n right lo hi long first (messageSkipped e)) = absurd (skipped-not why (response e ∙ kind-of))
+        by (messageAnswered n right lo hi long first (getDone d g e)) = absurd (done-not why (response e ∙ kind-of))
+        by (messageAnswered n right lo hi long first (setDone d g b c e)) = absurd (done-not why (response e ∙ kind-of))
         by (messageAnswered n right lo hi long first (messageRefused w e)) =
-            let same = same-why w why (response e ∙ told) in
-            let late = message-number box call m (messageHeader datagram position) why (first-refused why _ (sym first ∙ told)) in
+            let same = same-why w why (response e ∙ kind-of) in
+            let late = message-number box call m (messageHeader datagram position) why (first-refused why _ (sym first ∙ kind-of)) in
             (kept e, bytes e ∙ rw same (error-bytes m why late))
 
   -- the end, and a skipped message
   pub skipped-keeps : (o .response .kind ≡ End) ⊎ (o .response .kind ≡ Skipped) → (o .state ≡ state) × (o .response .bytes ≡ [])
-  skipped-keeps told = by (call-case box state call datagram room) told
+  skipped-keeps kind-of = by (call-case box state call datagram room) kind-of
     where
       not-done : (o .response .kind ≡ End) ⊎ (o .response .kind ≡ Skipped) → Done ≡ o .response .kind → ⊥
       not-done (inl t) e = let q = e ∙ t in let z : _≡_ {A = ℕ} 0 1 = cc in omega arith

@@ -2,13 +2,12 @@
 --     effect           a done SET: the named set of the named port is what `effect` makes of it, every other word is as before
 --     read-back        a done GET: the settings stay, and the reply's bitset, read by our own reader, makes the stored set of every starting set
 --     box-kept         a right box stays right, whatever is asked
---     count-told       what is written is whole messages, each as long as it states, and never more than 24,684 bytes
-use Prim.Native.Nat.{ℕ, _+_, _-_, _%_, _≤_, _<_}
+--     bytes-counted       what is written is whole messages, each as long as it states, and never more than 24,684 bytes
+use Prim.Native.Nat.{ℕ, _+_, _-_, _≤_, _<_}
 use mathlib.Core.Path.{_≡_, refl, sym, ap, _∙_}
 use mathlib.Core.List.{List, _++_}
 use mathlib.Core.Bool.{Bool, true, false}
 use lib.ListN.{length, drop, getD}
-use lib.Dec.{eqb}
 use lib.Seq.{getD-take, getD-drop}
 use native.Mathlib.Omega.{arith}
 use Rattle.basics.specs.Numbers.{byteAt}
@@ -27,7 +26,7 @@ use Rattle.refusal.specs.Refusal.{errnoOf, detailOf}
 use Rattle.bitset_form.specs.Bitset.{Bitset}
 use Rattle.normal.specs.Fits.{Fits}
 use Rattle.normal.proofs.Fits.{accepted-fits}
-use Rattle.roll.specs.Record.{portCount, indexOf, nameOf}
+use Rattle.roll.specs.Record.{portCount}
 use Rattle.boxes.specs.Box.{Box, State, portsIn, sizesIn, widthsIn, setOf}
 use Rattle.boxes.specs.declared.Call.{Call}
 use Rattle.boxes.specs.Rule.{boxRight}
@@ -39,17 +38,16 @@ use Rattle.read_back.proofs.Reply.{reply-attributes, reply-back}
 use Rattle.admission.specs.Commands.{commandOf}
 use Rattle.request.proofs.target.Place.{target-inside}
 use Rattle.response.specs.Answer.{Outcome, ackBytes}
-use Rattle.execute.specs.Execute.{replyAndAck}
 use Rattle.handler.specs.Call.{outcome}
-use Rattle.reply.specs.Message.{headingOf}
-use Rattle.execute.specs.Execute.{getBytes}
+use Rattle.reply.specs.Message.{headingOf, Content}
+use Rattle.execute.specs.Execute.{contentIn, replyAndAck, getBytes}
 use Rattle.response.specs.declared.Kind.the-variants.{Done}
 use Rattle.demands.specs.Answer.{Counted}
 use Rattle.demands.specs.Call.{messageOf}
 use Rattle.demands.specs.CallCase.{CallCase}
 use Rattle.demands.specs.CallCase.CallCase.{ended, notRead, messageAnswered}
 use Rattle.demands.specs.Message.{Named, requestOf, Carries}
-use Rattle.demands.specs.Message.MessageCase.{messageSkipped, messageRefused, getDone, setDone}
+use Rattle.demands.specs.CallCase.MessageCase.{messageSkipped, messageRefused, getDone, setDone}
 use Rattle.demands.specs.Done.{DoneSet, DoneGet, replyTo}
 use Rattle.demands.specs.Request.{isSet}
 use Rattle.demands.proofs.Count.{none-counted, error-counted, ack-counted, reply-counted}
@@ -59,8 +57,8 @@ use Rattle.demands.proofs.Port.{port-short}
 
 -- what is named is a port of the roll
 module _ (roll m : List ℕ) (n : Named roll m) where
-  here : n .port .position < portCount roll
-  here = target-inside roll m (n .header) _ (n .port .position) (n .port .flags) refl (n .found)
+  here : n .target .position < portCount roll
+  here = target-inside roll m (n .parts .header) _ (n .target) refl (n .found)
 
   named-set : isSet (commandOf (byteAt m 16)) ≡ n .command .change
   unfolding isSet
@@ -126,7 +124,7 @@ module _ (box : Box) (state : State) (call : Call) (datagram : List ℕ) (room :
     fits : Fits (sizeOf (sizesIn box) (n .command .set)) b
     fits = rw (← lists-of count (box .names) (n .command .set)) at (accepted-fits _ _ (listOf (box .names) (n .command .set)) b carried)
 
-    did-set : {p : Outcome State} → p .state ≡ after box state call right (n .port .position) (here (box .roll) m n) (n .command .set) b fits
+    did-set : {p : Outcome State} → p .state ≡ after box state call right (n .target .position) (here (box .roll) m n) (n .command .set) b fits
         → p .response .bytes ≡ ackBytes m h → DoneSet box state call m h p
     did-set ew eb =
         record {
@@ -134,42 +132,49 @@ module _ (box : Box) (state : State) (call : Call) (datagram : List ℕ) (room :
           is-set = change;
           bits = b;
           carries = carried;
-          own = rw ew (set-own box state call right (n .port .position) (here (box .roll) m n) (n .command .set) b fits);
-          others = rw ew (set-others box state call right (n .port .position) (here (box .roll) m n) (n .command .set) b fits);
-          elsewhere = rw ew (set-elsewhere box state call right (n .port .position) (here (box .roll) m n) (n .command .set) b fits);
-          right = rw ew (set-right box state call right (n .port .position) (here (box .roll) m n) (n .command .set) b fits);
+          own = rw ew (set-own box state call right (n .target .position) (here (box .roll) m n) (n .command .set) b fits);
+          others = rw ew (set-others box state call right (n .target .position) (here (box .roll) m n) (n .command .set) b fits);
+          elsewhere = rw ew (set-elsewhere box state call right (n .target .position) (here (box .roll) m n) (n .command .set) b fits);
+          right = rw ew (set-right box state call right (n .target .position) (here (box .roll) m n) (n .command .set) b fits);
           bytes = eb;
         }
 
   -- a GET
   module _ (right : boxRight box state call ≡ true) (n : Named (box .roll) m) where
-    abbrev words-of : List ℕ
-    words-of = setOf box state (n .port .position) (n .command .set)
+    abbrev content : Content
+    content = contentIn box state (n .command .set) (n .target)
 
-    abbrev name-of : List ℕ
-    name-of = nameOf (box .roll) (n .port .position)
+    inside : n .target .position < portsIn box
+    inside = here (box .roll) m n
 
-    abbrev bits-of : ℕ
-    bits-of = sizeOf (sizesIn box) (n .command .set)
+    short : nulAt (content .name) < 16
+    unfolding contentIn
+    short = port-short (box .roll) (n .target .position) (rules box state call right (n .target .position) inside (n .command .set) .roll-right) inside
 
-    short : nulAt name-of < 16
-    short = port-short (box .roll) (n .port .position) (rules box state call right (n .port .position) (here (box .roll) m n) (n .command .set) .roll-right) (here (box .roll) m n)
+    named : namesRight (content .names) ≡ true
+    unfolding contentIn
+    named = names-right box state call right (n .target .position) inside (n .command .set)
 
-    got-bytes : (next : ℕ) → getBytes box state m (requestOf h next (n .command)) (n .port) ≡ replyTo box state m h n ++ ackBytes m h
+    counted : count (content .names) ≡ content .bits
+    unfolding contentIn
+    counted = sym (lists-of count (box .names) (n .command .set))
+
+    long : length (content .words) ≡ wordsFor (content .bits)
+    unfolding contentIn
+    long = stored-long box state call right (n .target .position) inside (n .command .set)
+
+    got-bytes : (next : ℕ) → getBytes box state m (requestOf h next (n .command)) (n .target) ≡ replyTo box state m h n ++ ackBytes m h
     unfolding getBytes replyAndAck
     got-bytes next = refl
 
     did-get : (next : ℕ) {p : Outcome State} → Small (state .words) → n .command .change ≡ false → p .state ≡ state
-        → p .response .bytes ≡ getBytes box state m (requestOf h next (n .command)) (n .port) → DoneGet box state m h p
+        → p .response .bytes ≡ getBytes box state m (requestOf h next (n .command)) (n .target) → DoneGet box state m h p
+    unfolding contentIn
     did-get next small change ew eb =
-        let setDone = n .command .set in
-        let x = indexOf (box .roll) (n .port .position) in
-        let compact = eqb (n .port .flags % 2) 1 in
-        let names = listOf (box .names) setDone in
-        let inside = here (box .roll) m n in
-        let named = names-right box state call right (n .port .position) inside setDone in
-        let long = stored-long box state call right (n .port .position) inside setDone in
-        let parts = reply-attributes (headingOf h (n .command .reply)) x name-of compact names words-of bits-of named (sym (lists-of count (box .names) setDone)) long short in
+        let heading = headingOf h (n .command .reply) in
+        let x = content .index in
+        let name-of = content .name in
+        let parts = reply-attributes heading x name-of (content .compact) (content .names) (content .words) (content .bits) named counted long short in
         let at : 24 + length (indexNest 1 x name-of) - 4 ≡ 20 + length (indexNest 1 x name-of) = omega arith in
         record {
           named = n;
@@ -179,44 +184,39 @@ module _ (box : Box) (state : State) (call : Call) (datagram : List ℕ) (room :
           contents = 24 + length (indexNest 1 x name-of);
           parts = rw at parts;
           reads-back =
-              reply-back (headingOf h (n .command .reply)) x name-of compact names words-of bits-of named (sym (lists-of count (box .names) setDone)) long
-              (stored-small box state call right (n .port .position) inside setDone small)
-              (stored-below box state call right (n .port .position) inside setDone);
+              reply-back heading x name-of (content .compact) (content .names) (content .words) (content .bits) named counted long
+              (stored-small box state call right (n .target .position) inside (n .command .set) small)
+              (stored-below box state call right (n .target .position) inside (n .command .set));
         }
 
-    get-counted : (next : ℕ) → 16 ≤ length m → Counted (getBytes box state m (requestOf h next (n .command)) (n .port))
-    get-counted next long =
-        let setDone = n .command .set in
-        let inside = here (box .roll) m n in
-        let ack = ack-counted m h long in
-        rw (got-bytes next)
-        (reply-counted (headingOf h (n .command .reply)) (indexOf (box .roll) (n .port .position)) name-of (eqb (n .port .flags % 2) 1) (listOf (box .names) setDone) words-of bits-of short
-        (names-right box state call right (n .port .position) inside setDone) (sym (lists-of count (box .names) setDone))
-        (stored-long box state call right (n .port .position) inside setDone) (ackBytes m h) (ack .0) (ack .1))
+    get-counted : (next : ℕ) → 16 ≤ length m → Counted (getBytes box state m (requestOf h next (n .command)) (n .target))
+    get-counted next most =
+        let ack = ack-counted m h most in
+        rw (got-bytes next) (reply-counted (headingOf h (n .command .reply)) content short named counted long (ackBytes m h) (ack .0) (ack .1))
 
   -- the theorems
   abbrev is-set : Bool
   is-set = isSet (commandOf (byteAt m 16))
 
   pub effect : o .response .kind ≡ Done → is-set ≡ true → DoneSet box state call m h o
-  effect told request = by (call-case box state call datagram room)
+  effect kind-of request = by (call-case box state call datagram room)
     where
       by : CallCase box state call datagram o → DoneSet box state call m h o
-      by (ended e) = absurd (let q = kind-is e ∙ told in let z : _≡_ {A = ℕ} 0 1 = cc in omega arith)
-      by (notRead w l e) = absurd (let q = kind-is e ∙ told in let z : _≡_ {A = ℕ} 0 1 = cc in omega arith)
-      by (messageAnswered next right lo hi long first (messageSkipped e)) = absurd (let q = kind-is e ∙ told in let z : _≡_ {A = ℕ} 0 1 = cc in omega arith)
-      by (messageAnswered next right lo hi long first (messageRefused w e)) = absurd (let q = kind-is e ∙ told in let z : _≡_ {A = ℕ} 0 1 = cc in omega arith)
+      by (ended e) = absurd (let q = kind-is e ∙ kind-of in let z : _≡_ {A = ℕ} 0 1 = cc in omega arith)
+      by (notRead w l e) = absurd (let q = kind-is e ∙ kind-of in let z : _≡_ {A = ℕ} 0 1 = cc in omega arith)
+      by (messageAnswered next right lo hi long first (messageSkipped e)) = absurd (let q = kind-is e ∙ kind-of in let z : _≡_ {A = ℕ} 0 1 = cc in omega arith)
+      by (messageAnswered next right lo hi long first (messageRefused w e)) = absurd (let q = kind-is e ∙ kind-of in let z : _≡_ {A = ℕ} 0 1 = cc in omega arith)
       by (messageAnswered next right lo hi long first (getDone n g e)) = absurd (clash request (named-set (box .roll) m n ∙ g))
       by (messageAnswered next right lo hi long first (setDone n g b c e)) = rw e (did-set right n g b c refl refl)
 
   pub read-back : Small (state .words) → o .response .kind ≡ Done → is-set ≡ false → DoneGet box state m h o
-  read-back small told request = by (call-case box state call datagram room)
+  read-back small kind-of request = by (call-case box state call datagram room)
     where
       by : CallCase box state call datagram o → DoneGet box state m h o
-      by (ended e) = absurd (let q = kind-is e ∙ told in let z : _≡_ {A = ℕ} 0 1 = cc in omega arith)
-      by (notRead w l e) = absurd (let q = kind-is e ∙ told in let z : _≡_ {A = ℕ} 0 1 = cc in omega arith)
-      by (messageAnswered next right lo hi long first (messageSkipped e)) = absurd (let q = kind-is e ∙ told in let z : _≡_ {A = ℕ} 0 1 = cc in omega arith)
-      by (messageAnswered next right lo hi long first (messageRefused w e)) = absurd (let q = kind-is e ∙ told in let z : _≡_ {A = ℕ} 0 1 = cc in omega arith)
+      by (ended e) = absurd (let q = kind-is e ∙ kind-of in let z : _≡_ {A = ℕ} 0 1 = cc in omega arith)
+      by (notRead w l e) = absurd (let q = kind-is e ∙ kind-of in let z : _≡_ {A = ℕ} 0 1 = cc in omega arith)
+      by (messageAnswered next right lo hi long first (messageSkipped e)) = absurd (let q = kind-is e ∙ kind-of in let z : _≡_ {A = ℕ} 0 1 = cc in omega arith)
+      by (messageAnswered next right lo hi long first (messageRefused w e)) = absurd (let q = kind-is e ∙ kind-of in let z : _≡_ {A = ℕ} 0 1 = cc in omega arith)
       by (messageAnswered next right lo hi long first (getDone n g e)) = rw e (did-get right n next small g refl refl)
       by (messageAnswered next right lo hi long first (setDone n g b c e)) = absurd (clash (named-set (box .roll) m n ∙ g) request)
 
@@ -233,10 +233,10 @@ module _ (box : Box) (state : State) (call : Call) (datagram : List ℕ) (room :
       by (messageAnswered next right lo hi long first (messageRefused w e)) = same e refl
       by (messageAnswered next right lo hi long first (getDone n g e)) = same e refl
       by (messageAnswered next right lo hi long first (setDone n g b c e)) =
-          rw e (set-right box state call right (n .port .position) (here (box .roll) m n) (n .command .set) b (fits right n g b c))
+          rw e (set-right box state call right (n .target .position) (here (box .roll) m n) (n .command .set) b (fits right n g b c))
 
-  pub count-told : Counted (o .response .bytes)
-  count-told = by (call-case box state call datagram room)
+  pub bytes-counted : Counted (o .response .bytes)
+  bytes-counted = by (call-case box state call datagram room)
     where
       by : CallCase box state call datagram o → Counted (o .response .bytes)
       by (ended e) = rw (bytes-are e) none-counted

@@ -1,5 +1,5 @@
 -- Demands 1 and 2, "accepted exactly when the rules in document 01 .. accept it" and "A refusal carries its number from document 01".
---     exact            the kind is told by the first check, in document 01's order, that does not pass; it is done where all pass
+--     exact            the kind is that of the first check, in document 01's order, that does not pass; it is done where all pass
 --     done-exactly     done exactly when every check passes
 --     refused-exactly  refused by a row of the table exactly when that row applies and every check before it passes
 use Prim.Native.Nat.{ℕ, _+_, min}

@@ -14,14 +14,15 @@ use Rattle.netlink.specs.declared.walk.Stop.the-variants.{Whole, At}
 use Rattle.refusal.specs.Refusal.{numberOf, ofFault}
 use Rattle.refusal.specs.declared.Refusal.{Refusal}
 use Rattle.bitset_form.specs.declared.parts.BitsetParts.{BitsetParts}
-use Rattle.layout.specs.declared.Set.{Set}
 use Rattle.boxes.specs.Box.{Box}
 use Rattle.boxes.specs.declared.Call.{Call}
+use Rattle.admission.specs.declared.commands.CommandRead.{CommandRead}
+use Rattle.request.specs.declared.parts.TopParts.{TopParts}
 use Rattle.demands.specs.Check.{Check, refuseIf, walks, FirstIs}
 use Rattle.demands.specs.Check.Check.{passes, refuses, ends, skips}
 use Rattle.demands.specs.Check.FirstIs.{here, later}
 use Rattle.demands.specs.Bitset.{mixedChecks, compactChecks, partChecks, bitChecks, eachBit, listChecks, formChecks, bitsetChecks}
-use Rattle.demands.specs.Request.{skipIf, admissionChecks, topChecks, portChecks, headerChecks, levelChecks, commandChecks, messageChecks}
+use Rattle.demands.specs.Request.{isSet, skipIf, admissionChecks, topChecks, portChecks, headerChecks, levelChecks, commandChecks, messageChecks}
 
 -- a list whose refusals are all late
 data Late : List Check → Type 0 where
@@ -87,16 +88,16 @@ bitset-late : (s : List ℕ) (from : ℕ) (names : List ℕ) → Late (bitsetChe
 unfolding bitsetChecks
 bitset-late s from names = walk _ (form-late s (from - 4) names _)
 
-level-late : (box : Box) (m : List ℕ) (change : Bool) (set : Set) (header bitset : Slot) → Late (levelChecks box m change set header bitset)
+level-late : (box : Box) (m : List ℕ) (command : CommandRead) (parts : TopParts) → Late (levelChecks box m command parts)
 unfolding levelChecks topChecks headerChecks portChecks
-level-late box m change set header bitset =
+level-late box m command parts =
     walk _
     (row _ _ (omega arith)
     (row _ _ (omega arith)
     (walk _
     (row _ _ (omega arith)
     (row _ _ (omega arith)
-    (row _ _ (omega arith) (row _ _ (omega arith) (row _ _ (omega arith) (choice change _ _ (bitset-late _ _ _) nothing)))))))))
+    (row _ _ (omega arith) (row _ _ (omega arith) (row _ _ (omega arith) (choice (isSet command) _ _ (bitset-late _ _ _) nothing)))))))))
 
 skip-late : (h : MessageHeader) {checks : List Check} → Late checks → Late (skipIf h ∷ checks)
 unfolding skipIf
@@ -112,7 +113,7 @@ message-late box call m h =
     skip-late h
     (row _ _ (omega arith)
     (row _ _ (omega arith)
-    (row _ _ (omega arith) (row _ _ (omega arith) (row _ _ (omega arith) (level-late box m _ _ _ _))))))
+    (row _ _ (omega arith) (row _ _ (omega arith) (row _ _ (omega arith) (level-late box m _ _))))))
 
 pub message-number : (box : Box) (call : Call) (m : List ℕ) (h : MessageHeader) (why : Refusal)
     → FirstIs why (messageChecks box call m h) → 5 ≤ numberOf why

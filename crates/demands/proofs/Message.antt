@@ -9,7 +9,6 @@ use native.Mathlib.Omega.{arith}
 use Rattle.basics.specs.Numbers.{byteAt}
 use Rattle.netlink_attributes.specs.Attributes.{partOf}
 use Rattle.netlink_headers.specs.declared.headers.MessageHeader.{MessageHeader}
-use Rattle.netlink.specs.declared.walk.Slot.{Slot}
 use Rattle.refusal.specs.declared.Refusal.the-variants as R
 use Rattle.bitset_form.specs.Bitset.{Reading}
 use Rattle.bitset_form.specs.Bitset.Reading.{refused, accepted}
@@ -28,14 +27,16 @@ use Rattle.request.specs.declared.target.TargetRead.the-variants as P
 use Rattle.admission.specs.declared.commands.Command.{Command}
 use Rattle.admission.specs.declared.commands.CommandRead.{CommandRead}
 use Rattle.admission.specs.declared.commands.CommandRead.the-variants.{Listed, Unlisted}
+use Rattle.request.specs.declared.parts.TopParts.{TopParts}
 use Rattle.request.specs.declared.top.Top.{Top}
 use Rattle.request.specs.declared.top.Top.the-variants as T
 use Rattle.response.specs.Answer.{Outcome, responseOf, unchanged}
 use Rattle.response.specs.declared.Kind.the-variants.{Done}
 use Rattle.execute.specs.Execute.{getBytes, readingOutcome, setOutcome, portOutcome, targetOutcome, headerOutcome, topOutcome, requestOutcome}
 use Rattle.handler.specs.Call.{onAdmission, messageOutcome}
-use Rattle.demands.specs.Message.{Named, requestOf, MessageCase}
-use Rattle.demands.specs.Message.MessageCase.{messageSkipped, messageRefused, getDone, setDone}
+use Rattle.demands.specs.Message.{Named, requestOf}
+use Rattle.demands.specs.CallCase.{MessageCase}
+use Rattle.demands.specs.CallCase.MessageCase.{messageSkipped, messageRefused, getDone, setDone}
 
 -- a command that is admitted is listed
 go-listed : (m : List ℕ) (h : MessageHeader) (family : ℕ) (admin : Bool) (command : Command) → admitted m h family admin ≡ A.Admitted command
@@ -59,44 +60,43 @@ go-listed m h family admin command e =
 
 module _ (box : Box) (state : State) (m : List ℕ) (h : MessageHeader) (next : ℕ) where
   module _ (n : Named (box .roll) m) where
-    set-case : n .command .change ≡ true → MessageCase box state m h next (setOutcome box state m (requestOf h next (n .command)) (n .bitset) (n .port .position))
+    set-case : n .command .change ≡ true → MessageCase box state m h next (setOutcome box state m (requestOf h next (n .command)) (n .parts .bitset) (n .target .position))
     unfolding setOutcome
-    set-case change = go (bitsetReading (partOf m 0 (n .bitset .end)) (n .bitset .start) (listOf (box .names) (n .command .set))) refl
+    set-case change = go (bitsetReading (partOf m 0 (n .parts .bitset .end)) (n .parts .bitset .start) (listOf (box .names) (n .command .set))) refl
       where
-        go : (x : Reading) → bitsetReading (partOf m 0 (n .bitset .end)) (n .bitset .start) (listOf (box .names) (n .command .set)) ≡ x
-            → MessageCase box state m h next (readingOutcome x box state m (requestOf h next (n .command)) (n .port .position))
+        go : (x : Reading) → bitsetReading (partOf m 0 (n .parts .bitset .end)) (n .parts .bitset .start) (listOf (box .names) (n .command .set)) ≡ x
+            → MessageCase box state m h next (readingOutcome x box state m (requestOf h next (n .command)) (n .target .position))
         go (refused why) e = messageRefused why refl
         go (accepted b) e = setDone n change b e refl
 
-    port-outcome-case : MessageCase box state m h next (portOutcome box state m (requestOf h next (n .command)) (n .bitset) (n .port))
+    port-outcome-case : MessageCase box state m h next (portOutcome box state m (requestOf h next (n .command)) (n .parts .bitset) (n .target))
     unfolding portOutcome
     port-outcome-case = go (n .command .change) refl
       where
-        shown : Outcome State
-        shown = unchanged (responseOf Done next (getBytes box state m (requestOf h next (n .command)) (n .port))) state
+        got : Outcome State
+        got = unchanged (responseOf Done next (getBytes box state m (requestOf h next (n .command)) (n .target))) state
 
         go : (t : Bool) → n .command .change ≡ t
-            → MessageCase box state m h next (cond t (setOutcome box state m (requestOf h next (n .command)) (n .bitset) (n .port .position)) shown)
+            → MessageCase box state m h next (cond t (setOutcome box state m (requestOf h next (n .command)) (n .parts .bitset) (n .target .position)) got)
         go true e = set-case e
         go false e = getDone n e refl
 
   module _ (command : Command) (listed : commandOf (byteAt m 16) ≡ Listed command) where
-    header-case : (header bitset : Slot) → topOf m (command .change) ≡ T.Nests header bitset
-        → MessageCase box state m h next (headerOutcome box state m (requestOf h next command) header bitset)
+    header-case : (parts : TopParts) → topOf m (command .change) ≡ T.Nests parts
+        → MessageCase box state m h next (headerOutcome box state m (requestOf h next command) parts)
     unfolding headerOutcome
-    header-case header bitset nests = go (targetOf m header (box .roll)) refl
+    header-case parts nests = go (targetOf m (parts .header) (box .roll)) refl
       where
-        go : (a : TargetRead) → targetOf m header (box .roll) ≡ a → MessageCase box state m h next (targetOutcome a state m (requestOf h next command) (portOutcome box state m (requestOf h next command) bitset))
+        go : (a : TargetRead) → targetOf m (parts .header) (box .roll) ≡ a → MessageCase box state m h next (targetOutcome a state m (requestOf h next command) (portOutcome box state m (requestOf h next command) (parts .bitset)))
         go (P.Refused why) e = messageRefused why refl
-        go (P.Port position request) e =
+        go (P.Port target) e =
             port-outcome-case
             (record {
               command = command;
               listed = listed;
-              header = header;
-              bitset = bitset;
+              parts = parts;
               nests = nests;
-              port = record { position = position; flags = request };
+              target = target;
               found = e;
             })
 
@@ -106,7 +106,7 @@ module _ (box : Box) (state : State) (m : List ℕ) (h : MessageHeader) (next : 
       where
         go : (t : Top) → topOf m (command .change) ≡ t → MessageCase box state m h next (topOutcome t state m (requestOf h next command) (headerOutcome box state m (requestOf h next command)))
         go (T.Refused why) e = messageRefused why refl
-        go (T.Nests header bitset) e = header-case header bitset e
+        go (T.Nests parts) e = header-case parts e
 
   pub message-case : (call : Call) → MessageCase box state m h next (messageOutcome box state call m h next)
   unfolding messageOutcome

@@ -7,7 +7,7 @@ use mathlib.Core.Path.{_≡_, refl, sym, ap, _∙_}
 use mathlib.Core.List.{List}
 use mathlib.Core.Bool.{Bool, true, false, _&&_, not, cond}
 use mathlib.Core.Logic.{⊎-elim}
-use lib.ListN.{length, length-take, length-drop, getD}
+use lib.ListN.{length, length-take, length-drop}
 use lib.Dec.{eqb, ltb}
 use native.Mathlib.Omega.{arith}
 use borrow.Author.Tests.{lt-ltb, ltb-false}
@@ -20,10 +20,10 @@ use Rattle.netlink_attributes.specs.Attributes.{partOf}
 use Rattle.netlink_attributes.proofs.Laws.{part-in, part-past, part-back}
 use Rattle.netlink_headers.specs.Headers.{messageHeader}
 use Rattle.netlink_headers.specs.declared.headers.MessageHeader.{MessageHeader}
-use Rattle.netlink.specs.Walk.{absent, walked}
-use Rattle.netlink.specs.declared.walk.Slot.{Slot}
+use Rattle.netlink.specs.Walk.{walked}
 use Rattle.netlink.specs.declared.walk.Stop.{Stop}
 use Rattle.netlink.specs.declared.walk.Stop.the-variants.{Whole, At}
+use Rattle.netlink.specs.declared.walk.Walked.{Walked}
 use Rattle.refusal.specs.Refusal.{numberOf, onStop}
 use Rattle.refusal.specs.declared.Refusal.the-variants as R
 use Rattle.bitset_form.specs.Bitset.{Reading}
@@ -40,7 +40,9 @@ use Rattle.admission.specs.Admission.{admitted}
 use Rattle.admission.specs.declared.Admission.{Admission}
 use Rattle.admission.specs.declared.Admission.the-variants as A
 use Rattle.request.specs.Policies.{topPolicy}
+use Rattle.request.specs.Parts.{topParts}
 use Rattle.request.specs.Top.{nestsOf, topOf}
+use Rattle.request.specs.declared.parts.TopParts.{TopParts}
 use Rattle.request.specs.declared.top.Top.{Top}
 use Rattle.request.specs.declared.top.Top.the-variants as T
 use Rattle.request.specs.declared.target.TargetRead.{TargetRead}
@@ -73,29 +75,26 @@ part-short s a e =
 
 -- the bitset that is named stands inside the message
 module _ (roll m : List ℕ) (n : Named roll m) where
-  abbrev slots : List Slot
-  slots = walked (topPolicy (n .command .change)) m 20 .slots
+  abbrev top : Walked
+  top = walked (topPolicy (n .command .change)) m 20
 
-  bitset-inside : (n .bitset .start ≤ n .bitset .end) × (n .bitset .end ≤ length m)
-  unfolding topOf nestsOf
-  bitset-inside = go (walked (topPolicy (n .command .change)) m 20 .stop) refl (n .nests)
+  bitset-inside : (n .parts .bitset .start ≤ n .parts .bitset .end) × (n .parts .bitset .end ≤ length m)
+  unfolding topOf nestsOf topParts
+  bitset-inside = go (top .stop) refl (n .nests)
     where
-      is-it : (a b : Bool) → cond a (T.Refused (R.MissingTop 1)) (cond b (T.Refused (R.MissingTop 2)) (T.Nests (getD slots 1 absent) (getD slots 2 absent)))
-          ≡ T.Nests (n .header) (n .bitset) → getD slots 2 absent ≡ n .bitset
-      is-it true b e = absurd (let z : _≡_ {A = ℕ} 0 1 = cc in omega arith)
-      is-it false true e = absurd (let z : _≡_ {A = ℕ} 0 1 = cc in omega arith)
-      is-it false false e = cc
+      is-it : (a b : Bool) (parts : TopParts) → cond a (T.Refused (R.MissingTop 1)) (cond b (T.Refused (R.MissingTop 2)) (T.Nests parts)) ≡ T.Nests (n .parts)
+          → parts ≡ n .parts
+      is-it true b parts e = absurd (let z : _≡_ {A = ℕ} 0 1 = cc in omega arith)
+      is-it false true parts e = absurd (let z : _≡_ {A = ℕ} 0 1 = cc in omega arith)
+      is-it false false parts e = cc
 
-      go : (t : Stop) → walked (topPolicy (n .command .change)) m 20 .stop ≡ t
-          → onStop t T.Refused
-          (cond (not (getD slots 1 absent .present)) (T.Refused (R.MissingTop 1))
-          (cond (n .command .change && not (getD slots 2 absent .present)) (T.Refused (R.MissingTop 2)) (T.Nests (getD slots 1 absent) (getD slots 2 absent))))
-          ≡ T.Nests (n .header) (n .bitset)
-          → (n .bitset .start ≤ n .bitset .end) × (n .bitset .end ≤ length m)
+      go : (t : Stop) → top .stop ≡ t → onStop t T.Refused (nestsOf (n .command .change) (topParts (top .slots))) ≡ T.Nests (n .parts)
+          → (n .parts .bitset .start ≤ n .parts .bitset .end) × (n .parts .bitset .end ≤ length m)
       go (At fault at) w e = absurd (let z : _≡_ {A = ℕ} 0 1 = cc in omega arith)
       go Whole w e =
-          let q = is-it (not (getD slots 1 absent .present)) (n .command .change && not (getD slots 2 absent .present)) e in
-          rw q at (slot-inside m (topPolicy (n .command .change)) 20 w 2 (omega arith))
+          let parts = topParts (top .slots) in
+          let same = is-it (not (parts .header .present)) (n .command .change && not (parts .bitset .present)) parts e in
+          rw (ap (λ (x : TopParts). x .bitset) same) at (slot-inside m (topPolicy (n .command .change)) 20 w 2 (omega arith))
 
 module _ (box : Box) (state : State) (call : Call) (datagram : List ℕ) (room : ℕ) where
   abbrev position : ℕ
@@ -144,7 +143,7 @@ module _ (box : Box) (state : State) (call : Call) (datagram : List ℕ) (room :
 
     module _ (n : Named (box .roll) m) where
       abbrev reading : Reading
-      reading = bitsetReading (partOf m 0 (n .bitset .end)) (n .bitset .start) (namesFor box m n)
+      reading = bitsetReading (partOf m 0 (n .parts .bitset .end)) (n .parts .bitset .start) (namesFor box m n)
 
       -- a SET that is admitted, names a port and so comes to its bitset
       module _ (change : n .command .change ≡ true) (admit : admitted m h (call .family) (eqb (call .admin) 1) ≡ A.Admitted (n .command)) where
@@ -153,17 +152,17 @@ module _ (box : Box) (state : State) (call : Call) (datagram : List ℕ) (room :
         set-kind next =
             ap (λ (a : Admission). kind (onAdmission a box state m h next)) admit
             ∙ ap (λ (t : Top). kind (topOutcome t state m request (headerOutcome box state m request))) (n .nests)
-            ∙ ap (λ (a : TargetRead). kind (targetOutcome a state m request (portOutcome box state m request (n .bitset)))) (n .found)
-            ∙ ap (λ (t : Bool). kind (cond t (setOutcome box state m request (n .bitset) (n .port .position)) shown)) change
+            ∙ ap (λ (a : TargetRead). kind (targetOutcome a state m request (portOutcome box state m request (n .parts .bitset)))) (n .found)
+            ∙ ap (λ (t : Bool). kind (cond t (setOutcome box state m request (n .parts .bitset) (n .target .position)) got)) change
             ∙ read-kind reading
           where
             request : Request
             request = requestOf h next (n .command)
 
-            shown : Outcome State
-            shown = unchanged (responseOf Done next (getBytes box state m request (n .port))) state
+            got : Outcome State
+            got = unchanged (responseOf Done next (getBytes box state m request (n .target))) state
 
-            read-kind : (r : Reading) → kind (readingOutcome r box state m request (n .port .position)) ≡ kindOf r
+            read-kind : (r : Reading) → kind (readingOutcome r box state m request (n .target .position)) ≡ kindOf r
             read-kind (refused why) = refl
             read-kind (accepted b) = refl
 
@@ -181,26 +180,26 @@ module _ (box : Box) (state : State) (call : Call) (datagram : List ℕ) (room :
             names : namesRight (namesFor box m n) ≡ true
             names = box-means box state call right .names-right (n .command .set)
 
-            at : (n .bitset .start ≤ n .bitset .end) × (n .bitset .end ≤ length m)
+            at : (n .parts .bitset .start ≤ n .parts .bitset .end) × (n .parts .bitset .end ≤ length m)
             at = bitset-inside (box .roll) m n
 
-            short : length (partOf m (n .bitset .start) (n .bitset .end)) ≤ 32768
-            short = payload-short (n .bitset .start) (n .bitset .end)
+            short : length (partOf m (n .parts .bitset .start) (n .parts .bitset .end)) ≤ 32768
+            short = payload-short (n .parts .bitset .start) (n .parts .bitset .end)
 
             go : (r : Reading) → reading ≡ r → AnsweredAlike box m n page (o .response .kind)
             go (accepted b) e =
                 both-done b (kind-is ∙ ap kindOf e) e
-                (both-accept m (namesFor box m n) (n .bitset .start) (n .bitset .end) (at .0) (at .1) names page wide short b e)
+                (both-accept m (namesFor box m n) (n .parts .bitset .start) (n .parts .bitset .end) (at .0) (at .1) names page wide short b e)
             go (refused why) e =
                 both-refused why (kind-is ∙ ap kindOf e)
-                (both-refuse m (namesFor box m n) (n .bitset .start) (n .bitset .end) (at .0) (at .1) names page wide short why e)
+                (both-refuse m (namesFor box m n) (n .parts .bitset .start) (n .parts .bitset .end) (at .0) (at .1) names page wide short why e)
 
   pub done-normal : o .response .kind ≡ Done → (d : DoneSet box state call m h o) (page : ℕ) → 144 ≤ page
       → normaliserAnswer box m (d .named) page
       ≡ record { number = 0; bytes = normalForm (count (namesFor box m (d .named))) (d .bits) }
-  done-normal told d page wide =
+  done-normal kind-of d page wide =
       let n = d .named in
       let i = bitset-inside (box .roll) m n in
-      both-accept m (namesFor box m n) (n .bitset .start) (n .bitset .end) (i .0) (i .1)
+      both-accept m (namesFor box m n) (n .parts .bitset .start) (n .parts .bitset .end) (i .0) (i .1)
       (box-means box (o .state) call (d .right) .names-right (n .command .set)) page wide
-      (payload-short (ap endsRun told) (n .bitset .start) (n .bitset .end)) (d .bits) (d .carries)
+      (payload-short (ap endsRun kind-of) (n .parts .bitset .start) (n .parts .bitset .end)) (d .bits) (d .carries)

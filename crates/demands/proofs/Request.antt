@@ -3,11 +3,11 @@ use Prim.Native.Nat.{ℕ, _-_, _/_, _%_}
 use mathlib.Core.Path.{_≡_, refl, _∙_}
 use mathlib.Core.List.{List, [], _∷_, _++_}
 use mathlib.Core.Bool.{Bool, true, false, _&&_, _||_, not, cond}
-use lib.ListN.{length, getD}
+use lib.ListN.{length}
 use lib.Dec.{eqb, ltb}
 use Rattle.basics.specs.Numbers.{byteAt}
 use Rattle.netlink_attributes.specs.Attributes.{partOf}
-use Rattle.netlink.specs.Walk.{absent, walked, slotNumber}
+use Rattle.netlink.specs.Walk.{walked, slotNumber}
 use Rattle.netlink_headers.specs.declared.headers.MessageHeader.{MessageHeader}
 use Rattle.netlink.specs.declared.walk.Slot.{Slot}
 use Rattle.refusal.specs.declared.Refusal.{Refusal}
@@ -27,6 +27,9 @@ use Rattle.request.specs.Target.{withFlags, onHeader, targetOf}
 use Rattle.admission.specs.Commands.{commandOf}
 use Rattle.request.specs.Header.{flagsJudged, partsOf, headerOf}
 use Rattle.request.specs.Policies.{topPolicy, headerPolicy}
+use Rattle.request.specs.Parts.{topParts, headerParts}
+use Rattle.request.specs.declared.parts.HeaderParts.{HeaderParts}
+use Rattle.request.specs.declared.parts.TopParts.{TopParts}
 use Rattle.request.specs.Port.{onFound, otherName, portByIndex, portByName, portOf}
 use Rattle.refusal.specs.Refusal.{onStop}
 use Rattle.request.specs.Top.{nestsOf, topOf}
@@ -42,7 +45,7 @@ use Rattle.request.specs.declared.port.PortRead.the-variants as P
 use Rattle.request.specs.declared.top.Top.{Top}
 use Rattle.request.specs.declared.top.Top.the-variants as T
 use Rattle.response.specs.Answer.{Outcome, responseOf, unchanged}
-use Rattle.decision.specs.declared.Target.{Target}
+use Rattle.request.specs.declared.target.Target.{Target}
 use Rattle.execute.specs.declared.Request.{Request}
 use Rattle.demands.specs.Message.{requestOf}
 use Rattle.execute.specs.Execute.{getBytes, readingOutcome, setOutcome, portOutcome, targetOutcome, headerOutcome, topOutcome, requestOutcome}
@@ -81,22 +84,22 @@ module _ (box : Box) (state : State) (m : List ℕ) (h : MessageHeader) (next : 
         let names = listOf (box .names) (command .set) in
         reading-kind (bitsetReading s (bitset .start) names) request position ∙ bitset-first s (bitset .start) names
 
-    port-outcome-first : (port : Target) → kind (portOutcome box state m request bitset port) ≡ firstKind Done (after (command .change) (command .set) bitset)
+    port-outcome-first : (target : Target) → kind (portOutcome box state m request bitset target) ≡ firstKind Done (after (command .change) (command .set) bitset)
     unfolding portOutcome
-    port-outcome-first port = go (command .change) (unchanged (responseOf Done next (getBytes box state m request port)) state) refl
+    port-outcome-first target = go (command .change) (unchanged (responseOf Done next (getBytes box state m request target)) state) refl
       where
         go : (t : Bool) (got : Outcome State) → kind got ≡ Done
-            → kind (cond t (setOutcome box state m request bitset (port .position)) got) ≡ firstKind Done (after t (command .set) bitset)
-        go true got e = set-first (port .position)
+            → kind (cond t (setOutcome box state m request bitset (target .position)) got) ≡ firstKind Done (after t (command .set) bitset)
+        go true got e = set-first (target .position)
         go false got e = e ∙ no-more Done
 
     abbrev rest : List Check
     rest = after (command .change) (command .set) bitset
 
     -- 16 and 17
-    module _ (header index name : Slot) (flags : ℕ) where
+    module _ (header : Slot) (parts : HeaderParts) (flags : ℕ) where
       abbrev targeted : PortRead → Kind
-      targeted target = kind (targetOutcome (withFlags target flags) state m request (portOutcome box state m request bitset))
+      targeted port = kind (targetOutcome (withFlags port flags) state m request (portOutcome box state m request bitset))
 
       port-first : (p : ℕ) → targeted (P.Port p) ≡ firstKind Done rest
       unfolding withFlags
@@ -108,72 +111,67 @@ module _ (box : Box) (state : State) (m : List ℕ) (h : MessageHeader) (next : 
 
       index-first : (found : Found)
           → targeted
-          (onFound found (P.Refused (R.UnknownPort (index .start - 4)))
-          (λ k. cond (otherName m name (box .roll) k) (P.Refused (R.OtherName (header .start - 4))) (P.Port k)))
+          (onFound found (P.Refused (R.UnknownPort (parts .index .start - 4)))
+          (λ k. cond (otherName m (parts .name) (box .roll) k) (P.Refused (R.OtherName (header .start - 4))) (P.Port k)))
           ≡ firstKind Done
-          (refuseIf (noPort found) (R.UnknownPort (index .start - 4))
-          ∷ refuseIf false (R.UnknownPort (name .start - 4))
-          ∷ refuseIf (namedOtherwise m name (box .roll) found) (R.OtherName (header .start - 4))
+          (refuseIf (noPort found) (R.UnknownPort (parts .index .start - 4))
+          ∷ refuseIf false (R.UnknownPort (parts .name .start - 4))
+          ∷ refuseIf (namedOtherwise m (parts .name) (box .roll) found) (R.OtherName (header .start - 4))
           ∷ rest)
       unfolding noPort namedOtherwise
       index-first F.Nothing = refused-by _ ∙ fault Done _ _
       index-first (F.At k) =
-          pass Done _ _ _ (pass Done _ _ _ (step targeted Done (otherName m name (box .roll) k) _ _ _ _ (refused-by _) (port-first k)))
+          pass Done _ _ _ (pass Done _ _ _ (step targeted Done (otherName m (parts .name) (box .roll) k) _ _ _ _ (refused-by _) (port-first k)))
 
       name-first : (found : Found)
-          → targeted (onFound found (P.Refused (R.UnknownPort (name .start - 4))) P.Port)
-          ≡ firstKind Done (refuseIf (noPort found) (R.UnknownPort (name .start - 4)) ∷ refuseIf false (R.OtherName (header .start - 4)) ∷ rest)
+          → targeted (onFound found (P.Refused (R.UnknownPort (parts .name .start - 4))) P.Port)
+          ≡ firstKind Done (refuseIf (noPort found) (R.UnknownPort (parts .name .start - 4)) ∷ refuseIf false (R.OtherName (header .start - 4)) ∷ rest)
       unfolding noPort
       name-first F.Nothing = refused-by _ ∙ fault Done _ _
       name-first (F.At k) = pass Done _ _ _ (pass Done _ _ _ (port-first k))
 
       target-first : (t : Bool)
-          → targeted (cond t (portByIndex m header index name (box .roll)) (portByName m name (box .roll)))
+          → targeted (cond t (portByIndex m header parts (box .roll)) (portByName m (parts .name) (box .roll)))
           ≡ firstKind Done
-          (refuseIf (t && noPort (foundByIndex (box .roll) (slotNumber m index))) (R.UnknownPort (index .start - 4))
-          ∷ refuseIf (not t && noPort (foundByName (box .roll) (partOf m (name .start) (name .end)))) (R.UnknownPort (name .start - 4))
-          ∷ refuseIf (t && namedOtherwise m name (box .roll) (foundByIndex (box .roll) (slotNumber m index))) (R.OtherName (header .start - 4))
+          (refuseIf (t && noPort (foundByIndex (box .roll) (slotNumber m (parts .index)))) (R.UnknownPort (parts .index .start - 4))
+          ∷ refuseIf (not t && noPort (foundByName (box .roll) (partOf m (parts .name .start) (parts .name .end)))) (R.UnknownPort (parts .name .start - 4))
+          ∷ refuseIf (t && namedOtherwise m (parts .name) (box .roll) (foundByIndex (box .roll) (slotNumber m (parts .index)))) (R.OtherName (header .start - 4))
           ∷ rest)
       unfolding portByIndex portByName
-      target-first true = index-first (foundByIndex (box .roll) (slotNumber m index))
-      target-first false = pass Done _ _ _ (name-first (foundByName (box .roll) (partOf m (name .start) (name .end))))
+      target-first true = index-first (foundByIndex (box .roll) (slotNumber m (parts .index)))
+      target-first false = pass Done _ _ _ (name-first (foundByName (box .roll) (partOf m (parts .name .start) (parts .name .end))))
 
-    -- the header level
-    header-first : (header : Slot) → kind (headerOutcome box state m request header bitset) ≡ firstKind Done (headerChecks m (box .roll) header ++ rest)
-    unfolding headerOutcome targetOf headerOf partsOf flagsJudged portOf headerChecks portChecks
-    header-first header =
-        let p = partOf m 0 (header .end) in
-        let slots = walked headerPolicy p (header .start) .slots in
-        let index = getD slots 1 absent in
-        let name = getD slots 2 absent in
-        let flags = getD slots 3 absent in
-        walk-step headed Done (walked headerPolicy p (header .start) .stop) (λ stop. onStop stop H.Refused (partsOf m (header .start - 4) index name flags)) _
-        (λ fault at. refl)
-        (step headed Done _ _ _ _ _ refl
-        (step headed Done _ _ _ _ _ refl
-        (target-first header index name (slotNumber m flags) (index .present))))
-      where
-        headed : Header → Kind
-        headed hd =
-            kind
-            (targetOutcome (onHeader hd (λ index name flags. withFlags (portOf m header index name (box .roll)) flags)) state m request
-            (portOutcome box state m request bitset))
+  -- the header level
+  header-first : (command : Command) (top : TopParts)
+      → kind (headerOutcome box state m (requestOf h next command) top)
+      ≡ firstKind Done (headerChecks m (box .roll) (top .header) ++ after (command .change) (command .set) (top .bitset))
+  unfolding headerOutcome targetOf headerOf partsOf flagsJudged portOf headerChecks portChecks
+  header-first command top =
+      let nest = walked headerPolicy (partOf m 0 (top .header .end)) (top .header .start) in
+      let parts = headerParts (nest .slots) in
+      walk-step headed Done (nest .stop) (λ stop. onStop stop H.Refused (partsOf m (top .header .start - 4) parts)) _
+      (λ fault at. refl)
+      (step headed Done _ _ _ _ _ refl
+      (step headed Done _ _ _ _ _ refl
+      (target-first command (top .bitset) (top .header) parts (slotNumber m (parts .flags)) (parts .index .present))))
+    where
+      headed : Header → Kind
+      headed hd =
+          kind
+          (targetOutcome (onHeader hd (λ parts flags. withFlags (portOf m (top .header) parts (box .roll)) flags)) state m (requestOf h next command)
+          (portOutcome box state m (requestOf h next command) (top .bitset)))
 
   -- the top level
-  level-first : (command : Command)
-      → kind (requestOutcome box state m (requestOf h next command))
-      ≡ firstKind Done
-      (levelChecks box m (command .change) (command .set)
-      (getD (walked (topPolicy (command .change)) m 20 .slots) 1 absent)
-      (getD (walked (topPolicy (command .change)) m 20 .slots) 2 absent))
-  unfolding requestOutcome topOf nestsOf levelChecks topChecks
+  abbrev levels : CommandRead → List Check
+  levels command = levelChecks box m command (topParts (walked (topPolicy (isSet command)) m 20 .slots))
+
+  level-first : (command : Command) → kind (requestOutcome box state m (requestOf h next command)) ≡ firstKind Done (levels (Listed command))
+  unfolding requestOutcome topOf nestsOf levelChecks topChecks isSet setIn
   level-first command =
-      let slots = walked (topPolicy (command .change)) m 20 .slots in
-      let header = getD slots 1 absent in
-      let bitset = getD slots 2 absent in
-      walk-step topped Done (walked (topPolicy (command .change)) m 20 .stop) (λ stop. onStop stop T.Refused (nestsOf (command .change) header bitset)) _
+      let top = walked (topPolicy (command .change)) m 20 in
+      walk-step topped Done (top .stop) (λ stop. onStop stop T.Refused (nestsOf (command .change) (topParts (top .slots)))) _
       (λ fault at. refl)
-      (step topped Done _ _ _ _ _ refl (step topped Done _ _ _ _ _ refl (header-first command bitset header)))
+      (step topped Done _ _ _ _ _ refl (step topped Done _ _ _ _ _ refl (header-first command (topParts (top .slots)))))
     where
       topped : Top → Kind
       topped top = kind (topOutcome top state m (requestOf h next command) (headerOutcome box state m (requestOf h next command)))
@@ -188,9 +186,7 @@ module _ (box : Box) (state : State) (m : List ℕ) (h : MessageHeader) (next : 
         ≡ firstKind Done
         (refuseIf (eqb (h .flags / 256 % 4) 3) R.Dump
         ∷ refuseIf (command .change && not (eqb (call .admin) 1)) R.Permission
-        ∷ levelChecks box m (command .change) (command .set)
-        (getD (walked (topPolicy (command .change)) m 20 .slots) 1 absent)
-        (getD (walked (topPolicy (command .change)) m 20 .slots) 2 absent))
+        ∷ levels (Listed command))
     unfolding permitted notPermitted
     permitted-first command = step admission Done _ _ _ _ _ refl (step admission Done _ _ _ _ _ refl (level-first command))
 
@@ -200,10 +196,8 @@ module _ (box : Box) (state : State) (m : List ℕ) (h : MessageHeader) (next : 
         (refuseIf (unlisted c) R.Command
         ∷ refuseIf (eqb (h .flags / 256 % 4) 3) R.Dump
         ∷ refuseIf (isSet c && not (eqb (call .admin) 1)) R.Permission
-        ∷ levelChecks box m (isSet c) (setIn c)
-        (getD (walked (topPolicy (isSet c)) m 20 .slots) 1 absent)
-        (getD (walked (topPolicy (isSet c)) m 20 .slots) 2 absent))
-    unfolding unlisted isSet setIn
+        ∷ levels c)
+    unfolding unlisted isSet
     command-first Unlisted = fault Done _ _
     command-first (Listed command) = pass Done _ _ _ (permitted-first command)
 

@@ -1,22 +1,42 @@
--- What a call comes to. Document 01, "What a call says back": "Except for end and 1 to 4, which return the position given, the next position is
--- past the message's step, capped at the datagram's end".
+-- No promise rests on this file: what a message and a call come to, case by case, from which the theorems are shown.
 use Prim.Native.Nat.{ℕ, _+_, _≤_}
 use mathlib.Core.Path.{_≡_}
 use mathlib.Core.List.{List}
-use mathlib.Core.Bool.{true}
+use mathlib.Core.Bool.{true, false}
+use Rattle.bits.specs.Set.{has, wordsOf}
+use Rattle.netlink_headers.specs.declared.headers.MessageHeader.{MessageHeader}
+use Rattle.refusal.specs.declared.Refusal.{Refusal}
+use Rattle.bitset_form.specs.Bitset.{Bitset, effect}
+use Rattle.boxes.specs.Box.{Box, State, widthIn, setOf}
+use Rattle.response.specs.Answer.{Outcome, responseOf, noBytes, errorResponse, ackBytes, unchanged}
+use Rattle.execute.specs.Execute.{withSet, getBytes}
+use Rattle.response.specs.declared.Kind.the-variants.{Skipped, Done, End, Refused}
 use lib.ListN.{length}
 use Rattle.netlink_headers.specs.Headers.{messageHeader}
 use Rattle.refusal.specs.Refusal.{numberOf}
-use Rattle.refusal.specs.declared.Refusal.{Refusal}
-use Rattle.boxes.specs.Box.{Box, State}
 use Rattle.boxes.specs.declared.Call.{Call}
 use Rattle.boxes.specs.Rule.{boxRight}
-use Rattle.response.specs.Answer.{Outcome, noBytes, unchanged}
-use Rattle.response.specs.declared.Kind.the-variants.{End, Done, Refused}
 use Rattle.demands.specs.Check.{firstKind}
 use Rattle.demands.specs.Request.{messageChecks}
 use Rattle.demands.specs.Call.{messageOf}
-use Rattle.demands.specs.Message.{MessageCase}
+use Rattle.demands.specs.Message.{Named, requestOf, Carries}
+
+-- what a message comes to: nothing for a skipped one, an error message, a reply, or a change of one set of one port
+pub data MessageCase (box : Box) (state : State) (m : List ℕ) (h : MessageHeader) (next : ℕ) (o : Outcome State) : Type 0 where
+  messageSkipped : o ≡ unchanged (noBytes Skipped next) state → MessageCase box state m h next o
+  messageRefused : (why : Refusal) → o ≡ unchanged (errorResponse m next why) state → MessageCase box state m h next o
+  getDone : (n : Named (box .roll) m) → n .command .change ≡ false
+      → o ≡ unchanged (responseOf Done next (getBytes box state m (requestOf h next (n .command)) (n .target))) state
+      → MessageCase box state m h next o
+  setDone : (n : Named (box .roll) m) → n .command .change ≡ true → (b : Bitset) → Carries box m n b
+      → o
+      ≡ record {
+        response = responseOf Done next (ackBytes m h);
+        state =
+            withSet box state (n .target .position) (n .command .set)
+            (wordsOf (widthIn box (n .command .set)) (effect b (has (setOf box state (n .target .position) (n .command .set)))));
+      }
+      → MessageCase box state m h next o
 
 -- the end or a refusal by 1 to 4, which change nothing, say nothing and give the position back; or a message of a right box, which moves on
 pub data CallCase (box : Box) (state : State) (call : Call) (datagram : List ℕ) (o : Outcome State) : Type 0 where

@@ -24,7 +24,7 @@ unfoldable pub walks : Stop → Check
 walks Whole = passes
 walks (At fault at) = refuses (ofFault fault at)
 
--- the kind that the first check tells that does not pass, else the kind given
+-- the kind of the first check that does not pass, else the kind given
 unfoldable pub firstKind : Kind → List Check → Kind
 firstKind kind [] = kind
 firstKind kind (passes ∷ checks) = firstKind kind checks
@@ -37,7 +37,7 @@ pub data AllPass : List Check → Type 0 where
   none : AllPass []
   next : {checks : List Check} → AllPass checks → AllPass (passes ∷ checks)
 
--- a refusal is told by a check, and all checks before that one pass
+-- a check refuses, and all checks before that one pass
 pub data FirstIs (why : Refusal) : List Check → Type 0 where
   here : {checks : List Check} → FirstIs why (refuses why ∷ checks)
   later : {checks : List Check} → FirstIs why checks → FirstIs why (passes ∷ checks)

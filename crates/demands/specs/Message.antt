@@ -1,41 +1,34 @@
--- What the theorems about a message say: what it names, and what is said and done. Document 01, "What a call says back".
+-- What a request names, and the bitset that it carries. Document 01, "What a call says back".
 use Prim.Native.Nat.{ℕ}
 use mathlib.Core.Path.{_≡_}
 use mathlib.Core.List.{List}
-use mathlib.Core.Bool.{true, false}
 use Rattle.basics.specs.Numbers.{byteAt}
-use Rattle.bits.specs.Set.{has, wordsOf}
 use Rattle.netlink_attributes.specs.Attributes.{partOf}
 use Rattle.netlink_headers.specs.declared.headers.MessageHeader.{MessageHeader}
-use Rattle.netlink.specs.declared.walk.Slot.{Slot}
-use Rattle.refusal.specs.declared.Refusal.{Refusal}
-use Rattle.bitset_form.specs.Bitset.{Bitset, effect}
+use Rattle.bitset_form.specs.Bitset.{Bitset}
 use Rattle.bitset_form.specs.Bitset.Reading.{accepted}
 use Rattle.bitset.specs.Judge.{bitsetReading}
 use Rattle.layout.specs.Layout.{listOf}
-use Rattle.boxes.specs.Box.{Box, State, widthIn, setOf}
+use Rattle.boxes.specs.Box.{Box}
 use Rattle.request.specs.Target.{targetOf}
 use Rattle.admission.specs.Commands.{commandOf}
 use Rattle.request.specs.Top.{topOf}
 use Rattle.request.specs.declared.target.TargetRead.the-variants as A
-use Rattle.decision.specs.declared.Target.{Target}
+use Rattle.request.specs.declared.target.Target.{Target}
 use Rattle.admission.specs.declared.commands.Command.{Command}
 use Rattle.admission.specs.declared.commands.CommandRead.the-variants.{Listed}
+use Rattle.request.specs.declared.parts.TopParts.{TopParts}
 use Rattle.request.specs.declared.top.Top.the-variants.{Nests}
-use Rattle.response.specs.Answer.{Outcome, responseOf, noBytes, errorResponse, ackBytes, unchanged}
 use Rattle.execute.specs.declared.Request.{Request}
-use Rattle.execute.specs.Execute.{withSet, getBytes}
-use Rattle.response.specs.declared.Kind.the-variants.{Skipped, Done}
 
--- what the request m names: a listed command, its header and bitset, and the port of the roll that its header gives
+-- what the request m names: a listed command, its header nest and bitset, and the port of the roll that its header gives
 pub record Named (roll m : List ℕ) : Type 0 where
   pub command : Command
   pub listed : commandOf (byteAt m 16) ≡ Listed command
-  pub header : Slot
-  pub bitset : Slot
-  pub nests : topOf m (command .change) ≡ Nests header bitset
-  pub port : Target
-  pub found : targetOf m header roll ≡ A.Port (port .position) (port .flags)
+  pub parts : TopParts
+  pub nests : topOf m (command .change) ≡ Nests parts
+  pub target : Target
+  pub found : targetOf m (parts .header) roll ≡ A.Port target
 
 -- the request as it is admitted
 abbrev pub requestOf : MessageHeader → ℕ → Command → Request
@@ -44,21 +37,4 @@ requestOf h next command = record { header = h; next = next; command = command }
 -- the bitset that a SET carries, as document 01 reads it over the names of the set
 abbrev pub Carries : (box : Box) (m : List ℕ) → Named (box .roll) m → Bitset → Type 0
 Carries box m n b =
-    bitsetReading (partOf m 0 (n .bitset .end)) (n .bitset .start) (listOf (box .names) (n .command .set)) ≡ accepted b
-
--- what is said and done of a message: nothing for a skipped one, an error message, a reply, or a change of one set of one port
-pub data MessageCase (box : Box) (state : State) (m : List ℕ) (h : MessageHeader) (next : ℕ) (o : Outcome State) : Type 0 where
-  messageSkipped : o ≡ unchanged (noBytes Skipped next) state → MessageCase box state m h next o
-  messageRefused : (why : Refusal) → o ≡ unchanged (errorResponse m next why) state → MessageCase box state m h next o
-  getDone : (n : Named (box .roll) m) → n .command .change ≡ false
-      → o ≡ unchanged (responseOf Done next (getBytes box state m (requestOf h next (n .command)) (n .port))) state
-      → MessageCase box state m h next o
-  setDone : (n : Named (box .roll) m) → n .command .change ≡ true → (b : Bitset) → Carries box m n b
-      → o
-      ≡ record {
-        response = responseOf Done next (ackBytes m h);
-        state =
-            withSet box state (n .port .position) (n .command .set)
-            (wordsOf (widthIn box (n .command .set)) (effect b (has (setOf box state (n .port .position) (n .command .set)))));
-      }
-      → MessageCase box state m h next o
+    bitsetReading (partOf m 0 (n .parts .bitset .end)) (n .parts .bitset .start) (listOf (box .names) (n .command .set)) ≡ accepted b

@@ -20,7 +20,7 @@ namesFor box m n = listOf (box .names) (n .command .set)
 
 -- the normaliser's answer on the payload of the request's bitset, into a page of so many bytes
 abbrev pub normaliserAnswer : (box : Box) (m : List ℕ) → Named (box .roll) m → ℕ → NormalAnswer
-normaliserAnswer box m n page = normalised (partOf m (n .bitset .start) (n .bitset .end)) (namesFor box m n) page
+normaliserAnswer box m n page = normalised (partOf m (n .parts .bitset .start) (n .parts .bitset .end)) (namesFor box m n) page
 
 -- the handler's kind and the normaliser's answer: done, and 0 with the normal form of the bitset that is carried out; or refused, and the
 -- same number with nothing written

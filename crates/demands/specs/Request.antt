@@ -3,11 +3,11 @@
 use Prim.Native.Nat.{ℕ, _-_, _/_, _%_}
 use mathlib.Core.List.{List, [], _∷_, _++_}
 use mathlib.Core.Bool.{Bool, true, false, _&&_, _||_, not, cond}
-use lib.ListN.{length, getD}
+use lib.ListN.{length}
 use lib.Dec.{eqb, ltb}
 use Rattle.basics.specs.Numbers.{byteAt}
 use Rattle.netlink_attributes.specs.Attributes.{partOf}
-use Rattle.netlink.specs.Walk.{absent, walked, slotNumber}
+use Rattle.netlink.specs.Walk.{walked, slotNumber}
 use Rattle.netlink_headers.specs.declared.headers.MessageHeader.{MessageHeader}
 use Rattle.netlink.specs.declared.walk.Slot.{Slot}
 use Rattle.refusal.specs.declared.Refusal.the-variants as R
@@ -21,7 +21,10 @@ use Rattle.layout.specs.declared.Set.{Set}
 use Rattle.layout.specs.declared.Set.the-variants.{Debug}
 use Rattle.admission.specs.Commands.{commandOf}
 use Rattle.request.specs.Policies.{topPolicy, headerPolicy}
+use Rattle.request.specs.Parts.{topParts, headerParts}
 use Rattle.request.specs.Port.{otherName}
+use Rattle.request.specs.declared.parts.TopParts.{TopParts}
+use Rattle.request.specs.declared.parts.HeaderParts.{HeaderParts}
 use Rattle.admission.specs.declared.commands.Command.{Command}
 use Rattle.admission.specs.declared.commands.CommandRead.{CommandRead}
 use Rattle.admission.specs.declared.commands.CommandRead.the-variants.{Listed, Unlisted}
@@ -70,46 +73,41 @@ admissionChecks m h family admin command =
     ∷ []
 
 -- the top level: 10 to 12, then 13
-unfoldable pub topChecks : List ℕ → Bool → Slot → Slot → List Check
-topChecks m change header bitset =
+unfoldable pub topChecks : List ℕ → Bool → TopParts → List Check
+topChecks m change parts =
     walks (walked (topPolicy change) m 20 .stop)
-    ∷ refuseIf (not (header .present)) (R.MissingTop 1)
-    ∷ refuseIf (change && not (bitset .present)) (R.MissingTop 2)
+    ∷ refuseIf (not (parts .header .present)) (R.MissingTop 1)
+    ∷ refuseIf (change && not (parts .bitset .present)) (R.MissingTop 2)
     ∷ []
 
 -- 14 to 17 of the header nest, from its parts
-unfoldable pub portChecks : List ℕ → List ℕ → Slot → Slot → Slot → Slot → List Check
-portChecks m roll header index name flags =
-    refuseIf (not (index .present || name .present)) (R.NoPort (header .start - 4))
-    ∷ refuseIf (ltb 3 (slotNumber m flags)) (R.HeaderFlag (flags .start - 4))
-    ∷ refuseIf (index .present && noPort (foundByIndex roll (slotNumber m index))) (R.UnknownPort (index .start - 4))
-    ∷ refuseIf (not (index .present) && noPort (foundByName roll (partOf m (name .start) (name .end)))) (R.UnknownPort (name .start - 4))
-    ∷ refuseIf (index .present && namedOtherwise m name roll (foundByIndex roll (slotNumber m index))) (R.OtherName (header .start - 4))
+unfoldable pub portChecks : List ℕ → List ℕ → Slot → HeaderParts → List Check
+portChecks m roll header parts =
+    refuseIf (not (parts .index .present || parts .name .present)) (R.NoPort (header .start - 4))
+    ∷ refuseIf (ltb 3 (slotNumber m (parts .flags))) (R.HeaderFlag (parts .flags .start - 4))
+    ∷ refuseIf (parts .index .present && noPort (foundByIndex roll (slotNumber m (parts .index)))) (R.UnknownPort (parts .index .start - 4))
+    ∷ refuseIf (not (parts .index .present) && noPort (foundByName roll (partOf m (parts .name .start) (parts .name .end)))) (R.UnknownPort (parts .name .start - 4))
+    ∷ refuseIf (parts .index .present && namedOtherwise m (parts .name) roll (foundByIndex roll (slotNumber m (parts .index)))) (R.OtherName (header .start - 4))
     ∷ []
 
 -- the header level: 10 to 12, then 14 to 17
 unfoldable pub headerChecks : List ℕ → List ℕ → Slot → List Check
 headerChecks m roll header =
     walks (walked headerPolicy (partOf m 0 (header .end)) (header .start) .stop)
-    ∷ portChecks m roll header
-    (getD (walked headerPolicy (partOf m 0 (header .end)) (header .start) .slots) 1 absent)
-    (getD (walked headerPolicy (partOf m 0 (header .end)) (header .start) .slots) 2 absent)
-    (getD (walked headerPolicy (partOf m 0 (header .end)) (header .start) .slots) 3 absent)
+    ∷ portChecks m roll header (headerParts (walked headerPolicy (partOf m 0 (header .end)) (header .start) .slots))
 
 -- the levels of a listed command: top level, header, and in a SET the bitset
-unfoldable pub levelChecks : Box → List ℕ → Bool → Set → Slot → Slot → List Check
-levelChecks box m change set header bitset =
-    topChecks m change header bitset
-    ++ (headerChecks m (box .roll) header
-    ++ cond change (bitsetChecks (partOf m 0 (bitset .end)) (bitset .start) (listOf (box .names) set)) [])
+unfoldable pub levelChecks : Box → List ℕ → CommandRead → TopParts → List Check
+levelChecks box m command parts =
+    topChecks m (isSet command) parts
+    ++ (headerChecks m (box .roll) (parts .header)
+    ++ cond (isSet command) (bitsetChecks (partOf m 0 (parts .bitset .end)) (parts .bitset .start) (listOf (box .names) (setIn command))) [])
 
 -- the message m with its header h, whose command is read
 unfoldable pub commandChecks : Box → Call → List ℕ → MessageHeader → CommandRead → List Check
 commandChecks box call m h command =
     admissionChecks m h (call .family) (call .admin) command
-    ++ levelChecks box m (isSet command) (setIn command)
-    (getD (walked (topPolicy (isSet command)) m 20 .slots) 1 absent)
-    (getD (walked (topPolicy (isSet command)) m 20 .slots) 2 absent)
+    ++ levelChecks box m command (topParts (walked (topPolicy (isSet command)) m 20 .slots))
 
 -- the message m with its header h
 unfoldable pub messageChecks : Box → Call → List ℕ → MessageHeader → List Check

@@ -9,13 +9,13 @@ use Rattle.response.specs.declared.Answer.{Answer}
 use Rattle.handler.specs.Bytes.{Stored}
 use Rattle.ethnl.specs.Exported.{Normalise, Handle}
 
-pub normalise-told : (o : N.NormalAnswer) (P Q : List ℕ) (x : Normal) → N.Normalised o P Q x → Normalise o P Q (x .written) (x .number)
-normalise-told o P Q x h =
+pub normalise-returns : (o : N.NormalAnswer) (P Q : List ℕ) (x : Normal) → N.Normalised o P Q x → Normalise o P Q (x .written) (x .number)
+normalise-returns o P Q x h =
     record { number = ap (λ (y : Normal). y .number) (h .result); count = ap (λ (y : Normal). y .written) (h .result); page = h .page }
 
-pub handle-told : (o : Outcome Stored) (P Q : List ℕ) (stored : Stored) (x : Answer) (k f : ℕ) → Performs o P Q stored x → k ≡ kindNumber (x .kind) → f ≡ refusalNumber (x .kind)
+pub handle-returns : (o : Outcome Stored) (P Q : List ℕ) (stored : Stored) (x : Answer) (k f : ℕ) → Performs o P Q stored x → k ≡ kindNumber (x .kind) → f ≡ refusalNumber (x .kind)
     → Handle o P Q stored k f (x .next) (x .written)
-handle-told o P Q stored x k f a ek ef =
+handle-returns o P Q stored x k f a ek ef =
     let e = a .response .result in
     record {
       kind = ek ∙ ap (λ (y : Answer). kindNumber (y .kind)) e;

@@ -49,9 +49,9 @@ pub extern "C" fn ethnl_handle<'a>(
         position: position as usize,
     };
     let answer = handle_bytes(call, roll, debug, flags, settings, datagram, page);
-    let told = answer.kind;
-    *kind = told.number();
-    *refusal = told.refusal();
+    let answered = answer.kind;
+    *kind = answered.number();
+    *refusal = answered.refusal();
     *next = answer.next as u64;
     *written = answer.written as u64;
 }

@@ -23,7 +23,8 @@ use Rattle.layout.proofs.Laws.{lists-of, widths-few, size-few}
 use Rattle.boxes.specs.Box.{Box, State, portsIn, sizesIn, widthsIn, placeIn, widthIn, setOf}
 use Rattle.request.specs.Top.{topOf}
 use Rattle.request.specs.Target.{targetOf}
-use Rattle.request.proofs.target.Place.{AimIn, target-counted}
+use Rattle.request.proofs.target.Place.{TargetIn, target-counted}
+use Rattle.request.specs.declared.parts.TopParts.{TopParts}
 use Rattle.request.specs.declared.top.Top.{Top}
 use Rattle.request.specs.declared.top.Top.the-variants as T
 use Rattle.request.specs.declared.target.TargetRead.{TargetRead}
@@ -31,13 +32,15 @@ use Rattle.request.specs.declared.target.TargetRead.the-variants as A
 use Rattle.decision.specs.Decision as D
 use Rattle.decision.specs.Decision.{bitsetDecision, headerDecision, decided}
 use Rattle.decision.specs.declared.Decision.{Decision}
-use Rattle.decision.specs.declared.Target.{Target}
+use Rattle.request.specs.declared.target.Target.{Target}
 use Rattle.decision.specs.declared.Plan.the-variants as P
 use Rattle.response.specs.Answer.{Outcome, responseOf, ackBytes, unchanged, Performs}
 use Rattle.response.specs.declared.Kind.the-variants.{Done}
 use Rattle.response.specs.declared.Answer.{Answer}
 use Rattle.execute.specs.declared.Request.{Request}
-use Rattle.execute.specs.Execute.{Fit, withSet, changedBy, getBytes, readingOutcome, setOutcome, portOutcome, targetOutcome, headerOutcome, topOutcome, requestOutcome, carriedOut}
+use Rattle.execute.specs.Execute.{withSet, getBytes, readingOutcome, setOutcome, portOutcome, targetOutcome, headerOutcome, topOutcome, requestOutcome}
+use Rattle.execute.specs.CarriedOut.{changedBy, carriedOut}
+use Rattle.execute.specs.Fit.{Fit}
 
 module _ (box : Box) (state : State) (fit : Fit box state) where
   -- the form of an accepted bitset, applied to a set of a port, makes of it what the bitset says
@@ -92,40 +95,40 @@ module _ (box : Box) (state : State) (fit : Fit box state) where
             (changed position here (request .command .set) (partOf m 0 (bitset .end)) (bitset .start) b e)
 
     -- GET or SET
-    port-is : (bitset : Slot) (port : Target) → port .position < portsIn box
-        → carriedOut box state m request (cond (request .command .change) (bitsetDecision m bitset names-here (port .position)) (D.withoutForm (P.Get port))) ≡ portOutcome box state m request bitset port
+    port-is : (bitset : Slot) (target : Target) → target .position < portsIn box
+        → carriedOut box state m request (cond (request .command .change) (bitsetDecision m bitset names-here (target .position)) (D.withoutForm (P.Get target))) ≡ portOutcome box state m request bitset target
     unfolding portOutcome carriedOut
-    port-is bitset port here = go (request .command .change)
+    port-is bitset target here = go (request .command .change)
       where
         go : (change : Bool)
-            → carriedOut box state m request (cond change (bitsetDecision m bitset names-here (port .position)) (D.withoutForm (P.Get port)))
-            ≡ cond change (setOutcome box state m request bitset (port .position)) (unchanged (responseOf Done (request .next) (getBytes box state m request port)) state)
-        go true = bitset-is bitset (port .position) here
+            → carriedOut box state m request (cond change (bitsetDecision m bitset names-here (target .position)) (D.withoutForm (P.Get target)))
+            ≡ cond change (setOutcome box state m request bitset (target .position)) (unchanged (responseOf Done (request .next) (getBytes box state m request target)) state)
+        go true = bitset-is bitset (target .position) here
         go false = refl
 
     -- the header level
-    aim-is : (bitset : Slot) (a : TargetRead) → AimIn (box .roll) a
+    target-is : (bitset : Slot) (a : TargetRead) → TargetIn (box .roll) a
         → carriedOut box state m request (D.targetDecision a (request .command .change) (bitsetDecision m bitset names-here)) ≡ targetOutcome a state m request (portOutcome box state m request bitset)
     unfolding carriedOut
-    aim-is bitset (A.Refused why) i = refl
-    aim-is bitset (A.Port position flags) i = port-is bitset (record { position = position; flags = flags }) i
+    target-is bitset (A.Refused why) i = refl
+    target-is bitset (A.Port target) i = port-is bitset target i
 
-    header-is : (header bitset : Slot)
-        → carriedOut box state m request (headerDecision m (request .command .change) (box .roll) names-here header bitset) ≡ headerOutcome box state m request header bitset
+    header-is : (parts : TopParts)
+        → carriedOut box state m request (headerDecision box m (request .command) parts) ≡ headerOutcome box state m request parts
     unfolding headerDecision headerOutcome
-    header-is header bitset = aim-is bitset (targetOf m header (box .roll)) (target-counted (box .roll) m header)
+    header-is parts = target-is (parts .bitset) (targetOf m (parts .header) (box .roll)) (target-counted (box .roll) m (parts .header))
 
     -- the top level
-    top-is : (t : Top) → carriedOut box state m request (D.topDecision t (headerDecision m (request .command .change) (box .roll) names-here)) ≡ topOutcome t state m request (headerOutcome box state m request)
+    top-is : (t : Top) → carriedOut box state m request (D.topDecision t (headerDecision box m (request .command))) ≡ topOutcome t state m request (headerOutcome box state m request)
     unfolding carriedOut
     top-is (T.Refused why) = refl
-    top-is (T.Nests header bitset) = header-is header bitset
+    top-is (T.Nests parts) = header-is parts
 
-    pub carried-is : carriedOut box state m request (decided m (request .command) (box .roll) (box .names)) ≡ requestOutcome box state m request
+    pub carried-is : carriedOut box state m request (decided box m (request .command)) ≡ requestOutcome box state m request
     unfolding decided requestOutcome
     carried-is = top-is (topOf m (request .command .change))
 
 -- the return of `execute`
-pub execute-told : (box : Box) (state : State) (m : List ℕ) (request : Request) (d : Decision) (P Q : List ℕ) (new : State) (r : Answer)
-    → Fit box state → d ≡ decided m (request .command) (box .roll) (box .names) → Performs (carriedOut box state m request d) P Q new r → Performs (requestOutcome box state m request) P Q new r
-execute-told box state m request d P Q new r fit e did = rw (← carried-is box state fit m request, ← e) did
+pub execute-performs : (box : Box) (state : State) (m : List ℕ) (request : Request) (d : Decision) (P Q : List ℕ) (new : State) (r : Answer)
+    → Fit box state → d ≡ decided box m (request .command) → Performs (carriedOut box state m request d) P Q new r → Performs (requestOutcome box state m request) P Q new r
+execute-performs box state m request d P Q new r fit e did = rw (← carried-is box state fit m request, ← e) did

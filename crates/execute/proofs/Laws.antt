@@ -11,22 +11,24 @@ use Rattle.bits.specs.Change.{merge}
 use Rattle.refusal.specs.declared.Refusal.{Refusal}
 use Rattle.roll.specs.Record.{portCount, indexOf, nameOf}
 use Rattle.roll.proofs.table.Laws.{name-long}
-use Rattle.layout.specs.Layout.{AtMost, listOf, sizeOf, widthsOf, totalWords, setPlace, setAt}
+use Rattle.layout.specs.Layout.{listOf, sizeOf, widthsOf, totalWords, setPlace, setAt}
+use Rattle.layout.specs.AtMost.{AtMost}
 use Rattle.layout.specs.declared.Set.{Set}
 use Rattle.layout.specs.declared.Sizes.{Sizes}
 use Rattle.layout.proofs.Laws.{sizes-of, size-few, widths-few, place-inside, set-length}
 use Rattle.boxes.specs.Box.{Box, State, stateOf, portsIn, sizesIn, widthsIn, placeIn, widthIn, setOf}
 use Rattle.bitset_form.specs.declared.Form.{Form}
-use Rattle.reply.specs.declared.message.Heading.{Heading}
 use Rattle.response.specs.Answer.{Response, responseOf, errorResponse, ackBytes, unchanged, Responds, Performs}
 use Rattle.response.specs.declared.Kind.the-variants.{Done}
-use Rattle.decision.specs.declared.Target.{Target}
+use Rattle.request.specs.declared.target.Target.{Target}
 use Rattle.decision.specs.declared.Plan.{Plan}
 use Rattle.decision.specs.declared.Plan.the-variants as Pl
 use Rattle.decision.specs.declared.Decision.{Decision}
 use Rattle.execute.specs.declared.Request.{Request}
-use Rattle.execute.specs.Execute.{Fit, withSet, changedBy, replyAndAck, getBytes, planOutcome, carriedOut}
-use Rattle.reply.specs.Message.{headingOf}
+use Rattle.execute.specs.Execute.{withSet, contentIn, replyAndAck, getBytes}
+use Rattle.execute.specs.CarriedOut.{changedBy, planOutcome, carriedOut}
+use Rattle.execute.specs.Fit.{Fit}
+use Rattle.reply.specs.Message.{Content, contentOf}
 use Rattle.response.specs.declared.Answer.{Answer}
 
 -- a stage that leaves the state
@@ -45,40 +47,44 @@ module _ (box : Box) (state : State) (fit : Fit box state) (sizes width : Sizes)
     pub exact-by : (ws : List ℕ) → ws ≡ state .words → length ws ≡ totalWords ports width
     exact-by ws e = ap length e ∙ rw (ep, ew, es) (fit .exact)
 
-    pub stored-words-told : (h : List ℕ) (position : ℕ) (set : Set) → h ≡ setAt (state .words) ports width position set → h ≡ setOf box state position set
+    pub stored-words-are : (h : List ℕ) (position : ℕ) (set : Set) → h ≡ setAt (state .words) ports width position set → h ≡ setOf box state position set
     unfolding setOf
-    stored-words-told h position set e = e ∙ rw (ep, ew, es)
+    stored-words-are h position set e = e ∙ rw (ep, ew, es)
 
 pub port-here : (roll : List ℕ) (ports position : ℕ) → position < portCount roll → ports ≡ portCount roll → position < ports
 port-here roll ports position h e = rw e h
 
-pub ruleset stored-words-laws = (few-by, ports-few, exact-by, stored-words-told, port-here)
+pub ruleset stored-words-laws = (few-by, ports-few, exact-by, stored-words-are, port-here)
 
 -- GET
 module _ (box : Box) (state : State) (fit : Fit box state) (set : Set) (sizes : Sizes) (n : ℕ) (es : sizes ≡ sizesIn box) (en : n ≡ sizeOf sizes set) where
-  pub show-words : (position : ℕ) (held : List ℕ) → position < portsIn box → held ≡ setOf box state position set → length held ≡ wordsFor n
+  pub reply-words : (position : ℕ) (held : List ℕ) → position < portsIn box → held ≡ setOf box state position set → length held ≡ wordsFor n
   unfolding setOf
-  show-words position held here eh =
+  reply-words position held here eh =
       ap length eh ∙ set-length (portsIn box) (widthsIn box) position set here (state .words) (fit .exact) ∙ sizes-of wordsFor (sizesIn box) set ∙ sym (rw (en, es))
 
-  pub show-few : n ≤ 512
-  show-few = rw (en, es) (size-few 512 (sizesIn box) set (fit .few))
+  pub reply-few : n ≤ 512
+  reply-few = rw (en, es) (size-few 512 (sizesIn box) set (fit .few))
 
-pub show-name : (roll nm : List ℕ) (k : ℕ) → k < portCount roll → nm ≡ nameOf roll k → length nm ≤ 16
-show-name roll nm k l e = rw e (omega (arith, name-long roll k l))
+pub reply-name : (roll nm : List ℕ) (k : ℕ) → k < portCount roll → nm ≡ nameOf roll k → length nm ≤ 16
+reply-name roll nm k l e = rw e (omega (arith, name-long roll k l))
 
-pub ruleset show-laws = (show-words, show-few, show-name)
+pub ruleset reply-laws = (reply-words, reply-few, reply-name)
 
-pub get-responds : (box : Box) (state : State) (m : List ℕ) (request : Request) (port : Target) (hd : Heading) (x : ℕ) (nm ns held : List ℕ) (sizes : Sizes) (n : ℕ)
-    (P Q : List ℕ) (r : Answer) → hd ≡ headingOf (request .header) (request .command .reply)
-    → x ≡ indexOf (box .roll) (port .position) → nm ≡ nameOf (box .roll) (port .position) → ns ≡ listOf (box .names) (request .command .set) → sizes ≡ sizesIn box
-    → held ≡ setOf box state (port .position) (request .command .set) → n ≡ sizeOf sizes (request .command .set)
-    → Responds (responseOf Done (request .next) (replyAndAck m (request .header) hd x nm (eqb (port .flags % 2) 1) ns held n)) P Q r
-    → Responds (responseOf Done (request .next) (getBytes box state m request port)) P Q r
+module _ (box : Box) (state : State) (set : Set) (target : Target) where
+  pub content-is : (index : ℕ) (name names words : List ℕ) (sizes : Sizes) (bits : ℕ) → index ≡ indexOf (box .roll) (target .position)
+      → name ≡ nameOf (box .roll) (target .position) → names ≡ listOf (box .names) set → words ≡ setOf box state (target .position) set → sizes ≡ sizesIn box
+      → bits ≡ sizeOf sizes set → contentOf index name (eqb (target .flags % 2) 1) names words bits ≡ contentIn box state set target
+  unfolding contentIn
+  content-is index name names words sizes bits ei en el ew es eb = let size : bits ≡ sizeOf (sizesIn box) set = eb ∙ rw es in rw (ei, en, el, ew, size)
+
+pub get-responds : (box : Box) (state : State) (m : List ℕ) (request : Request) (target : Target) (content : Content) (P Q : List ℕ) (r : Answer)
+    → content ≡ contentIn box state (request .command .set) target → Responds (responseOf Done (request .next) (replyAndAck m request content)) P Q r
+    → Responds (responseOf Done (request .next) (getBytes box state m request target)) P Q r
 unfolding getBytes
-get-responds box state m request port hd x nm ns held sizes n P Q r ehd ex enm ens es eh en s =
-    let bits : n ≡ sizeOf (sizesIn box) (request .command .set) = en ∙ rw es in
-    rw (← ehd, ← ex, ← enm, ← ens, ← eh, ← bits) s
+get-responds box state m request target content P Q r e s = rw (← e) s
+
+pub ruleset get-laws = (content-is, get-responds)
 
 -- SET
 module _ (box : Box) (state : State) (fit : Fit box state) (sizes width : Sizes) (es : sizes ≡ sizesIn box) (ew : width ≡ widthsOf sizes) (set : Set) (w : ℕ)
@@ -94,13 +100,13 @@ module _ (box : Box) (state : State) (fit : Fit box state) (sizes width : Sizes)
         let l = exact-by box state fit sizes width es ew (portsIn box) refl ws e in
         omega arith
 
-    pub change-told : (form : Form) (new : List ℕ)
+    pub change-is : (form : Form) (new : List ℕ)
         → new ≡ splice at (state .words) (wordsOf w (merge (has (take w (form .mask))) (has (take w (form .value))) (has (take w (drop at (state .words))))))
         → stateOf new ≡ changedBy box state position set form
     unfolding changedBy withSet placeIn widthIn setPlace
-    change-told form new e = ap stateOf (e ∙ rw (ea, en, ew, es))
+    change-is form new e = ap stateOf (e ∙ rw (ea, en, ew, es))
 
-pub ruleset change-laws = (few-by, apply-width, apply-room, change-told)
+pub ruleset change-laws = (few-by, apply-width, apply-room, change-is)
 
 -- a decision carried out
 module _ (box : Box) (state : State) (m : List ℕ) (request : Request) (d : Decision) (P Q : List ℕ) (r : Answer) where
@@ -111,12 +117,12 @@ module _ (box : Box) (state : State) (m : List ℕ) (request : Request) (d : Dec
       go : (p : Plan) → p ≡ Pl.Refused why → Performs (planOutcome p (d .form) box state m request) P Q state r
       go p e = rw e (unchanged-performs (errorResponse m (request .next) why) P Q state r s)
 
-  pub carry-get : (port : Target) → d .plan ≡ Pl.Get port → Responds (responseOf Done (request .next) (getBytes box state m request port)) P Q r
+  pub carry-get : (target : Target) → d .plan ≡ Pl.Get target → Responds (responseOf Done (request .next) (getBytes box state m request target)) P Q r
       → Performs (carriedOut box state m request d) P Q state r
   unfolding carriedOut
-  carry-get port q s = go (d .plan) q
+  carry-get target q s = go (d .plan) q
     where
-      go : (p : Plan) → p ≡ Pl.Get port → Performs (planOutcome p (d .form) box state m request) P Q state r
+      go : (p : Plan) → p ≡ Pl.Get target → Performs (planOutcome p (d .form) box state m request) P Q state r
       go p e = rw e (unchanged-performs _ P Q state r s)
 
   pub carry-set : (position nest : ℕ) (new : State) → d .plan ≡ Pl.Set position nest → new ≡ changedBy box state position (request .command .set) (d .form)

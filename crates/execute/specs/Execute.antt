@@ -1,32 +1,24 @@
 -- Document 01, "What a call says back", from the levels on: an admitted command judged level by level, then carried out.
-use Prim.Native.Nat.{ℕ, _≤_, _<_, _%_}
-use mathlib.Core.Path.{_≡_}
+use Prim.Native.Nat.{ℕ, _%_}
 use mathlib.Core.List.{List, _++_}
-use mathlib.Core.Bool.{Bool, true, cond}
-use lib.ListN.{length, take, drop}
+use mathlib.Core.Bool.{cond}
 use lib.Dec.{eqb}
 use Rattle.basics.specs.Put.{splice}
-use Rattle.bits.specs.Set.{has, wordsOf, noneFrom}
-use Rattle.bits.specs.Change.{merge}
+use Rattle.bits.specs.Set.{has, wordsOf}
 use Rattle.netlink_attributes.specs.Attributes.{partOf}
-use Rattle.netlink_headers.specs.declared.headers.MessageHeader.{MessageHeader}
 use Rattle.netlink.specs.declared.walk.Slot.{Slot}
 use Rattle.bitset_form.specs.Bitset.{Reading, effect}
 use Rattle.bitset_form.specs.Bitset.Reading.{refused, accepted}
 use Rattle.bitset.specs.Judge.{bitsetReading}
 use Rattle.roll.specs.Record.{indexOf, nameOf}
-use Rattle.layout.specs.Layout.{AtMost, listOf, sizeOf, totalWords}
+use Rattle.layout.specs.Layout.{listOf, sizeOf}
 use Rattle.layout.specs.declared.Set.{Set}
-use Rattle.boxes.specs.Box.{Box, State, portsIn, sizesIn, widthsIn, placeIn, widthIn, setOf}
-use Rattle.reply.specs.Message.{headingOf, replyBytes}
-use Rattle.reply.specs.declared.message.Heading.{Heading}
+use Rattle.boxes.specs.Box.{Box, State, sizesIn, placeIn, widthIn, setOf}
+use Rattle.reply.specs.Message.{headingOf, Content, replyBytes}
 use Rattle.request.specs.Top.{topOf}
 use Rattle.request.specs.Target.{targetOf}
-use Rattle.bitset_form.specs.declared.Form.{Form}
-use Rattle.decision.specs.declared.Target.{Target}
-use Rattle.decision.specs.declared.Plan.{Plan}
-use Rattle.decision.specs.declared.Plan.the-variants as P
-use Rattle.decision.specs.declared.Decision.{Decision}
+use Rattle.request.specs.declared.target.Target.{Target}
+use Rattle.request.specs.declared.parts.TopParts.{TopParts}
 use Rattle.request.specs.declared.top.Top.{Top}
 use Rattle.request.specs.declared.top.Top.the-variants as T
 use Rattle.request.specs.declared.target.TargetRead.{TargetRead}
@@ -35,35 +27,30 @@ use Rattle.response.specs.Answer.{Outcome, responseOf, errorResponse, ackBytes,
 use Rattle.response.specs.declared.Kind.the-variants.{Done}
 use Rattle.execute.specs.declared.Request.{Request}
 
--- what a right box says of its parts
-pub record Fit (box : Box) (state : State) : Type 0 where
-  pub ports : portsIn box ≤ 64
-  pub few : AtMost 512 (sizesIn box)
-  pub exact : length (state .words) ≡ totalWords (portsIn box) (widthsIn box)
-  pub clear : (position : ℕ) → position < portsIn box → (set : Set) → noneFrom (setOf box state position set) (sizeOf (sizesIn box) set) ≡ true
-
 -- the state with new words for a set of the port at a position
 unfoldable pub withSet : Box → State → ℕ → Set → List ℕ → State
 withSet box state position set new = record { words = splice (placeIn box position set) (state .words) new }
 
--- a form applied to that set, word by word
-unfoldable pub changedBy : Box → State → ℕ → Set → Form → State
-changedBy box state position set form =
-    withSet box state position set
-    (wordsOf (widthIn box set)
-    (merge (has (take (widthIn box set) (form .mask))) (has (take (widthIn box set) (form .value)))
-    (has (take (widthIn box set) (drop (placeIn box position set) (state .words))))))
+-- what the reply to a GET is about: a set of the port that is named, compact with header flag 1
+unfoldable pub contentIn : Box → State → Set → Target → Content
+contentIn box state set target =
+    record {
+      index = indexOf (box .roll) (target .position);
+      name = nameOf (box .roll) (target .position);
+      compact = eqb (target .flags % 2) 1;
+      names = listOf (box .names) set;
+      words = setOf box state (target .position) set;
+      bits = sizeOf (sizesIn box) set;
+    }
 
 -- "A done GET writes the reply, then the ACK if asked"
-unfoldable pub replyAndAck : List ℕ → MessageHeader → Heading → ℕ → List ℕ → Bool → List ℕ → List ℕ → ℕ → List ℕ
-replyAndAck message h heading index name compact names words n = replyBytes heading index name compact names words n ++ ackBytes message h
+unfoldable pub replyAndAck : List ℕ → Request → Content → List ℕ
+replyAndAck m request content =
+    replyBytes (headingOf (request .header) (request .command .reply)) content ++ ackBytes m (request .header)
 
--- a done GET: the reply about the port, compact with header flag 1
+-- a done GET
 unfoldable pub getBytes : Box → State → List ℕ → Request → Target → List ℕ
-getBytes box state m request port =
-    replyAndAck m (request .header) (headingOf (request .header) (request .command .reply)) (indexOf (box .roll) (port .position)) (nameOf (box .roll) (port .position))
-    (eqb (port .flags % 2) 1) (listOf (box .names) (request .command .set)) (setOf box state (port .position) (request .command .set))
-    (sizeOf (sizesIn box) (request .command .set))
+getBytes box state m request target = replyAndAck m request (contentIn box state (request .command .set) target)
 
 -- "Settings change only in a done SET, and there only in the named set of the named port": that set becomes what the bitset makes of it
 abbrev pub readingOutcome : Reading → Box → State → List ℕ → Request → ℕ → Outcome State
@@ -83,33 +70,24 @@ setOutcome box state m request bitset position =
 
 -- GET or SET
 unfoldable pub portOutcome : Box → State → List ℕ → Request → Slot → Target → Outcome State
-portOutcome box state m request bitset port =
+portOutcome box state m request bitset target =
     cond (request .command .change)
-    (setOutcome box state m request bitset (port .position))
-    (unchanged (responseOf Done (request .next) (getBytes box state m request port)) state)
+    (setOutcome box state m request bitset (target .position))
+    (unchanged (responseOf Done (request .next) (getBytes box state m request target)) state)
 
 -- the header level, then GET or SET
 abbrev pub targetOutcome : TargetRead → State → List ℕ → Request → (Target → Outcome State) → Outcome State
 targetOutcome (A.Refused r) state m request f = unchanged (errorResponse m (request .next) r) state
-targetOutcome (A.Port position flags) state m request f = f (record { position = position; flags = flags })
+targetOutcome (A.Port target) state m request f = f target
 
-unfoldable pub headerOutcome : Box → State → List ℕ → Request → Slot → Slot → Outcome State
-headerOutcome box state m request header bitset = targetOutcome (targetOf m header (box .roll)) state m request (portOutcome box state m request bitset)
+unfoldable pub headerOutcome : Box → State → List ℕ → Request → TopParts → Outcome State
+headerOutcome box state m request parts =
+    targetOutcome (targetOf m (parts .header) (box .roll)) state m request (portOutcome box state m request (parts .bitset))
 
 -- the top level, then the header level
-abbrev pub topOutcome : Top → State → List ℕ → Request → (Slot → Slot → Outcome State) → Outcome State
+abbrev pub topOutcome : Top → State → List ℕ → Request → (TopParts → Outcome State) → Outcome State
 topOutcome (T.Refused r) state m request f = unchanged (errorResponse m (request .next) r) state
-topOutcome (T.Nests header bitset) state m request f = f header bitset
+topOutcome (T.Nests parts) state m request f = f parts
 
 unfoldable pub requestOutcome : Box → State → List ℕ → Request → Outcome State
 requestOutcome box state m request = topOutcome (topOf m (request .command .change)) state m request (headerOutcome box state m request)
-
--- what a decision comes to: "5 to 22 write one error message"; a GET is answered; a SET changes the set by its form and is acknowledged
-abbrev pub planOutcome : Plan → Form → Box → State → List ℕ → Request → Outcome State
-planOutcome (P.Refused why) form box state m request = unchanged (errorResponse m (request .next) why) state
-planOutcome (P.Get port) form box state m request = unchanged (responseOf Done (request .next) (getBytes box state m request port)) state
-planOutcome (P.Set position nest) form box state m request =
-    record { response = responseOf Done (request .next) (ackBytes m (request .header)); state = changedBy box state position (request .command .set) form }
-
-unfoldable pub carriedOut : Box → State → List ℕ → Request → Decision → Outcome State
-carriedOut box state m request d = planOutcome (d .plan) (d .form) box state m request

@@ -1,1 +1,3 @@
 pub mod Execute
+pub mod Fit
+pub mod CarriedOut

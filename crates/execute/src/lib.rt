@@ -1,5 +1,5 @@
 // A command that is admitted: decided by value, then carried out.
-pub mod show;
+pub mod get_reply;
 
 ghost use mathlib.Core.Path.{_≡_};
 ghost use Prim.Native.Nat.{_≤_, _<_};
@@ -9,16 +9,17 @@ ghost use Rattle.roll.specs.Table.{Tabled};
 ghost use Rattle.boxes.specs.Box.{boxOf, stateOf, setOf};
 ghost use Rattle.response.specs.Answer.{Responds, Performs, responseOf};
 ghost use Rattle.response.specs.declared.Kind.the-variants.{Done};
-ghost use Rattle.decision.specs.Decision.{PortIn};
-ghost use Rattle.execute.specs.Execute.{Fit, changedBy, getBytes, requestOutcome, carriedOut};
-use crate::show::show;
+ghost use Rattle.decision.specs.PortIn.{PortIn};
+ghost use Rattle.execute.specs.Execute.{getBytes, requestOutcome};
+ghost use Rattle.execute.specs.CarriedOut.{changedBy, carriedOut};
+ghost use Rattle.execute.specs.Fit.{Fit};
+use crate::get_reply::put_get_reply;
 use admission::commands::Command;
 use bitset_form::Form;
 use boxes::lists::sizes;
 use boxes::settings::set_at;
 use decision::Decision;
 use decision::Plan;
-use decision::Target;
 use decision::decide;
 use layout::Set;
 use layout::change::apply;
@@ -27,10 +28,11 @@ use layout::set_place;
 use layout::size_of;
 use layout::widths;
 use netlink_headers::headers::MessageHeader;
-use reply::message::heading_of;
+use request::target::Target;
 use response::Answer;
 use response::acknowledge;
 use response::refuse;
+use roll::table::PORTS;
 use roll::table::index_of;
 use roll::table::name_of;
 
@@ -40,9 +42,6 @@ pub struct Request {
     pub next: usize,
     pub command: Command,
 }
-
-// The most ports of a box: where a set lies does not depend on how many ports follow.
-const PORTS: usize = 64;
 
 // The words of a set of the port at a position.
 fn stored_words<'s>(
@@ -73,31 +72,28 @@ fn get<'a>(
     flags: &'a [u8],
     m: &[u8],
     request: Request,
-    port: Target,
+    target: Target,
 ) -> Answer
-    requires { ⌜ (32768 ≤ length (now page)) × (16 ≤ length (now m)) × (port .position < portCount (now roll)) ⌝ }
+    requires { ⌜ (32768 ≤ length (now page)) × (16 ≤ length (now m)) × (target .position < portCount (now roll)) ⌝ }
     requires { ⌜ Tabled (now roll) (now ports) ⌝ }
     requires { ⌜ Fit (boxOf (now roll) (now debug) (now flags)) (stateOf (now settings)) ⌝ }
-    ensures { λ r. ⌜ Responds (responseOf Done (request .next) (getBytes (boxOf (now (roll .entry)) (now (debug .entry)) (now (flags .entry))) (stateOf (now (settings .entry))) (now (m .entry)) request port)) (now (page .entry)) (now (page .exit)) r ⌝ }
+    ensures { λ r. ⌜ Responds (responseOf Done (request .next) (getBytes (boxOf (now (roll .entry)) (now (debug .entry)) (now (flags .entry))) (stateOf (now (settings .entry))) (now (m .entry)) request target)) (now (page .entry)) (now (page .exit)) r ⌝ }
 {
-    let position = port.position;
+    let position = target.position;
     let index = index_of(roll, ports, position);
     let name = name_of(roll, ports, position);
-    let h = request.header;
     let command = request.command;
     let set = command.set;
     let words = stored_words(settings, roll, ports, debug, flags, position, set);
     let n = size_of(sizes(debug, flags), set);
     let names = names_of(set, debug, flags);
-    show(
+    put_get_reply(
         page,
         m,
-        h,
-        request.next,
-        heading_of(h, command.reply),
+        request,
         index,
         name,
-        port.flags % 2 == 1,
+        target.flags % 2 == 1,
         names,
         words,
         n,
@@ -119,6 +115,7 @@ fn change(
     ensures { λ _. ⌜ stateOf (now (settings .exit)) ≡ changedBy (boxOf (now (roll .entry)) (now (debug .entry)) (now (flags .entry))) (stateOf (now (settings .entry))) position set form ⌝ }
 {
     let width = widths(sizes(debug, flags));
+    // Where a set lies does not depend on how many ports follow.
     let at = set_place(PORTS, width, position, set);
     let w = size_of(width, set);
     let mask = form.mask;
@@ -148,8 +145,18 @@ fn carry_out<'a>(
         Plan::Refused(why) => {
             return refuse(page, m, why, request.next);
         }
-        Plan::Get(port) => {
-            return get(page, settings, roll, ports, debug, flags, m, request, port);
+        Plan::Get(target) => {
+            return get(
+                page,
+                settings,
+                roll,
+                ports,
+                debug,
+                flags,
+                m,
+                request,
+                target,
+            );
         }
         Plan::Set {
             position,

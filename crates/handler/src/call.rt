@@ -6,7 +6,7 @@ ghost use Rattle.roll.specs.Table.{Tabled};
 ghost use Rattle.response.specs.Answer.{Performs};
 ghost use Rattle.response.specs.declared.Kind.the-variants.{Refused};
 ghost use Rattle.boxes.specs.Box.{boxOf, stateOf};
-ghost use Rattle.execute.specs.Execute.{Fit};
+ghost use Rattle.execute.specs.Fit.{Fit};
 ghost use Rattle.handler.specs.Call.{onAdmission, positionOutcome, outcome};
 use admission::Admission;
 use admission::admit;

@@ -12,7 +12,8 @@ use Rattle.bits.specs.Set.{wordsFor}
 use Rattle.layout.specs.declared.Set.{Set}
 use Rattle.layout.specs.declared.Set.the-variants.{Debug, Flags}
 use Rattle.layout.specs.declared.Sizes.{Sizes}
-use Rattle.layout.specs.Layout.{Names, namesOf, listOf, sizeOf, ofLists, ofSizes, widthsOf, AtMost, everySet, portWords, firstOf, totalWords, setPlace, setAt}
+use Rattle.layout.specs.Layout.{Names, namesOf, listOf, sizeOf, ofLists, ofSizes, widthsOf, everySet, portWords, firstOf, totalWords, setPlace, setAt}
+use Rattle.layout.specs.AtMost.{AtMost}
 
 -- the set's own
 module _ (set : Set) (debug flags : List ℕ) where

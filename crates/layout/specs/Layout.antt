@@ -1,6 +1,6 @@
 -- Where a set lies (document 01, "Port settings are lent as 32-bit words: for each port in roll order its debug set, then its flags").
 -- No other definition says so.
-use Prim.Native.Nat.{ℕ, _+_, _*_, _≤_}
+use Prim.Native.Nat.{ℕ, _+_, _*_}
 use mathlib.Core.List.{List}
 use mathlib.Core.Bool.{Bool, _&&_}
 use lib.ListN.{take, drop}
@@ -40,11 +40,6 @@ ofSizes f sizes = record { debug = f (sizes .debug); flags = f (sizes .flags) }
 -- the words that sets of these sizes take
 abbrev pub widthsOf : Sizes → Sizes
 widthsOf sizes = ofSizes wordsFor sizes
-
--- no number is larger
-pub record AtMost (most : ℕ) (sizes : Sizes) : Type 0 where
-  pub debug : sizes .debug ≤ most
-  pub flags : sizes .flags ≤ most
 
 -- the words of one port, and the first of a set among them
 unfoldable pub portWords : Sizes → ℕ

@@ -1,7 +1,8 @@
 // Where the sets of the ports lie in the settings: for each port in roll order its debug set, then its flags.
 ghost use mathlib.Core.Path.{_≡_};
 ghost use Prim.Native.Nat.{_≤_, _<_};
-ghost use Rattle.layout.specs.Layout.{namesOf, listOf, sizeOf, widthsOf, AtMost, portWords, firstOf, totalWords as wordsOf, setPlace as placeOf};
+ghost use Rattle.layout.specs.Layout.{namesOf, listOf, sizeOf, widthsOf, portWords, firstOf, totalWords as wordsOf, setPlace as placeOf};
+ghost use Rattle.layout.specs.AtMost.{AtMost};
 
 pub mod change;
 

@@ -19,7 +19,7 @@ use Rattle.index_name.specs.IndexName.{indexAndName, indexNest}
 use Rattle.netlink_write.proofs.ReadBack.{attributes-end}
 use Rattle.netlink_write.proofs.attributes.Laws.{length-nest}
 use Rattle.bitset_reply.specs.Set.{contentsBytes, setBytes}
-use Rattle.reply.specs.Message.{headersBytes, attributesBytes, replyBytes}
+use Rattle.reply.specs.Message.{headersBytes, contentOf, attributesBytes, replyBytes}
 use Rattle.read_back.specs.Claims.{ReadsBack}
 use Rattle.reply.specs.declared.message.Heading.{Heading}
 use Rattle.read_back.proofs.Places.{part-all, upTo, nest-at, contents-at, cut-at}
@@ -33,17 +33,17 @@ use Rattle.reply.proofs.message.Lengths.{length-parts}
 module _ (h : Heading) (index : ℕ) (name : List ℕ) (compact : Bool) (names words : List ℕ) (n : ℕ)
     (right : namesRight names ≡ true) (en : count names ≡ n) (ew : length words ≡ wordsFor n) where
   reply : List ℕ
-  reply = replyBytes h index name compact names words n
+  reply = replyBytes h (contentOf index name compact names words n)
 
   contents : List ℕ
   contents = contentsBytes compact names words n
 
   headers : List ℕ
-  headers = headersBytes h (length (attributesBytes index name compact names words n) + 20)
+  headers = headersBytes h (length (attributesBytes (contentOf index name compact names words n)) + 20)
 
   long : length headers ≡ 20
   unfolding headers
-  long = length-headers h (length (attributesBytes index name compact names words n) + 20)
+  long = length-headers h (length (attributesBytes (contentOf index name compact names words n)) + 20)
 
   port-in : reply ≡ headers ++ (indexNest 1 index name ++ nest 2 contents)
   unfolding reply headers contents replyBytes attributesBytes setBytes
@@ -59,12 +59,12 @@ module _ (h : Heading) (index : ℕ) (name : List ℕ) (compact : Bool) (names w
 
   total : length reply ≡ length contents + length (indexNest 1 index name) + 24
   unfolding reply contents
-  total = length-parts h index name compact names words n
+  total = length-parts h (contentOf index name compact names words n)
 
   -- its attributes: the port's nest, then the set's, which ends the message
-  pub reply-attributes : nulAt name < 16 → attributes (replyBytes h index name compact names words n) 20
+  pub reply-attributes : nulAt name < 16 → attributes (replyBytes h (contentOf index name compact names words n)) 20
       ≡ attribute 1 2 24 (20 + length (indexNest 1 index name))
-      (attribute 2 2 (24 + length (indexNest 1 index name)) (length (replyBytes h index name compact names words n)) done)
+      (attribute 2 2 (24 + length (indexNest 1 index name)) (length (replyBytes h (contentOf index name compact names words n))) done)
   unfolding reply contents indexNest
   reply-attributes port =
       let few : n ≤ 512 = rw en at (right-means names right .few) in
@@ -81,7 +81,7 @@ module _ (h : Heading) (index : ℕ) (name : List ℕ) (compact : Bool) (names w
 
   -- the set
   pub reply-back : Small words → Below n (has words)
-      → ReadsBack (replyBytes h index name compact names words n) (24 + length (indexNest 1 index name)) names (has words)
+      → ReadsBack (replyBytes h (contentOf index name compact names words n)) (24 + length (indexNest 1 index name)) names (has words)
   unfolding reply contents
   reply-back small below =
       let pre = headers ++ indexNest 1 index name in

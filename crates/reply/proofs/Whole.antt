@@ -9,7 +9,7 @@ use Rattle.netlink_write.specs.Headers.{messageHeaderBytes, genericHeaderBytes,
 use Rattle.netlink_write.specs.Attributes.{padding, attr, nest, nameBytes}
 use Rattle.index_name.specs.IndexName.{nameIfAny, indexAndName, indexNest}
 use Rattle.bitset_reply.specs.Set.{openingBytes, compactBytes, contentsBytes, setBytes}
-use Rattle.reply.specs.Message.{headersBytes, attributesBytes, replyBytes}
+use Rattle.reply.specs.Message.{headersBytes, contentOf, attributesBytes, replyBytes}
 use Rattle.reply.specs.declared.message.Heading.{Heading}
 
 -- family 25, sequence 7, port id 9, to PRIVFLAGS_GET
@@ -30,6 +30,6 @@ wholeReply =
     ∷ 0x02 ∷ 0x00 ∷ 0x00 ∷ 0x00 ∷ []
 
 -- port 3, N 40, bits 0 and 33, compact; no name of a bit stands in it
-pub whole-reply : (names : List ℕ) → replyBytes heading 3 sw0 true names (1 ∷ 2 ∷ []) 40 ≡ wholeReply
+pub whole-reply : (names : List ℕ) → replyBytes heading (contentOf 3 sw0 true names (1 ∷ 2 ∷ []) 40) ≡ wholeReply
 unfolding replyBytes headersBytes attributesBytes setBytes contentsBytes compactBytes openingBytes indexNest indexAndName nameIfAny nameBytes nest attr padding messageHeaderBytes genericHeaderBytes attributeHeaderBytes nulAt bytesOf
 whole-reply names = refl

@@ -26,11 +26,25 @@ replyGenericHeader h = record { command = h .command; version = 1; reserved = 0 
 unfoldable pub headersBytes : Heading → ℕ → List ℕ
 headersBytes h total = messageHeaderBytes (replyMessageHeader h total) ++ genericHeaderBytes (replyGenericHeader h)
 
+-- what a reply is about: the port's index and name, and its set: the words, how many bits, their names, and whether it goes out compact
+pub record Content : Type 0 where
+  pub index : ℕ
+  pub name : List ℕ
+  pub compact : Bool
+  pub names : List ℕ
+  pub words : List ℕ
+  pub bits : ℕ
+
+abbrev pub contentOf : ℕ → List ℕ → Bool → List ℕ → List ℕ → ℕ → Content
+contentOf index name compact names words bits =
+    record { index = index; name = name; compact = compact; names = names; words = words; bits = bits }
+
 -- attributes 1 and 2
-unfoldable pub attributesBytes : ℕ → List ℕ → Bool → List ℕ → List ℕ → ℕ → List ℕ
-attributesBytes index name compact names words n = indexNest 1 index name ++ setBytes compact names words n
+unfoldable pub attributesBytes : Content → List ℕ
+attributesBytes content =
+    indexNest 1 (content .index) (content .name)
+    ++ setBytes (content .compact) (content .names) (content .words) (content .bits)
 
 -- the reply, whose length counts all of it
-unfoldable pub replyBytes : Heading → ℕ → List ℕ → Bool → List ℕ → List ℕ → ℕ → List ℕ
-replyBytes h index name compact names words n =
-    headersBytes h (length (attributesBytes index name compact names words n) + 20) ++ attributesBytes index name compact names words n
+unfoldable pub replyBytes : Heading → Content → List ℕ
+replyBytes h content = headersBytes h (length (attributesBytes content) + 20) ++ attributesBytes content

@@ -5,7 +5,7 @@ ghost use lib.ListN.{length};
 ghost use Rattle.basics.specs.Put.{put};
 ghost use Rattle.bits.specs.Set.{wordsFor};
 ghost use Rattle.page.specs.Page.{Wrote};
-ghost use Rattle.reply.specs.Message.{headingOf, headersBytes, attributesBytes, replyBytes};
+ghost use Rattle.reply.specs.Message.{headingOf, headersBytes, contentOf, attributesBytes, replyBytes};
 use bitset_reply::set::put_set;
 use index_name::put_index_nest;
 use netlink_headers::headers::GenericHeader;
@@ -80,7 +80,7 @@ fn put_attributes(
     n: usize,
 ) -> usize
     requires { ⌜ (length (now name) ≤ 16) × (length (now words) ≡ wordsFor n) × (n ≤ 512) × (26680 ≤ length (now page)) ⌝ }
-    ensures { λ r. ⌜ Wrote (attributesBytes index (now (name .entry)) compact (now (names .entry)) (now (words .entry)) n) (now (page .entry)) (now (page .exit)) r ⌝ }
+    ensures { λ r. ⌜ Wrote (attributesBytes (contentOf index (now (name .entry)) compact (now (names .entry)) (now (words .entry)) n)) (now (page .entry)) (now (page .exit)) r ⌝ }
     ensures { λ r. ⌜ r ≤ 26680 ⌝ }
 {
     let port = put_index_nest(page, HEADER, index, name);
@@ -100,7 +100,7 @@ pub fn put_reply(
     n: usize,
 ) -> usize
     requires { ⌜ (length (now name) ≤ 16) × (length (now words) ≡ wordsFor n) × (n ≤ 512) × (26700 ≤ length (now page)) ⌝ }
-    ensures { λ r. ⌜ Wrote (replyBytes h index (now (name .entry)) compact (now (names .entry)) (now (words .entry)) n) (now (page .entry)) (now (page .exit)) r ⌝ }
+    ensures { λ r. ⌜ Wrote (replyBytes h (contentOf index (now (name .entry)) compact (now (names .entry)) (now (words .entry)) n)) (now (page .entry)) (now (page .exit)) r ⌝ }
     ensures { λ r. ⌜ r ≤ 26700 ⌝ }
 {
     let attributes = put_attributes(&mut page[20..], index, name, compact, names, words, n);

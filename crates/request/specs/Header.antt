@@ -2,33 +2,30 @@
 use Prim.Native.Nat.{ℕ, _-_}
 use mathlib.Core.List.{List}
 use mathlib.Core.Bool.{_||_, not, cond}
-use lib.ListN.{getD}
 use lib.Dec.{ltb}
 use Rattle.netlink_attributes.specs.Attributes.{partOf}
-use Rattle.netlink.specs.Walk.{absent, walked, slotNumber}
+use Rattle.netlink.specs.Walk.{walked, slotNumber}
 use Rattle.netlink.specs.declared.walk.Slot.{Slot}
+use Rattle.refusal.specs.Refusal.{onWalk}
 use Rattle.refusal.specs.declared.Refusal.the-variants.{NoPort, HeaderFlag}
 use Rattle.request.specs.Policies.{headerPolicy}
-use Rattle.refusal.specs.Refusal.{onStop}
+use Rattle.request.specs.Parts.{headerParts}
+use Rattle.request.specs.declared.parts.HeaderParts.{HeaderParts}
 use Rattle.request.specs.declared.header.Header.{Header}
 use Rattle.request.specs.declared.header.Header.the-variants.{Parts, Refused}
 
 -- 15, "header flag other than 1, 2": the flags are a bit map, and absent ones are 0
-unfoldable pub flagsJudged : List ℕ → Slot → Slot → Slot → Header
-flagsJudged m index name flags =
-    cond (ltb 3 (slotNumber m flags)) (Refused (HeaderFlag (flags .start - 4)))
-    (Parts index name (slotNumber m flags))
+unfoldable pub flagsJudged : List ℕ → HeaderParts → Header
+flagsJudged m parts =
+    cond (ltb 3 (slotNumber m (parts .flags))) (Refused (HeaderFlag (parts .flags .start - 4)))
+    (Parts parts (slotNumber m (parts .flags)))
 
 -- 14, "neither index nor name of a port", of the nest at a place; then 15
-unfoldable pub partsOf : List ℕ → ℕ → Slot → Slot → Slot → Header
-partsOf m nest index name flags =
-    cond (not (index .present || name .present)) (Refused (NoPort nest)) (flagsJudged m index name flags)
+unfoldable pub partsOf : List ℕ → ℕ → HeaderParts → Header
+partsOf m nest parts = cond (not (parts .index .present || parts .name .present)) (Refused (NoPort nest)) (flagsJudged m parts)
 
 -- the header nest, walked whole in the message m cut at the nest's end: every place counts from the start of m
 unfoldable pub headerOf : List ℕ → Slot → Header
 headerOf m header =
-    onStop (walked headerPolicy (partOf m 0 (header .end)) (header .start) .stop) Refused
-    (partsOf m (header .start - 4)
-    (getD (walked headerPolicy (partOf m 0 (header .end)) (header .start) .slots) 1 absent)
-    (getD (walked headerPolicy (partOf m 0 (header .end)) (header .start) .slots) 2 absent)
-    (getD (walked headerPolicy (partOf m 0 (header .end)) (header .start) .slots) 3 absent))
+    onWalk (walked headerPolicy (partOf m 0 (header .end)) (header .start)) Refused
+    (λ slots. partsOf m (header .start - 4) (headerParts slots))

@@ -1,4 +1,5 @@
 pub mod Policies
+pub mod Parts
 pub mod Top
 pub mod Header
 pub mod Port

@@ -11,6 +11,7 @@ use Rattle.roll.specs.Name.{holdsName}
 use Rattle.roll.specs.Record.{nameOf}
 use Rattle.roll.specs.declared.find.Found.{Found}
 use Rattle.roll.specs.declared.find.Found.the-variants as F
+use Rattle.request.specs.declared.parts.HeaderParts.{HeaderParts}
 use Rattle.request.specs.declared.port.PortRead.{PortRead}
 use Rattle.request.specs.declared.port.PortRead.the-variants.{Port, Refused}
 
@@ -24,15 +25,15 @@ unfoldable pub otherName : List ℕ → Slot → List ℕ → ℕ → Bool
 otherName m name roll position = name .present && not (holdsName (nameOf roll position) (partOf m (name .start) (name .end)))
 
 -- by index: 16 at the index; "index found, name differs", 17 at the header nest
-unfoldable pub portByIndex : List ℕ → Slot → Slot → Slot → List ℕ → PortRead
-portByIndex m header index name roll =
-    onFound (foundByIndex roll (slotNumber m index)) (Refused (UnknownPort (index .start - 4)))
-    (λ k. cond (otherName m name roll k) (Refused (OtherName (header .start - 4))) (Port k))
+unfoldable pub portByIndex : List ℕ → Slot → HeaderParts → List ℕ → PortRead
+portByIndex m header parts roll =
+    onFound (foundByIndex roll (slotNumber m (parts .index))) (Refused (UnknownPort (parts .index .start - 4)))
+    (λ k. cond (otherName m (parts .name) roll k) (Refused (OtherName (header .start - 4))) (Port k))
 
 -- by name: 16 at the name
 unfoldable pub portByName : List ℕ → Slot → List ℕ → PortRead
 portByName m name roll = onFound (foundByName roll (partOf m (name .start) (name .end))) (Refused (UnknownPort (name .start - 4))) Port
 
 -- "by index if given, else by name"
-unfoldable pub portOf : List ℕ → Slot → Slot → Slot → List ℕ → PortRead
-portOf m header index name roll = cond (index .present) (portByIndex m header index name roll) (portByName m name roll)
+unfoldable pub portOf : List ℕ → Slot → HeaderParts → List ℕ → PortRead
+portOf m header parts roll = cond (parts .index .present) (portByIndex m header parts roll) (portByName m (parts .name) roll)

@@ -4,6 +4,7 @@ use mathlib.Core.List.{List}
 use Rattle.netlink.specs.declared.walk.Slot.{Slot}
 use Rattle.request.specs.Header.{headerOf}
 use Rattle.request.specs.Port.{portOf}
+use Rattle.request.specs.declared.parts.HeaderParts.{HeaderParts}
 use Rattle.request.specs.declared.header.Header.{Header}
 use Rattle.request.specs.declared.header.Header.the-variants as H
 use Rattle.request.specs.declared.port.PortRead.{PortRead}
@@ -14,13 +15,13 @@ use Rattle.request.specs.declared.target.TargetRead.the-variants.{Port, 
 -- a port with the header's flags, or 16 or 17
 unfoldable pub withFlags : PortRead → ℕ → TargetRead
 withFlags (T.Refused why) flags = Refused why
-withFlags (T.Port position) flags = Port position flags
+withFlags (T.Port position) flags = Port (record { position = position; flags = flags })
 
 -- a refusal of the header level, or what its parts come to
-abbrev pub onHeader : Header → (Slot → Slot → ℕ → TargetRead) → TargetRead
+abbrev pub onHeader : Header → (HeaderParts → ℕ → TargetRead) → TargetRead
 onHeader (H.Refused why) rest = Refused why
-onHeader (H.Parts index name flags) rest = rest index name flags
+onHeader (H.Parts parts flags) rest = rest parts flags
 
 -- the port that the header nest of the message m names
 unfoldable pub targetOf : List ℕ → Slot → List ℕ → TargetRead
-targetOf m header roll = onHeader (headerOf m header) (λ index name flags. withFlags (portOf m header index name roll) flags)
+targetOf m header roll = onHeader (headerOf m header) (λ parts flags. withFlags (portOf m header parts roll) flags)

@@ -2,9 +2,8 @@
 ghost use mathlib.Core.Path.{_≡_};
 ghost use mathlib.Core.Bool.{_||_};
 ghost use Rattle.request.specs.Header.{flagsJudged, partsOf, headerOf};
-use crate::policies::FLAGS;
-use crate::policies::INDEX;
-use crate::policies::NAME;
+use crate::parts::HeaderParts;
+use crate::parts::header_parts;
 use crate::policies::header_policy;
 use netlink::walk::Slot;
 use netlink::walk::Stop;
@@ -19,44 +18,41 @@ use refusal::of_fault;
 const KNOWN_FLAGS: u32 = 3;
 
 pub enum Header {
-    // Flags are 0 where the attribute is absent.
-    Parts { index: Slot, name: Slot, flags: u32 },
+    // The flags as a number, 0 where the attribute is absent.
+    Parts { parts: HeaderParts, flags: u32 },
     Refused(Refusal),
 }
 
 // Whether a port is given, by index or by name.
-fn gives_port(index: Slot, name: Slot) -> bool
-    ensures { λ r. ⌜ r ≡ (index .present || name .present) ⌝ }
+fn gives_port(parts: HeaderParts) -> bool
+    ensures { λ r. ⌜ r ≡ (parts .index .present || parts .name .present) ⌝ }
 {
-    if index.present {
+    if parts.index.present {
         return true;
     }
-    name.present
+    parts.name.present
 }
 
 // Judges the flags.
-fn judge_flags(message: &[u8], index: Slot, name: Slot, flags: Slot) -> Header
-    ensures { λ r. ⌜ r ≡ flagsJudged (now (message .entry)) index name flags ⌝ }
+fn judge_flags(message: &[u8], parts: HeaderParts) -> Header
+    ensures { λ r. ⌜ r ≡ flagsJudged (now (message .entry)) parts ⌝ }
 {
-    let number = slot_number(message, flags);
-    if KNOWN_FLAGS < number {
-        return Header::Refused(Refusal::HeaderFlag(place(flags.start)));
+    let slot = parts.flags;
+    let flags = slot_number(message, slot);
+    if KNOWN_FLAGS < flags {
+        return Header::Refused(Refusal::HeaderFlag(place(slot.start)));
     }
-    Header::Parts {
-        index,
-        name,
-        flags: number,
-    }
+    Header::Parts { parts, flags }
 }
 
 // Judges the parts of the header nest at a place.
-fn judge_header_parts(message: &[u8], nest: usize, index: Slot, name: Slot, flags: Slot) -> Header
-    ensures { λ r. ⌜ r ≡ partsOf (now (message .entry)) nest index name flags ⌝ }
+fn judge_header_parts(message: &[u8], nest: usize, parts: HeaderParts) -> Header
+    ensures { λ r. ⌜ r ≡ partsOf (now (message .entry)) nest parts ⌝ }
 {
-    if !gives_port(index, name) {
+    if !gives_port(parts) {
         return Header::Refused(Refusal::NoPort(nest));
     }
-    judge_flags(message, index, name, flags)
+    judge_flags(message, parts)
 }
 
 // Walks the header nest whole, in the message cut at the nest's end, then judges its parts.
@@ -70,8 +66,6 @@ pub fn read_header(message: &[u8], header: Slot) -> Header
     if let Stop::At { fault, at } = stop {
         return Header::Refused(of_fault(fault, at));
     }
-    let index = walked.slots[INDEX];
-    let name = walked.slots[NAME];
-    let flags = walked.slots[FLAGS];
-    judge_header_parts(message, place(start), index, name, flags)
+    let slots = walked.slots;
+    judge_header_parts(message, place(start), header_parts(slots))
 }

@@ -4,6 +4,7 @@ ghost use lib.ListN.{length};
 ghost use Prim.Native.Nat.{_<_};
 ghost use Rattle.roll.specs.Table.{Tabled};
 ghost use Rattle.request.specs.Port.{otherName, portByIndex, portByName, portOf};
+use crate::parts::HeaderParts;
 use netlink::walk::Slot;
 use netlink::walk::slot_number;
 use netlink_attributes::payload;
@@ -39,14 +40,15 @@ fn other_name(message: &[u8], name: Slot, roll: &[u8], ports: &[u64], position: 
 fn port_by_index(
     message: &[u8],
     header: Slot,
-    index: Slot,
-    name: Slot,
+    parts: HeaderParts,
     roll: &[u8],
     ports: &[u64],
 ) -> PortRead
     requires { ⌜ Tabled (now roll) (now ports) ⌝ }
-    ensures { λ r. ⌜ r ≡ portByIndex (now (message .entry)) header index name (now (roll .entry)) ⌝ }
+    ensures { λ r. ⌜ r ≡ portByIndex (now (message .entry)) header parts (now (roll .entry)) ⌝ }
 {
+    let index = parts.index;
+    let name = parts.name;
     match port_of_index(roll, ports, slot_number(message, index)) {
         Found::Nothing => {
             return PortRead::Refused(Refusal::UnknownPort(place(index.start)));
@@ -81,16 +83,16 @@ fn port_by_name(message: &[u8], name: Slot, roll: &[u8], ports: &[u64]) -> PortR
 pub fn find_port(
     message: &[u8],
     header: Slot,
-    index: Slot,
-    name: Slot,
+    parts: HeaderParts,
     roll: &[u8],
     ports: &[u64],
 ) -> PortRead
     requires { ⌜ Tabled (now roll) (now ports) ⌝ }
-    ensures { λ r. ⌜ r ≡ portOf (now (message .entry)) header index name (now (roll .entry)) ⌝ }
+    ensures { λ r. ⌜ r ≡ portOf (now (message .entry)) header parts (now (roll .entry)) ⌝ }
 {
-    if index.present {
-        return port_by_index(message, header, index, name, roll, ports);
+    if parts.index.present {
+        return port_by_index(message, header, parts, roll, ports);
     }
+    let name = parts.name;
     port_by_name(message, name, roll, ports)
 }

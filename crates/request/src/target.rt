@@ -9,18 +9,23 @@ use crate::port::find_port;
 use netlink::walk::Slot;
 use refusal::Refusal;
 
+// The port that a request names: its position in the roll, and the flags of the request's header.
+pub struct Target {
+    pub position: usize,
+    pub flags: u32,
+}
+
 pub enum TargetRead {
-    // Which port it is, and the header's flags.
-    Port { position: usize, flags: u32 },
+    Port(Target),
     Refused(Refusal),
 }
 
-fn with_flags(target: PortRead, flags: u32) -> TargetRead
-    ensures { λ r. ⌜ r ≡ withFlags target flags ⌝ }
+fn with_flags(port: PortRead, flags: u32) -> TargetRead
+    ensures { λ r. ⌜ r ≡ withFlags port flags ⌝ }
 {
-    match target {
+    match port {
         PortRead::Refused(why) => TargetRead::Refused(why),
-        PortRead::Port(position) => TargetRead::Port { position, flags },
+        PortRead::Port(position) => TargetRead::Port(Target { position, flags }),
     }
 }
 
@@ -31,8 +36,8 @@ pub fn read_target(message: &[u8], header: Slot, roll: &[u8], ports: &[u64]) -> 
 {
     match read_header(message, header) {
         Header::Refused(why) => TargetRead::Refused(why),
-        Header::Parts { index, name, flags } => {
-            with_flags(find_port(message, header, index, name, roll, ports), flags)
+        Header::Parts { parts, flags } => {
+            with_flags(find_port(message, header, parts, roll, ports), flags)
         }
     }
 }

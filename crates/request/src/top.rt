@@ -1,10 +1,11 @@
 // The top level of a request: refusals 10 to 13.
 ghost use mathlib.Core.Path.{_≡_};
 ghost use Rattle.request.specs.Top.{nestsOf, topOf};
+use crate::parts::TopParts;
+use crate::parts::top_parts;
 use crate::policies::BITSET;
 use crate::policies::HEADER;
 use crate::policies::top_policy;
-use netlink::walk::Slot;
 use netlink::walk::Stop;
 use netlink::walk::walk;
 use netlink_headers::headers::GenericHeader;
@@ -14,23 +15,23 @@ use refusal::of_fault;
 
 pub enum Top {
     // The bitset is absent in a GET.
-    Nests { header: Slot, bitset: Slot },
+    Nests(TopParts),
     Refused(Refusal),
 }
 
 // Judges what the top level lacks: the header, then in a SET the bitset.
-fn judge_nests(change: bool, header: Slot, bitset: Slot) -> Top
-    ensures { λ r. ⌜ r ≡ nestsOf change header bitset ⌝ }
+fn judge_nests(change: bool, parts: TopParts) -> Top
+    ensures { λ r. ⌜ r ≡ nestsOf change parts ⌝ }
 {
-    if !header.present {
+    if !parts.header.present {
         return Top::Refused(Refusal::MissingTop(HEADER));
     }
     if change {
-        if !bitset.present {
+        if !parts.bitset.present {
             return Top::Refused(Refusal::MissingTop(BITSET));
         }
     }
-    Top::Nests { header, bitset }
+    Top::Nests(parts)
 }
 
 // Walks the top level of a message whole, then judges what it lacks.
@@ -46,7 +47,6 @@ pub fn read_top(message: &[u8], change: bool) -> Top
     if let Stop::At { fault, at } = stop {
         return Top::Refused(of_fault(fault, at));
     }
-    let header = walked.slots[HEADER];
-    let bitset = walked.slots[BITSET];
-    judge_nests(change, header, bitset)
+    let slots = walked.slots;
+    judge_nests(change, top_parts(slots))
 }

@@ -15,7 +15,7 @@ use Rattle.response.specs.Answer.{responseOf, errorResponse, ackBytes, R
 use Rattle.response.specs.declared.Kind.{Kind}
 use Rattle.response.specs.declared.Kind.the-variants.{Refused}
 
--- bytes that were written are said
+-- the response whose bytes were written
 pub wrote-responds : (k : Kind) (next : ℕ) (bs P Q : List ℕ) (w : ℕ) → Wrote bs P Q w → Responds (responseOf k next bs) P Q (record { kind = k; next = next; written = w })
 wrote-responds k next bs P Q w h = record { result = ap (λ (n : ℕ). record { kind = k; next = next; written = n }) (h .count); page = h .page }
 

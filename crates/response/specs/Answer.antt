@@ -29,13 +29,13 @@ refusalNumber Skipped = 0
 refusalNumber Done = 0
 refusalNumber (Refused r) = numberOf r
 
--- what is said: the kind, the next position and the bytes; the count is their length
+-- the kind, the next position and the bytes; the count is their length
 pub record Response : Type 0 where
   pub kind : Kind
   pub next : ℕ
   pub bytes : List ℕ
 
--- what is said, and the state after it
+-- the response, and the state after it
 pub record Outcome (S : Type 0) : Type 0 where
   pub response : Response
   pub state : S
@@ -51,11 +51,11 @@ errorResponse message next r = responseOf (Refused r) next (errorMessage message
 unfoldable pub ackBytes : List ℕ → MessageHeader → List ℕ
 ackBytes message h = cond (eqb (h .flags / 4 % 2) 1) (errorMessage message 0 Nothing) []
 
--- what is said with nothing written
+-- nothing is written
 abbrev pub noBytes : Kind → ℕ → Response
 noBytes kind next = responseOf kind next []
 
--- the state stays
+-- the state is as before
 abbrev pub unchanged : {S : Type 0} → Response → S → Outcome S
 unchanged s state = record { response = s; state = state }
 

@@ -10,7 +10,8 @@ use Rattle.names.specs.Rule.{namesRight}
 use Rattle.names.proofs.Rules as N
 use Rattle.layout.specs.declared.Set.{Set}
 use Rattle.layout.specs.declared.Set.the-variants.{Debug, Flags}
-use Rattle.layout.specs.Layout.{Names, namesOf, listOf, ofLists, AtMost}
+use Rattle.layout.specs.Layout.{Names, namesOf, listOf, ofLists}
+use Rattle.layout.specs.AtMost.{AtMost}
 use Rattle.boxes.specs.Rule.{listsRight}
 
 pub sizes-are : (names : Names) (debug flags : ℕ) → debug ≡ count (names .debug) → flags ≡ count (names .flags)

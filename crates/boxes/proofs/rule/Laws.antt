@@ -10,7 +10,8 @@ use lib.ListN.{length}
 use Rattle.roll_rule.specs.Rule.{rollRight}
 use Rattle.roll_rule.proofs.Laws as R
 use Rattle.layout.specs.declared.Sizes.{Sizes}
-use Rattle.layout.specs.Layout.{Names, ofLists, AtMost}
+use Rattle.layout.specs.Layout.{Names, ofLists}
+use Rattle.layout.specs.AtMost.{AtMost}
 use Rattle.boxes.specs.declared.Call.{Call}
 use Rattle.boxes.specs.Box.{Box, State, portsIn, sizesIn}
 use Rattle.boxes.specs.Settings.{settingsRight}

@@ -9,7 +9,8 @@ use Rattle.names.specs.Rule.{namesRight}
 use Rattle.roll_rule.specs.Rule.{rollRight}
 use Rattle.roll_rule.proofs.Laws as R
 use Rattle.layout.specs.declared.Set.{Set}
-use Rattle.layout.specs.Layout.{listOf, AtMost}
+use Rattle.layout.specs.Layout.{listOf}
+use Rattle.layout.specs.AtMost.{AtMost}
 use Rattle.boxes.specs.declared.Call.{Call}
 use Rattle.boxes.specs.Box.{Box, State, portsIn, sizesIn}
 use Rattle.boxes.specs.Settings.{settingsRight}

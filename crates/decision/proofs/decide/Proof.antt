@@ -15,11 +15,8 @@ without-form-requires c κs = search needs
 returns : tie.Need-returns
 returns c = search (needs, decide-laws)
 
-enum-known-header : tie.Need-enum-known-header
-enum-known-header c = search needs
-
-names-of-requires : tie.Need-names-of-requires
-names-of-requires c κs = search needs
+enum-known-parts : tie.Need-enum-known-parts
+enum-known-parts c = search needs
 
 decide-header-requires : tie.Need-decide-header-requires
 decide-header-requires c κs = search needs
@@ -35,7 +32,6 @@ decide-spec =
     enum-known-why
     without-form-requires
     returns
-    enum-known-header
-    names-of-requires
+    enum-known-parts
     decide-header-requires
     returns-2)

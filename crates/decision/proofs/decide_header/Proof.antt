@@ -15,8 +15,11 @@ without-form-requires c κs = search needs
 returns : tie.Need-returns
 returns c = search (needs, header-laws)
 
-enum-known-position : tie.Need-enum-known-position
-enum-known-position c = search needs
+enum-known-target : tie.Need-enum-known-target
+enum-known-target c = search needs
+
+names-of-requires : tie.Need-names-of-requires
+names-of-requires c κs = search needs
 
 decide-bitset-requires : tie.Need-decide-bitset-requires
 decide-bitset-requires c κs = search needs
@@ -38,7 +41,8 @@ decide-header-spec =
     enum-known-why
     without-form-requires
     returns
-    enum-known-position
+    enum-known-target
+    names-of-requires
     decide-bitset-requires
     returns-2
     without-form-requires-2

@@ -1,4 +1,4 @@
-use Rattle.ethnl.proofs.Laws.{handle-told}
+use Rattle.ethnl.proofs.Laws.{handle-returns}
 use borrow.Author.Needs.{needs}
 use Rattle.ethnl.proofs.ethnl_handle.Statement.{statement}
 use Rattle.ethnl.proofs.ethnl_handle.Tie as tie
@@ -19,7 +19,7 @@ same-length-2 : tie.Need-same-length-2
 same-length-2 c = search needs
 
 returns : tie.Need-returns
-returns c = search (needs, handle-told)
+returns c = search (needs, handle-returns)
 
 pub ethnl-handle-spec : {M : Type 1} → statement M
 ethnl-handle-spec =

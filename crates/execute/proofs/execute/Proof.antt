@@ -1,4 +1,4 @@
-use Rattle.execute.proofs.Decided.{execute-told}
+use Rattle.execute.proofs.Decided.{execute-performs}
 use Rattle.decision.proofs.In.{decided-in}
 use borrow.Author.Needs.{needs}
 use Rattle.execute.proofs.execute.Statement.{statement}
@@ -17,7 +17,7 @@ same-length-2 : tie.Need-same-length-2
 same-length-2 c = search needs
 
 returns : tie.Need-returns
-returns c = search (needs, execute-told)
+returns c = search (needs, execute-performs)
 
 pub execute-spec : {M : Type 1} → statement M
 execute-spec =

@@ -1,4 +1,4 @@
-use Rattle.execute.proofs.Laws.{get-responds, show-words, show-few, show-name}
+use Rattle.execute.proofs.Laws.{reply-laws, get-laws}
 use borrow.Author.Needs.{needs}
 use Rattle.execute.proofs.get.Statement.{statement}
 use Rattle.execute.proofs.get.Tie as tie
@@ -21,17 +21,14 @@ size-of-requires c κs = search needs
 names-of-requires : tie.Need-names-of-requires
 names-of-requires c κs = search needs
 
-heading-of-requires : tie.Need-heading-of-requires
-heading-of-requires c κs = search needs
-
-show-requires : tie.Need-show-requires
-show-requires c κs = let s = c .before .before .before .before .before .before .before .before .before .before .before .before .before .before .before .before .before .before in let named = c .before .before .before .before .before .before .before .before .before .name-of .ensures in let held = c .before .before .before .before .before .before .stored-words .ensures in let sizes = c .before .before .before .before .before .sizes .ensures in let bits = c .before .before .before .before .size-of .ensures in (s .pre .0 .0, s .pre .0 .1, show-name _ _ _ (s .pre .0 .2) named, show-words _ _ (s .pre .1 .1) _ _ _ sizes bits _ _ (s .pre .0 .2) held, show-few _ _ (s .pre .1 .1) _ _ _ sizes bits)
+put-get-reply-requires : tie.Need-put-get-reply-requires
+put-get-reply-requires c κs = let given = c .before .before .before .before .before .before .before .before .before .before .before .before .before .before .before .before .pre in search (needs, reply-laws)
 
 same-length : tie.Need-same-length
 same-length c = search needs
 
 returns : tie.Need-returns
-returns c = get-responds _ _ _ _ _ _ _ _ _ _ _ _ _ _ _ (c .before .before .before .before .heading-of .ensures) (c .before .before .before .before .before .before .before .before .before .before .before .before .before .index-of .ensures) (c .before .before .before .before .before .before .before .before .before .before .before .before .name-of .ensures) (c .before .before .before .before .before .before .names-of .ensures) (c .before .before .before .before .before .before .before .before .sizes .ensures) (c .before .before .before .before .before .before .before .before .before .stored-words .ensures) (c .before .before .before .before .before .before .before .size-of .ensures) (c .before .before .show .ensures)
+returns c = search (needs, get-laws)
 
 pub get-spec : {M : Type 1} → statement M
 get-spec =
@@ -43,7 +40,6 @@ get-spec =
     sizes-requires
     size-of-requires
     names-of-requires
-    heading-of-requires
-    show-requires
+    put-get-reply-requires
     same-length
     returns)

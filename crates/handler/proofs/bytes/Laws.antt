@@ -21,14 +21,16 @@ use Rattle.response.specs.declared.Answer.{Answer}
 use Rattle.handler.specs.Call.{outcome}
 use Rattle.handler.specs.Bytes.{Stored, storedOf, inWords, asStored, wordsOutcome, areWords, bytesOutcome}
 
--- the words read, handled, and written back
-pub words-told : (box : Box) (stored : Stored) (call : Call) (datagram room ws new after P Q : List ℕ) (r : Answer)
-    → length room ≡ length (stored .settings) / 4 → ws ≡ put room (wordsIn (stored .settings))
+-- the words read into a room of their size
+pub words-read : (stored : Stored) (room ws : List ℕ) → length room ≡ length (stored .settings) / 4 → ws ≡ put room (wordsIn (stored .settings)) → ws ≡ wordsIn (stored .settings)
+words-read stored room ws l e = e ∙ put-whole room (wordsIn (stored .settings)) (omega (arith, l, length-wordsIn (stored .settings)))
+
+-- the words handled, and written back
+pub words-perform : (box : Box) (stored : Stored) (call : Call) (datagram ws new after P Q : List ℕ) (r : Answer) → ws ≡ wordsIn (stored .settings)
     → Performs (outcome box (stateOf ws) call datagram (length P)) P Q (stateOf new) r → length (stored .settings) ≤ length new * 4
     → after ≡ put (stored .settings) (bytesOf new) → Performs (wordsOutcome box stored call datagram (length P)) P Q (storedOf after) r
 unfolding wordsOutcome
-words-told box stored call datagram room ws new after P Q r l e d k a =
-    let w : ws ≡ wordsIn (stored .settings) = e ∙ put-whole room (wordsIn (stored .settings)) (omega (arith, l, length-wordsIn (stored .settings))) in
+words-perform box stored call datagram ws new after P Q r w d k a =
     let d2 : Performs (outcome box (inWords stored) call datagram (length P)) P Q (stateOf new) r = rw w at d in
     record {
       response = d2 .response;

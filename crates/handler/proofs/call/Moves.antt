@@ -24,12 +24,13 @@ use Rattle.layout.specs.Layout.{listOf}
 use Rattle.boxes.specs.Box.{Box, State}
 use Rattle.boxes.specs.Rule.{boxRight}
 use Rattle.boxes.specs.declared.Call.{Call}
-use Rattle.decision.specs.declared.Target.{Target}
+use Rattle.request.specs.declared.target.Target.{Target}
 use Rattle.admission.specs.Admission.{admitted}
 use Rattle.admission.specs.declared.Admission.{Admission}
 use Rattle.admission.specs.declared.Admission.the-variants as A
 use Rattle.request.specs.Top.{topOf}
 use Rattle.request.specs.Target.{targetOf}
+use Rattle.request.specs.declared.parts.TopParts.{TopParts}
 use Rattle.request.specs.declared.top.Top.{Top}
 use Rattle.request.specs.declared.top.Top.the-variants as T
 use Rattle.request.specs.declared.target.TargetRead.{TargetRead}
@@ -40,7 +41,7 @@ use Rattle.execute.specs.declared.Request.{Request}
 use Rattle.execute.specs.Execute.{getBytes, readingOutcome, setOutcome, portOutcome, targetOutcome, headerOutcome, topOutcome, requestOutcome}
 use Rattle.handler.specs.Call.{onAdmission, messageOutcome, refusedInPlace, onMessage, positionOutcome, outcome, endsRun}
 
--- whatever is said of a message, the next position is the one after it
+-- whatever a message comes to, the next position is the one after it
 module _ (box : Box) (state : State) (m : List ℕ) where
   module _ (request : Request) where
     set-next : (bitset : Slot) (position : ℕ) → setOutcome box state m request bitset position .response .next ≡ request .next
@@ -51,23 +52,23 @@ module _ (box : Box) (state : State) (m : List ℕ) where
         by (refused r) = refl
         by (accepted b) = refl
 
-    port-outcome-next : (bitset : Slot) (port : Target) → portOutcome box state m request bitset port .response .next ≡ request .next
+    port-outcome-next : (bitset : Slot) (target : Target) → portOutcome box state m request bitset target .response .next ≡ request .next
     unfolding portOutcome
-    port-outcome-next bitset port = by (request .command .change)
+    port-outcome-next bitset target = by (request .command .change)
       where
         by : (t : Bool)
-            → cond t (setOutcome box state m request bitset (port .position)) (unchanged (responseOf Done (request .next) (getBytes box state m request port)) state) .response .next
+            → cond t (setOutcome box state m request bitset (target .position)) (unchanged (responseOf Done (request .next) (getBytes box state m request target)) state) .response .next
             ≡ request .next
-        by true = set-next bitset (port .position)
+        by true = set-next bitset (target .position)
         by false = refl
 
-    header-next : (header bitset : Slot) → headerOutcome box state m request header bitset .response .next ≡ request .next
+    header-next : (parts : TopParts) → headerOutcome box state m request parts .response .next ≡ request .next
     unfolding headerOutcome
-    header-next header bitset = by (targetOf m header (box .roll))
+    header-next parts = by (targetOf m (parts .header) (box .roll))
       where
-        by : (x : TargetRead) → targetOutcome x state m request (portOutcome box state m request bitset) .response .next ≡ request .next
+        by : (x : TargetRead) → targetOutcome x state m request (portOutcome box state m request (parts .bitset)) .response .next ≡ request .next
         by (P.Refused r) = refl
-        by (P.Port position flags) = port-outcome-next bitset (record { position = position; flags = flags })
+        by (P.Port target) = port-outcome-next (parts .bitset) target
 
     request-next : requestOutcome box state m request .response .next ≡ request .next
     unfolding requestOutcome
@@ -75,7 +76,7 @@ module _ (box : Box) (state : State) (m : List ℕ) where
       where
         by : (x : Top) → topOutcome x state m request (headerOutcome box state m request) .response .next ≡ request .next
         by (T.Refused r) = refl
-        by (T.Nests header bitset) = header-next header bitset
+        by (T.Nests parts) = header-next parts
 
   message-next : (call : Call) (h : MessageHeader) (next : ℕ) → messageOutcome box state call m h next .response .next ≡ next
   unfolding messageOutcome
@@ -107,27 +108,36 @@ module _ (box : Box) (state : State) (call : Call) (datagram : List ℕ) (room :
       let n = message-next box state (partOf datagram position (position + stated)) call (messageHeader datagram position) after in
       (omega arith, omega arith)
 
-  pub moves : Moved (outcome box state call datagram room)
-  unfolding outcome positionOutcome messageAt
-  moves =
-      by (boxRight box state call) (ltb room 32768) (ltb 32768 (length datagram)) (ltb (length datagram) position)
-      (eqb position (length datagram)) (ltb (length datagram) (position + 16)) (ltb stated 16) (ltb (length datagram) (position + stated)) refl refl
+  -- the message at the position
+  position-moved : Moved (positionOutcome box state call datagram)
+  unfolding positionOutcome messageAt
+  position-moved =
+      by (ltb (length datagram) position) (eqb position (length datagram)) (ltb (length datagram) (position + 16)) (ltb stated 16)
+      (ltb (length datagram) (position + stated)) refl refl
     where
-      by : (right page long past end cut low high : Bool) → ltb stated 16 ≡ low → ltb (length datagram) (position + stated) ≡ high
+      by : (past end cut low high : Bool) → ltb stated 16 ≡ low → ltb (length datagram) (position + stated) ≡ high
+          → Moved
+          (onMessage
+          (cond past Outside (cond end AtEnd (cond cut Cut (cond (low || high) Misstated (Message (messageHeader datagram position) (position + stated) after)))))
+          call state (λ h end next. messageOutcome box state call (partOf datagram position end) h next))
+      by true end cut low high el eh e = absurd (clash refl e)
+      by false true cut low high el eh e = absurd (clash refl e)
+      by false false true low high el eh e = absurd (clash refl e)
+      by false false false true high el eh e = absurd (clash refl e)
+      by false false false false true el eh e = absurd (clash refl e)
+      by false false false false false el eh e =
+          answer-moved (ltb-false stated 16 el) (ltb-false (length datagram) (position + stated) eh) e
+
+  pub moves : Moved (outcome box state call datagram room)
+  unfolding outcome
+  moves = by (boxRight box state call) (ltb room 32768) (ltb 32768 (length datagram))
+    where
+      by : (right page long : Bool)
           → Moved
           (cond (not right) (refusedInPlace R.Box call state)
           (cond page (refusedInPlace R.Page call state)
-          (cond long (refusedInPlace R.Datagram call state)
-          (onMessage
-          (cond past Outside (cond end AtEnd (cond cut Cut (cond (low || high) Misstated (Message (messageHeader datagram position) (position + stated) after)))))
-          call state (λ h end next. messageOutcome box state call (partOf datagram position end) h next)))))
-      by false page long past end cut low high el eh e = absurd (clash refl e)
-      by true true long past end cut low high el eh e = absurd (clash refl e)
-      by true false true past end cut low high el eh e = absurd (clash refl e)
-      by true false false true end cut low high el eh e = absurd (clash refl e)
-      by true false false false true cut low high el eh e = absurd (clash refl e)
-      by true false false false false true low high el eh e = absurd (clash refl e)
-      by true false false false false false true high el eh e = absurd (clash refl e)
-      by true false false false false false false true el eh e = absurd (clash refl e)
-      by true false false false false false false false el eh e =
-          answer-moved (ltb-false stated 16 el) (ltb-false (length datagram) (position + stated) eh) e
+          (cond long (refusedInPlace R.Datagram call state) (positionOutcome box state call datagram))))
+      by false page long e = absurd (clash refl e)
+      by true true long e = absurd (clash refl e)
+      by true false true e = absurd (clash refl e)
+      by true false false e = position-moved e

@@ -1,3 +1,4 @@
+use Rattle.netlink_headers.proofs.lengths.Laws.{step-bytes}
 use Rattle.netlink_attributes.proofs.Laws.{read-laws}
 use borrow.Author.Needs.{needs}
 use Rattle.netlink_attributes.proofs.read_attribute.Statement.{statement}
@@ -58,7 +59,7 @@ headed-requires : tie.Need-headed-requires
 headed-requires c κs = search needs
 
 returns-5 : tie.Need-returns-5
-returns-5 c = search (needs, read-laws)
+returns-5 c = search (needs, read-laws, step-bytes)
 
 pub read-attribute-spec : {M : Type 1} → statement M
 read-attribute-spec =

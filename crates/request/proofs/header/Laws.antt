@@ -1,13 +1,12 @@
 -- Laws of the header level: one for each return.
 use Prim.Native.Nat.{ℕ, _-_, _≤_, _<_}
-use mathlib.Core.Path.{_≡_, sym, ap, _∙_}
+use mathlib.Core.Path.{_≡_, sym, ap, ap₂, _∙_}
 use mathlib.Core.List.{List}
 use mathlib.Core.Bool.{Bool, true, false, _||_, not, cond}
-use lib.ListN.{getD}
 use borrow.Author.Tests.{lt-ltb, le-ltb}
 use Rattle.basics.proofs.Truth.{cond-true, cond-false}
 use Rattle.netlink_attributes.specs.Attributes.{partOf}
-use Rattle.netlink.specs.Walk.{absent, walked, slotNumber}
+use Rattle.netlink.specs.Walk.{walked, slotNumber}
 use Rattle.netlink.specs.declared.policy.Fault.{Fault}
 use Rattle.netlink.specs.declared.policy.Rule.{Rule}
 use Rattle.netlink.specs.declared.walk.Slot.{Slot}
@@ -19,30 +18,32 @@ use Rattle.refusal.specs.declared.Refusal.{Refusal}
 use Rattle.refusal.specs.declared.Refusal.the-variants.{NoPort, HeaderFlag}
 use Rattle.request.specs.Policies.{headerPolicy}
 use Rattle.refusal.specs.Refusal.{onStop}
+use Rattle.request.specs.Parts.{headerParts}
+use Rattle.request.specs.declared.parts.HeaderParts.{HeaderParts}
 use Rattle.request.specs.Header.{flagsJudged, partsOf, headerOf}
 use Rattle.request.specs.declared.header.Header.{Header}
 use Rattle.request.specs.declared.header.Header.the-variants.{Parts, Refused}
 
-module _ (m : List ℕ) (index name flags : Slot) (f : ℕ) (ef : f ≡ slotNumber m flags) where
-  pub flags-other : (at : ℕ) → at ≡ flags .start - 4 → 3 < f → Refused (HeaderFlag at) ≡ flagsJudged m index name flags
+module _ (m : List ℕ) (parts : HeaderParts) (f : ℕ) (ef : f ≡ slotNumber m (parts .flags)) where
+  pub flags-other : (at : ℕ) → at ≡ parts .flags .start - 4 → 3 < f → Refused (HeaderFlag at) ≡ flagsJudged m parts
   unfolding flagsJudged
   flags-other at ea l = rw (ea, ← ef, lt-ltb _ _ l)
 
-  pub flags-known : f ≤ 3 → Parts index name f ≡ flagsJudged m index name flags
+  pub flags-known : f ≤ 3 → Parts parts f ≡ flagsJudged m parts
   unfolding flagsJudged
   flags-known l = rw (← ef, le-ltb _ _ l)
 
 pub ruleset flags-laws = (flags-other, flags-known)
 
-module _ (m : List ℕ) (nest : ℕ) (index name flags : Slot) (b : Bool) (eb : b ≡ (index .present || name .present)) where
-  by-port : partsOf m nest index name flags ≡ cond (not b) (Refused (NoPort nest)) (flagsJudged m index name flags)
+module _ (m : List ℕ) (nest : ℕ) (parts : HeaderParts) (b : Bool) (eb : b ≡ (parts .index .present || parts .name .present)) where
+  by-port : partsOf m nest parts ≡ cond (not b) (Refused (NoPort nest)) (flagsJudged m parts)
   unfolding partsOf
-  by-port = ap (λ (x : Bool). cond (not x) (Refused (NoPort nest)) (flagsJudged m index name flags)) (sym eb)
+  by-port = ap (λ (x : Bool). cond (not x) (Refused (NoPort nest)) (flagsJudged m parts)) (sym eb)
 
-  pub parts-none : not b ≡ true → Refused (NoPort nest) ≡ partsOf m nest index name flags
+  pub parts-none : not b ≡ true → Refused (NoPort nest) ≡ partsOf m nest parts
   parts-none h = sym (by-port ∙ cond-true (not b) _ _ h)
 
-  pub parts-some : (r : Header) → not b ≡ false → r ≡ flagsJudged m index name flags → r ≡ partsOf m nest index name flags
+  pub parts-some : (r : Header) → not b ≡ false → r ≡ flagsJudged m parts → r ≡ partsOf m nest parts
   parts-some r h e = e ∙ sym (by-port ∙ cond-false (not b) _ _ h)
 
 pub ruleset parts-laws = (parts-none, parts-some)
@@ -50,7 +51,7 @@ pub ruleset parts-laws = (parts-none, parts-some)
 module _ (m : List ℕ) (header : Slot) (p : List Rule) (ep : p ≡ headerPolicy) (c : List ℕ) (ec : c ≡ partOf m 0 (header .end))
     (w : Walked) (ew : w ≡ walked p c (header .start)) where
   rest : Walked → Header
-  rest x = partsOf m (header .start - 4) (getD (x .slots) 1 absent) (getD (x .slots) 2 absent) (getD (x .slots) 3 absent)
+  rest x = partsOf m (header .start - 4) (headerParts (x .slots))
 
   by-walk : headerOf m header ≡ onStop (w .stop) Refused (rest w)
   unfolding headerOf rest
@@ -61,11 +62,10 @@ module _ (m : List ℕ) (header : Slot) (p : List Rule) (ep : p ≡ headerPolicy
   pub header-fault : (f : Fault) (at : ℕ) (y : Refusal) → w .stop ≡ S.At f at → y ≡ ofFault f at → Refused y ≡ headerOf m header
   header-fault f at y q ey = ap Refused ey ∙ sym (by-walk ∙ ap (λ (x : Stop). onStop x Refused (rest w)) q)
 
-  pub header-whole : (at : ℕ) (r : Header) → w .stop ≡ S.Whole → at ≡ header .start - 4
-      → r ≡ partsOf m at (getD (w .slots) 1 absent) (getD (w .slots) 2 absent) (getD (w .slots) 3 absent) → r ≡ headerOf m header
+  pub header-whole : (at : ℕ) (parts : HeaderParts) (r : Header) → w .stop ≡ S.Whole → at ≡ header .start - 4 → parts ≡ headerParts (w .slots)
+      → r ≡ partsOf m at parts → r ≡ headerOf m header
   unfolding rest
-  header-whole at r q ea e =
-      e ∙ ap (λ (x : ℕ). partsOf m x (getD (w .slots) 1 absent) (getD (w .slots) 2 absent) (getD (w .slots) 3 absent)) ea
-      ∙ sym (by-walk ∙ ap (λ (x : Stop). onStop x Refused (rest w)) q)
+  header-whole at parts r q ea es e =
+      e ∙ ap₂ (partsOf m) ea es ∙ sym (by-walk ∙ ap (λ (x : Stop). onStop x Refused (rest w)) q)
 
 pub ruleset header-laws = (header-fault, header-whole)

@@ -18,6 +18,7 @@ use Rattle.roll.proofs.find.Laws.{index-is}
 use Rattle.roll.specs.declared.find.Found.{Found}
 use Rattle.roll.specs.declared.find.Found.the-variants as F
 use Rattle.request.specs.Port.{onFound, otherName, portByIndex, portByName, portOf}
+use Rattle.request.specs.declared.parts.HeaderParts.{HeaderParts}
 use Rattle.request.specs.declared.port.PortRead.{PortRead}
 use Rattle.request.specs.declared.port.PortRead.the-variants.{Port, Refused}
 
@@ -36,29 +37,29 @@ module _ (m : List ℕ) (name : Slot) (roll : List ℕ) (k : ℕ) where
 
 pub ruleset other-laws = (other-absent, other-given)
 
-module _ (m : List ℕ) (header index name : Slot) (roll : List ℕ) (x : ℕ) (ex : x ≡ slotNumber m index) (f : Found) (ef : f ≡ foundByIndex roll x) where
+module _ (m : List ℕ) (header : Slot) (parts : HeaderParts) (roll : List ℕ) (x : ℕ) (ex : x ≡ slotNumber m (parts .index)) (f : Found) (ef : f ≡ foundByIndex roll x) where
   judge : ℕ → PortRead
-  judge k = cond (otherName m name roll k) (Refused (OtherName (header .start - 4))) (Port k)
+  judge k = cond (otherName m (parts .name) roll k) (Refused (OtherName (header .start - 4))) (Port k)
 
-  by-index : portByIndex m header index name roll ≡ onFound f (Refused (UnknownPort (index .start - 4))) judge
+  by-index : portByIndex m header parts roll ≡ onFound f (Refused (UnknownPort (parts .index .start - 4))) judge
   unfolding portByIndex judge
-  by-index = sym (ap (λ (y : Found). onFound y (Refused (UnknownPort (index .start - 4))) judge) (ef ∙ ap (foundByIndex roll) ex))
+  by-index = sym (ap (λ (y : Found). onFound y (Refused (UnknownPort (parts .index .start - 4))) judge) (ef ∙ ap (foundByIndex roll) ex))
 
-  pub index-unknown : (at : ℕ) → at ≡ index .start - 4 → f ≡ F.Nothing → Refused (UnknownPort at) ≡ portByIndex m header index name roll
+  pub index-unknown : (at : ℕ) → at ≡ parts .index .start - 4 → f ≡ F.Nothing → Refused (UnknownPort at) ≡ portByIndex m header parts roll
   index-unknown at ea q =
-      ap (λ (y : ℕ). Refused (UnknownPort y)) ea ∙ sym (by-index ∙ ap (λ (y : Found). onFound y (Refused (UnknownPort (index .start - 4))) judge) q)
+      ap (λ (y : ℕ). Refused (UnknownPort y)) ea ∙ sym (by-index ∙ ap (λ (y : Found). onFound y (Refused (UnknownPort (parts .index .start - 4))) judge) q)
 
-  module _ (k : ℕ) (q : f ≡ F.At k) (b : Bool) (eb : b ≡ otherName m name roll k) where
-    found : portByIndex m header index name roll ≡ cond b (Refused (OtherName (header .start - 4))) (Port k)
+  module _ (k : ℕ) (q : f ≡ F.At k) (b : Bool) (eb : b ≡ otherName m (parts .name) roll k) where
+    found : portByIndex m header parts roll ≡ cond b (Refused (OtherName (header .start - 4))) (Port k)
     unfolding judge
     found =
-        by-index ∙ ap (λ (y : Found). onFound y (Refused (UnknownPort (index .start - 4))) judge) q
+        by-index ∙ ap (λ (y : Found). onFound y (Refused (UnknownPort (parts .index .start - 4))) judge) q
         ∙ ap (λ (y : Bool). cond y (Refused (OtherName (header .start - 4))) (Port k)) (sym eb)
 
-    pub index-other : (at : ℕ) → at ≡ header .start - 4 → b ≡ true → Refused (OtherName at) ≡ portByIndex m header index name roll
+    pub index-other : (at : ℕ) → at ≡ header .start - 4 → b ≡ true → Refused (OtherName at) ≡ portByIndex m header parts roll
     index-other at ea h = ap (λ (y : ℕ). Refused (OtherName y)) ea ∙ sym (found ∙ cond-true b _ _ h)
 
-    pub index-found : b ≡ false → Port k ≡ portByIndex m header index name roll
+    pub index-found : b ≡ false → Port k ≡ portByIndex m header parts roll
     index-found h = sym (found ∙ cond-false b _ _ h)
 
 -- the port that is found stands in the table
@@ -80,13 +81,13 @@ module _ (m : List ℕ) (name : Slot) (roll p : List ℕ) (ep : p ≡ partOf m (
 
 pub ruleset name-laws = (name-unknown, name-found)
 
-module _ (m : List ℕ) (header index name : Slot) (roll : List ℕ) (t : PortRead) where
-  pub port-by-index : index .present ≡ true → t ≡ portByIndex m header index name roll → t ≡ portOf m header index name roll
+module _ (m : List ℕ) (header : Slot) (parts : HeaderParts) (roll : List ℕ) (t : PortRead) where
+  pub port-by-index : parts .index .present ≡ true → t ≡ portByIndex m header parts roll → t ≡ portOf m header parts roll
   unfolding portOf
-  port-by-index h e = e ∙ sym (cond-true (index .present) _ _ h)
+  port-by-index h e = e ∙ sym (cond-true (parts .index .present) _ _ h)
 
-  pub port-by-name : index .present ≡ false → t ≡ portByName m name roll → t ≡ portOf m header index name roll
+  pub port-by-name : parts .index .present ≡ false → t ≡ portByName m (parts .name) roll → t ≡ portOf m header parts roll
   unfolding portOf
-  port-by-name h e = e ∙ sym (cond-false (index .present) _ _ h)
+  port-by-name h e = e ∙ sym (cond-false (parts .index .present) _ _ h)
 
 pub ruleset port-laws = (port-by-index, port-by-name)

@@ -7,6 +7,7 @@ use Rattle.refusal.specs.declared.Refusal.{Refusal}
 use Rattle.request.specs.Header.{headerOf}
 use Rattle.request.specs.Port.{portOf}
 use Rattle.request.specs.Target.{withFlags, onHeader, targetOf}
+use Rattle.request.specs.declared.parts.HeaderParts.{HeaderParts}
 use Rattle.request.specs.declared.header.Header.{Header}
 use Rattle.request.specs.declared.header.Header.the-variants as H
 use Rattle.request.specs.declared.port.PortRead.{PortRead}
@@ -19,15 +20,15 @@ module _ (t : PortRead) (flags : ℕ) where
   unfolding withFlags
   flags-refused why q = sym (rw q)
 
-  pub flags-port : (k : ℕ) → t ≡ T.Port k → Port k flags ≡ withFlags t flags
+  pub flags-port : (k : ℕ) → t ≡ T.Port k → Port (record { position = k; flags = flags }) ≡ withFlags t flags
   unfolding withFlags
   flags-port k q = sym (rw q)
 
 pub ruleset flags-laws = (flags-refused, flags-port)
 
 module _ (m : List ℕ) (header : Slot) (roll : List ℕ) (h : Header) (eh : h ≡ headerOf m header) where
-  rest : Slot → Slot → ℕ → TargetRead
-  rest index name flags = withFlags (portOf m header index name roll) flags
+  rest : HeaderParts → ℕ → TargetRead
+  rest parts flags = withFlags (portOf m header parts roll) flags
 
   by-header : targetOf m header roll ≡ onHeader h rest
   unfolding targetOf rest
@@ -36,9 +37,9 @@ module _ (m : List ℕ) (header : Slot) (roll : List ℕ) (h : Header) (eh : h �
   pub target-refused : (why : Refusal) → h ≡ H.Refused why → Refused why ≡ targetOf m header roll
   target-refused why q = sym (by-header ∙ ap (λ (x : Header). onHeader x rest) q)
 
-  pub target-parts : (index name : Slot) (flags : ℕ) (t : PortRead) (r : TargetRead) → h ≡ H.Parts index name flags → t ≡ portOf m header index name roll
+  pub target-parts : (parts : HeaderParts) (flags : ℕ) (t : PortRead) (r : TargetRead) → h ≡ H.Parts parts flags → t ≡ portOf m header parts roll
       → r ≡ withFlags t flags → r ≡ targetOf m header roll
   unfolding rest
-  target-parts index name flags t r q et er = er ∙ ap (λ (x : PortRead). withFlags x flags) et ∙ sym (by-header ∙ ap (λ (x : Header). onHeader x rest) q)
+  target-parts parts flags t r q et er = er ∙ ap (λ (x : PortRead). withFlags x flags) et ∙ sym (by-header ∙ ap (λ (x : Header). onHeader x rest) q)
 
 pub ruleset target-laws = (target-refused, target-parts)

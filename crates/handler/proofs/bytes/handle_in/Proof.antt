@@ -1,5 +1,5 @@
 use native.Mathlib.Omega.{arith}
-use Rattle.handler.proofs.bytes.Laws.{words-told}
+use Rattle.handler.proofs.bytes.Laws.{words-read, words-perform}
 use borrow.Author.Needs.{needs}
 use Rattle.handler.proofs.bytes.handle_in.Statement.{statement}
 use Rattle.handler.proofs.bytes.handle_in.Tie as tie
@@ -27,7 +27,7 @@ returns c =
     let s = c .before .before .before .before .before .before .before .before .before .before .before .before .before .before .before .before .before .before .before .before .before .before .before .before in
     let read = c .before .before .before .before .before .before .before .before .before .before .before .before .before .before .read-words in
     let call = c .before .before .before .before .before .before .before .before .before .handle in
-    words-told _ _ _ _ _ _ _ _ _ _ _ (s .pre .1) (read .ensures) (call .ensures) (omega (arith, s .pre .0, s .pre .1, read .kept .1 .0, call .kept .1 .1 .1 .1 .0))
+    words-perform _ _ _ _ _ _ _ _ _ _ (words-read _ _ _ (s .pre .1) (read .ensures)) (call .ensures) (omega (arith, s .pre .0, s .pre .1, read .kept .1 .0, call .kept .1 .1 .1 .1 .0))
     (c .before .before .write-words .ensures)
 
 pub handle-in-spec : {M : Type 1} → statement M

@@ -24,17 +24,11 @@ returns c = search (needs, header-laws)
 enum-told : tie.Need-enum-told
 enum-told c = search needs
 
-element-copy-out-index : tie.Need-element-copy-out-index
-element-copy-out-index c = search needs
-
-element-copy-out-name : tie.Need-element-copy-out-name
-element-copy-out-name c = search needs
-
-element-copy-out-flags : tie.Need-element-copy-out-flags
-element-copy-out-flags c = search needs
-
 place-requires : tie.Need-place-requires
 place-requires c κs = search needs
+
+header-parts-requires : tie.Need-header-parts-requires
+header-parts-requires c κs = search needs
 
 judge-header-parts-requires : tie.Need-judge-header-parts-requires
 judge-header-parts-requires c κs = search needs
@@ -53,9 +47,7 @@ read-header-spec =
     of-fault-requires
     returns
     enum-told
-    element-copy-out-index
-    element-copy-out-name
-    element-copy-out-flags
     place-requires
+    header-parts-requires
     judge-header-parts-requires
     returns-2)

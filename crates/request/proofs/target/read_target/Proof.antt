@@ -9,8 +9,8 @@ read-header-requires c κs = search needs
 enum-known-why : tie.Need-enum-known-why
 enum-known-why c = search needs
 
-enum-known-index : tie.Need-enum-known-index
-enum-known-index c = search needs
+enum-known-parts : tie.Need-enum-known-parts
+enum-known-parts c = search needs
 
 find-port-requires : tie.Need-find-port-requires
 find-port-requires c κs = search needs
@@ -30,7 +30,7 @@ read-target-spec =
     (tie.spec
     read-header-requires
     enum-known-why
-    enum-known-index
+    enum-known-parts
     find-port-requires
     with-flags-requires
     returns

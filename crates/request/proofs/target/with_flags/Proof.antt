@@ -3,11 +3,11 @@ use borrow.Author.Needs.{needs}
 use Rattle.request.proofs.target.with_flags.Statement.{statement}
 use Rattle.request.proofs.target.with_flags.Tie as tie
 
-enum-known-target : tie.Need-enum-known-target
-enum-known-target c = search needs
+enum-known-port : tie.Need-enum-known-port
+enum-known-port c = search needs
 
-enum-known-target-2 : tie.Need-enum-known-target-2
-enum-known-target-2 c = search needs
+enum-known-port-2 : tie.Need-enum-known-port-2
+enum-known-port-2 c = search needs
 
 returns : tie.Need-returns
 returns c = search (needs, flags-laws)
@@ -16,4 +16,4 @@ returns-2 : tie.Need-returns-2
 returns-2 c = search (needs, flags-laws)
 
 pub with-flags-spec : {M : Type 1} → statement M
-with-flags-spec = tie.close (tie.spec enum-known-target enum-known-target-2 returns returns-2)
+with-flags-spec = tie.close (tie.spec enum-known-port enum-known-port-2 returns returns-2)

@@ -24,11 +24,8 @@ returns c = search (needs, top-laws)
 enum-told : tie.Need-enum-told
 enum-told c = search needs
 
-element-copy-out-header : tie.Need-element-copy-out-header
-element-copy-out-header c = search needs
-
-element-copy-out-bitset : tie.Need-element-copy-out-bitset
-element-copy-out-bitset c = search needs
+top-parts-requires : tie.Need-top-parts-requires
+top-parts-requires c κs = search needs
 
 judge-nests-requires : tie.Need-judge-nests-requires
 judge-nests-requires c κs = search needs
@@ -47,7 +44,6 @@ read-top-spec =
     of-fault-requires
     returns
     enum-told
-    element-copy-out-header
-    element-copy-out-bitset
+    top-parts-requires
     judge-nests-requires
     returns-2)
