@@ -50,7 +50,7 @@ module _ (h : Heading) (content : Content) where
         arith,
         length-parts,
         contents-whole (content .names) (content .words) (content .bits) (content .compact),
-        length-indexNest (content .index) (content .name) 1,
+        length-index-nest (content .index) (content .name) 1,
         index-name-whole (content .index) (content .name),
       )
 
@@ -63,6 +63,6 @@ module _ (h : Heading) (content : Content) where
         arith,
         length-parts,
         contents-most (content .names) (content .words) (content .bits) (content .compact) few ew short,
-        length-indexNest (content .index) (content .name) 1,
+        length-index-nest (content .index) (content .name) 1,
         index-name-most (content .index) (content .name),
       )
