@@ -1,5 +1,5 @@
 -- A number of 16 or 32 bits and its bytes say the same.
-use Prim.Native.Nat.{ℕ, _+_, _*_, _/_, _%_, _<_, _≤_}
+use Prim.Native.Nat.{ℕ, _+_, _*_, _/_, _%_, _<_, _≤_, zero, suc}
 use mathlib.Core.Path.{_≡_, refl, sym, ap, _∙_}
 use mathlib.Core.List.{List, [], _∷_, _++_}
 use native.Mathlib.Nat.{div-div-eq-div-mul}
@@ -96,9 +96,23 @@ four-bytes s small p h =
         sym (rw (x0, y1, y2, y3, x1, x2, x3))
 
 -- equal numbers are of equal bytes
-pub same-four : (a b c d a′ b′ c′ d′ : ℕ) → a < 256 → b < 256 → c < 256 → a′ < 256 → b′ < 256 → c′ < 256
-    → a + b * 256 + c * 65536 + d * 16777216 ≡ a′ + b′ * 256 + c′ * 65536 + d′ * 16777216 → (a ≡ a′) × (b ≡ b′) × (c ≡ c′) × (d ≡ d′)
-same-four a b c d a′ b′ c′ d′ ha hb hc ha′ hb′ hc′ e =
-    let p : (a ≡ a′) × (b + c * 256 + d * 65536 ≡ b′ + c′ * 256 + d′ * 65536) = (omega arith, omega arith) in
-    let q : (b ≡ b′) × (c + d * 256 ≡ c′ + d′ * 256) = (omega (arith, p .1), omega (arith, p .1)) in
-    (p .0, q .0, omega (arith, q .1), omega (arith, q .1))
+lowest : (a x b y : ℕ) → a < 256 → b < 256 → a + x * 256 ≡ b + y * 256 → (a ≡ b) × (x ≡ y)
+lowest a x b y ha hb e = (omega arith, omega arith)
+
+pub same-four : (a b : List ℕ) (p : ℕ) → ((j : ℕ) → j < 3 → getD a (p + j) 0 < 256) → ((j : ℕ) → j < 3 → getD b (p + j) 0 < 256) → u32At a p ≡ u32At b p
+    → (j : ℕ) → j < 4 → getD a (p + j) 0 ≡ getD b (p + j) 0
+unfolding u32At
+same-four a b p sa sb e =
+    let start : p + 0 ≡ p = omega arith in
+    let first = lowest (getD a p 0) (getD a (p + 1) 0 + getD a (p + 2) 0 * 256 + getD a (p + 3) 0 * 65536) (getD b p 0) (getD b (p + 1) 0 + getD b (p + 2) 0 * 256 + getD b (p + 3) 0 * 65536) (rw start at (sa 0 (omega arith))) (rw start at (sb 0 (omega arith))) (omega arith) in
+    let second = lowest (getD a (p + 1) 0) (getD a (p + 2) 0 + getD a (p + 3) 0 * 256) (getD b (p + 1) 0) (getD b (p + 2) 0 + getD b (p + 3) 0 * 256) (sa 1 (omega arith)) (sb 1 (omega arith)) (omega (arith, first .1)) in
+    let third = lowest (getD a (p + 2) 0) (getD a (p + 3) 0) (getD b (p + 2) 0) (getD b (p + 3) 0) (sa 2 (omega arith)) (sb 2 (omega arith)) (omega (arith, second .1)) in
+    each (first .0) (second .0) (third .0) (third .1)
+  where
+    each : getD a p 0 ≡ getD b p 0 → getD a (p + 1) 0 ≡ getD b (p + 1) 0 → getD a (p + 2) 0 ≡ getD b (p + 2) 0 → getD a (p + 3) 0 ≡ getD b (p + 3) 0
+        → (j : ℕ) → j < 4 → getD a (p + j) 0 ≡ getD b (p + j) 0
+    each e0 e1 e2 e3 zero h = let z : p + 0 ≡ p = omega arith in rw z e0
+    each e0 e1 e2 e3 (suc zero) h = e1
+    each e0 e1 e2 e3 (suc (suc zero)) h = e2
+    each e0 e1 e2 e3 (suc (suc (suc zero))) h = e3
+    each e0 e1 e2 e3 (suc (suc (suc (suc j)))) h = absurd (omega arith)

@@ -1,3 +1,4 @@
 pub mod Numbers
+pub mod Nuls
 pub mod Put
 pub mod Scan

@@ -15,7 +15,8 @@ use Rattle.basics.proofs.Order.{lt-or-ge}
 use Rattle.basics.proofs.Truth.{true-of, false-of, clash}
 use Rattle.basics.proofs.Scan.{all-of, all-each, any-none, any-not}
 use Rattle.bits.specs.Bit.{test, number}
-use Rattle.bits.specs.Set.{has, wordOf, allBelow, cut, clearFrom, noneFrom, past, somePast, isBetween, bitBetween}
+use Rattle.bits.specs.Set.{has, wordOf, allBelow, cut, clearFrom, noneFrom, past, somePast}
+use Rattle.bits.specs.Between.{isBetween, bitBetween}
 use Rattle.bits.specs.Change.{Below}
 use Rattle.bits.proofs.Bit.{number-lt, test-number, number-ext, number-cong, test-and, shl-one, test-ones, test-zero}
 use Rattle.bits.proofs.Words.{has-word, has-past}
@@ -81,35 +82,34 @@ module _ (w r : ℕ) (g : ℕ → Bool) (e : r ≡ number 32 (λ b. test w b && 
       go b l true q = q ∙ sym (rw (q, k b l q))
       go b l false q = q ∙ sym (rw q)
 
+test-cut : (w j size c : ℕ) → c ≡ number 32 (λ b. test w b && allBelow size (j * 32 + b)) → (b : ℕ) → b < 32 → test c b ≡ test w b && ltb (j * 32 + b) size
+test-cut w j size c ec b l = ap (λ (x : ℕ). test x b) ec ∙ test-number 32 (λ b. test w b && allBelow size (j * 32 + b)) b l
+
 -- a word cut at size, and cut again at n: a bit is lost exactly when there is one between
 module _ (w j n size c d : ℕ) (ec : c ≡ number 32 (λ b. test w b && allBelow size (j * 32 + b)))
     (ed : d ≡ number 32 (λ b. test c b && allBelow n (j * 32 + b))) where
-  test-cut : (b : ℕ) → b < 32 → test c b ≡ test w b && ltb (j * 32 + b) size
-  test-cut b l = ap (λ (x : ℕ). test x b) ec ∙ test-number 32 (λ b. test w b && allBelow size (j * 32 + b)) b l
-
   none-lost : c ≡ d → bitBetween w j n size ≡ false
   unfolding bitBetween isBetween
-  none-lost q = any-none (isBetween w j n size) 32 (λ b l. false-of (isBetween w j n size b) (λ z. go b l z))
-    where
-      go : (b : ℕ) → b < 32 → leb n (j * 32 + b) && test w b && ltb (j * 32 + b) size ≡ true → ⊥
-      go b l z =
-          ⊎-elim
-          (λ (p : j * 32 + b < n). clash z (rw (lt-leb n (j * 32 + b) p)))
-          (λ (p : n ≤ j * 32 + b). clash (kept-each c d (λ b. allBelow n (j * 32 + b)) ed q b l (test-cut b l ∙ (rw (le-leb n (j * 32 + b) p) at z))) (le-ltb (j * 32 + b) n p))
-          (lt-or-ge (j * 32 + b) n)
+  none-lost q =
+      any-none (isBetween w j n size) 32
+      (λ b l. false-of (isBetween w j n size b)
+      (λ (z : leb n (j * 32 + b) && test w b && ltb (j * 32 + b) size ≡ true).
+      ⊎-elim
+      (λ (p : j * 32 + b < n). clash z (rw (lt-leb n (j * 32 + b) p)))
+      (λ (p : n ≤ j * 32 + b). clash (kept-each c d (λ b. allBelow n (j * 32 + b)) ed q b l (test-cut w j size c ec b l ∙ (rw (le-leb n (j * 32 + b) p) at z))) (le-ltb (j * 32 + b) n p))
+      (lt-or-ge (j * 32 + b) n)))
 
   lost-some : c < 2 ^ 32 → (c ≡ d → ⊥) → bitBetween w j n size ≡ true
   unfolding bitBetween isBetween
   lost-some h ne =
       true-of (bitBetween w j n size)
-      (λ z. ne (each-kept c d (λ b. allBelow n (j * 32 + b)) ed h (λ b l t. go b l t (any-not (isBetween w j n size) 32 b z l))))
-    where
-      go : (b : ℕ) → b < 32 → test c b ≡ true → leb n (j * 32 + b) && test w b && ltb (j * 32 + b) size ≡ false → ltb (j * 32 + b) n ≡ true
-      go b l t z =
-          ⊎-elim
-          (λ (p : j * 32 + b < n). lt-ltb (j * 32 + b) n p)
-          (λ (p : n ≤ j * 32 + b). absurd (clash (sym (test-cut b l) ∙ t) (rw (le-leb n (j * 32 + b) p) at z)))
-          (lt-or-ge (j * 32 + b) n)
+      (λ z. ne
+      (each-kept c d (λ b. allBelow n (j * 32 + b)) ed h
+      (λ b l t. let k : leb n (j * 32 + b) && test w b && ltb (j * 32 + b) size ≡ false = any-not (isBetween w j n size) 32 b z l in
+      ⊎-elim
+      (λ (p : j * 32 + b < n). lt-ltb (j * 32 + b) n p)
+      (λ (p : n ≤ j * 32 + b). absurd (clash (sym (test-cut w j size c ec b l) ∙ t) (rw (le-leb n (j * 32 + b) p) at k)))
+      (lt-or-ge (j * 32 + b) n))))
 
   pub between-is : not (eqb c d) ≡ bitBetween w j n size
   between-is = go (eqb c d) refl

@@ -1,3 +1,4 @@
 pub mod Bit
 pub mod Set
 pub mod Change
+pub mod Between

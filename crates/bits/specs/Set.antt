@@ -51,11 +51,3 @@ past n f i = leb n i && f i
 -- a bit i with n ≤ i < size is in the set (document 01, refusal 20 for a bitmap)
 unfoldable pub somePast : (ℕ → Bool) → ℕ → ℕ → Bool
 somePast f n size = any size (past n f)
-
--- bit b of word j is a bit i with n ≤ i < size
-unfoldable pub isBetween : ℕ → ℕ → ℕ → ℕ → ℕ → Bool
-isBetween w j n size b = leb n (j * 32 + b) && test w b && ltb (j * 32 + b) size
-
--- word j has a bit i with n ≤ i < size
-unfoldable pub bitBetween : ℕ → ℕ → ℕ → ℕ → Bool
-bitBetween w j n size = any 32 (isBetween w j n size)

@@ -3,7 +3,8 @@ ghost use mathlib.Core.Path.{_≡_};
 ghost use mathlib.Core.Bool.{_&&_};
 ghost use Prim.Native.Nat.{_+_, _*_};
 ghost use Rattle.bits.specs.Bit.{test, number};
-ghost use Rattle.bits.specs.Set.{wordOf, allBelow, bitBetween};
+ghost use Rattle.bits.specs.Set.{wordOf, allBelow};
+ghost use Rattle.bits.specs.Between.{bitBetween};
 ghost use Rattle.bits.specs.Change.{merge};
 
 // The word that a masked change makes of `word`: the bits in `mask` take `value`'s bits.

@@ -20,16 +20,19 @@ use Rattle.entries.specs.Chain.{folded, spread, hashOf, lastOfHash, Head
 use Rattle.entries.proofs.Entries.{entry-length, entry-first, entry-eight, same-bytes, same-eight, same-equal}
 
 -- the hash as the code computes it
+pub spread-folded : (a b c d x r : ℕ) → x ≡ folded a b c d → r ≡ spread x → r ≡ spread (folded a b c d)
+spread-folded a b c d x r ex er = er ∙ ap spread ex
+
 module _ (e : List ℕ) where
   pub hash-none : (b : ℕ) → b ≡ getD e 0 0 → b ≡ 0 → 1024 ≡ hashOf e
   unfolding hashOf
   hash-none b eb z = sym (rw (eq-eqb _ 0 (sym eb ∙ z)))
 
-  pub hash-all : (f a b c d x r : ℕ) → f ≡ getD e 0 0 → (f ≡ 0 → ⊥) → a ≡ u64At e 0 → b ≡ u64At e 8 → c ≡ u64At e 16 → d ≡ u64At e 24
-      → x ≡ folded a b c d → r ≡ spread x → r ≡ hashOf e
+  pub hash-all : (f a b c d r : ℕ) → f ≡ getD e 0 0 → (f ≡ 0 → ⊥) → a ≡ u64At e 0 → b ≡ u64At e 8 → c ≡ u64At e 16 → d ≡ u64At e 24
+      → r ≡ spread (folded a b c d) → r ≡ hashOf e
   unfolding hashOf
-  hash-all f a b c d x r ef n ea eb ec ed ex er =
-      er ∙ ap spread (ex ∙ ap₂ (λ (g : ℕ → ℕ → ℕ) (y : ℕ). g c y) (ap₂ folded ea eb) ed ∙ ap (λ (z : ℕ). folded (u64At e 0) (u64At e 8) z (u64At e 24)) ec)
+  hash-all f a b c d r ef n ea eb ec ed er =
+      er ∙ ap spread (ap₂ (λ (g : ℕ → ℕ → ℕ) (y : ℕ). g c y) (ap₂ folded ea eb) ed ∙ ap (λ (z : ℕ). folded (u64At e 0) (u64At e 8) z (u64At e 24)) ec)
       ∙ sym (rw (ne-eqb _ 0 (λ (q : getD e 0 0 ≡ 0). n (ef ∙ q))))
 
 -- of an entry in its list
@@ -37,16 +40,16 @@ module _ (list : List ℕ) (i : ℕ) (h : i < count list) where
   pub hash-empty : getD list (i * 32) 0 ≡ 0 → 1024 ≡ hashOf (entryAt list i)
   hash-empty z = hash-none (entryAt list i) _ (sym (entry-first list i h)) z
 
-  pub hash-some : (a b c d x r : ℕ) → (getD list (i * 32) 0 ≡ 0 → ⊥) → a ≡ u64At list (i * 32) → b ≡ u64At list (i * 32 + 8)
-      → c ≡ u64At list (i * 32 + 16) → d ≡ u64At list (i * 32 + 24) → x ≡ folded a b c d → r ≡ spread x → r ≡ hashOf (entryAt list i)
-  hash-some a b c d x r n ea eb ec ed ex er =
+  pub hash-some : (a b c d r : ℕ) → (getD list (i * 32) 0 ≡ 0 → ⊥) → a ≡ u64At list (i * 32) → b ≡ u64At list (i * 32 + 8)
+      → c ≡ u64At list (i * 32 + 16) → d ≡ u64At list (i * 32 + 24) → r ≡ spread (folded a b c d) → r ≡ hashOf (entryAt list i)
+  hash-some a b c d r n ea eb ec ed er =
       let at : (p k : ℕ) → p + 8 ≤ 32 → i * 32 + p ≡ k → u64At list k ≡ u64At (entryAt list i) p = λ p k l e. sym (entry-eight list i h p k l e) in
-      hash-all (entryAt list i) _ a b c d x r (sym (entry-first list i h)) n
+      hash-all (entryAt list i) _ a b c d r (sym (entry-first list i h)) n
       (ea ∙ at 0 (i * 32) (omega arith) (omega arith))
       (eb ∙ at 8 (i * 32 + 8) (omega arith) refl)
       (ec ∙ at 16 (i * 32 + 16) (omega arith) refl)
       (ed ∙ at 24 (i * 32 + 24) (omega arith) refl)
-      ex er
+      er
 
 -- the same names have the same hash
 pub hash-same : (a b : List ℕ) → sameEntry a b ≡ true → hashOf a ≡ hashOf b

@@ -28,20 +28,7 @@ module _ (a b : List ℕ) (sa : (j : ℕ) → j < 32 → getD a j 0 < 256) (sb :
       apart x y u v hx hy e = (omega arith, omega arith)
 
   bytes : (p r : ℕ) → p + 4 ≤ 32 → r < 4 → u32At a p ≡ u32At b p → getD a (p + r) 0 ≡ getD b (p + r) 0
-  unfolding u32At
-  bytes p r l h e = at r h
-    where
-      each : (getD a p 0 ≡ getD b p 0) × (getD a (p + 1) 0 ≡ getD b (p + 1) 0) × (getD a (p + 2) 0 ≡ getD b (p + 2) 0) × (getD a (p + 3) 0 ≡ getD b (p + 3) 0)
-      each =
-          same-four (getD a p 0) (getD a (p + 1) 0) (getD a (p + 2) 0) (getD a (p + 3) 0) (getD b p 0) (getD b (p + 1) 0) (getD b (p + 2) 0) (getD b (p + 3) 0)
-          (sa p (omega arith)) (sa (p + 1) (omega arith)) (sa (p + 2) (omega arith)) (sb p (omega arith)) (sb (p + 1) (omega arith)) (sb (p + 2) (omega arith)) e
-
-      at : (r : ℕ) → r < 4 → getD a (p + r) 0 ≡ getD b (p + r) 0
-      at zero h = let z : p + 0 ≡ p = omega arith in rw z (each .0)
-      at (suc zero) h = each .1
-      at (suc (suc zero)) h = each .2
-      at (suc (suc (suc zero))) h = each .3
-      at (suc (suc (suc (suc r)))) h = absurd (omega arith)
+  bytes p r l h e = same-four a b p (λ j u. sa (p + j) (omega arith)) (λ j u. sb (p + j) (omega arith)) e r h
 
   eight-bytes : (p r : ℕ) → p + 8 ≤ 32 → r < 8 → u64At a p ≡ u64At b p → getD a (p + r) 0 ≡ getD b (p + r) 0
   eight-bytes p r l h e =

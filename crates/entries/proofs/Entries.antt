@@ -13,7 +13,8 @@ use Rattle.basics.specs.Numbers.{u32At, u64At}
 use Rattle.basics.proofs.Order.{lt-or-ge}
 use Rattle.basics.proofs.Scan.{all-of, all-each}
 use Rattle.basics.proofs.Truth.{clash}
-use Rattle.entries.specs.Entry.{count, entryAt, sameByte, sameEntry, isEmpty, differs, entryNew, entriesDistinct}
+use Rattle.entries.specs.Entry.{count, entryAt, sameEntry, isEmpty, differs, entryNew, entriesDistinct}
+use Rattle.basics.specs.Nuls.{sameByte}
 
 module _ (list : List ℕ) (i : ℕ) where
   pub entry-none : count list ≤ i → [] ≡ entryAt list i

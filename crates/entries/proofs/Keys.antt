@@ -9,55 +9,19 @@ use lib.ListN.{length, getD, set, length-set}
 use lib.Seq.{getD-set-same, getD-set-other}
 use Rattle.basics.specs.Numbers.{u32At, u64At}
 use Rattle.basics.proofs.Order.{lt-or-ge}
-use Rattle.entries.specs.Entry.{sameEntry, KeyStarts}
+use Rattle.entries.specs.Entry.{sameEntry}
+use Rattle.entries.specs.Key.{KeyStarts}
 use Rattle.entries.proofs.Entries.{same-of}
 
 -- one byte more
-spelt-more : (name key : List ℕ) (n m v : ℕ) → n < 32 → m ≡ n + 1 → KeyStarts name key n → v ≡ getD name n 0 → KeyStarts name (set key n v) m
-spelt-more name key n m v l em s e = record {
+key-more : (name key : List ℕ) (n m v : ℕ) → n < 32 → m ≡ n + 1 → KeyStarts name key n → v ≡ getD name n 0 → KeyStarts name (set key n v) m
+key-more name key n m v l em s e = record {
   long = length-set key n v ∙ s .long;
   each = λ j u. ⊎-elim
       (λ (q : j < n). getD-set-other key n j v 0 (λ (p : j ≡ n). omega arith) ∙ s .each j q)
       (λ (q : n ≤ j). let p : j ≡ n = omega arith in rw p (getD-set-same key n v 0 (let k = s .long in omega arith) ∙ e))
       (lt-or-ge j n);
 }
-
--- the digits of a number of 64 bits
-module _ (a b c d e f g h : ℕ) (la : a < 256) (lb : b < 256) (lc : c < 256) (ld : d < 256) (le : e < 256) (lf : f < 256) (lg : g < 256) (lh : h < 256) where
-  number : ℕ
-  number = a + b * 256 + c * 65536 + d * 16777216 + (e + f * 256 + g * 65536 + h * 16777216) * 4294967296
-
-  digit0 : number % 256 ≡ a
-  unfolding number
-  digit0 = omega arith
-
-  digit1 : number / 256 % 256 ≡ b
-  unfolding number
-  digit1 = omega arith
-
-  digit2 : number / 65536 % 256 ≡ c
-  unfolding number
-  digit2 = omega arith
-
-  digit3 : number / 16777216 % 256 ≡ d
-  unfolding number
-  digit3 = omega arith
-
-  digit4 : number / 4294967296 % 256 ≡ e
-  unfolding number
-  digit4 = omega arith
-
-  digit5 : number / 1099511627776 % 256 ≡ f
-  unfolding number
-  digit5 = omega arith
-
-  digit6 : number / 281474976710656 % 256 ≡ g
-  unfolding number
-  digit6 = omega arith
-
-  digit7 : number / 72057594037927936 % 256 ≡ h
-  unfolding number
-  digit7 = omega arith
 
 -- eight bytes more
 module _ (name : List ℕ) (small : (j : ℕ) → getD name j 0 < 256) (at x : ℕ) (ex : x ≡ u64At name at) where
@@ -73,49 +37,53 @@ module _ (name : List ℕ) (small : (j : ℕ) → getD name j 0 < 256) (at x : �
   at-seven : byte (at + 4 + 3) ≡ byte (at + 7)
   at-seven = let k : at + 4 + 3 ≡ at + 7 = omega arith in ap byte k
 
+  bytes : (getD name at 0 < 256) × (getD name (at + 1) 0 < 256) × (getD name (at + 2) 0 < 256) × (getD name (at + 3) 0 < 256)
+      × (getD name (at + 4) 0 < 256) × (getD name (at + 4 + 1) 0 < 256) × (getD name (at + 4 + 2) 0 < 256) × (getD name (at + 4 + 3) 0 < 256)
+  bytes = (small at, small (at + 1), small (at + 2), small (at + 3), small (at + 4), small (at + 4 + 1), small (at + 4 + 2), small (at + 4 + 3))
+
   digit-0 : x % 256 ≡ getD name at 0
-  unfolding u32At number byte
-  digit-0 = ap (λ (y : ℕ). y % 256) ex ∙ digit0 (getD name at 0) (getD name (at + 1) 0) (getD name (at + 2) 0) (getD name (at + 3) 0) (getD name (at + 4) 0) (getD name (at + 4 + 1) 0) (getD name (at + 4 + 2) 0) (getD name (at + 4 + 3) 0) (small at) (small (at + 1)) (small (at + 2)) (small (at + 3)) (small (at + 4)) (small (at + 4 + 1)) (small (at + 4 + 2)) (small (at + 4 + 3))
+  unfolding u32At byte
+  digit-0 = omega (arith, ex, bytes)
 
   digit-1 : x / 256 % 256 ≡ getD name (at + 1) 0
-  unfolding u32At number byte
-  digit-1 = ap (λ (y : ℕ). y / 256 % 256) ex ∙ digit1 (getD name at 0) (getD name (at + 1) 0) (getD name (at + 2) 0) (getD name (at + 3) 0) (getD name (at + 4) 0) (getD name (at + 4 + 1) 0) (getD name (at + 4 + 2) 0) (getD name (at + 4 + 3) 0) (small at) (small (at + 1)) (small (at + 2)) (small (at + 3)) (small (at + 4)) (small (at + 4 + 1)) (small (at + 4 + 2)) (small (at + 4 + 3))
+  unfolding u32At byte
+  digit-1 = omega (arith, ex, bytes)
 
   digit-2 : x / 65536 % 256 ≡ getD name (at + 2) 0
-  unfolding u32At number byte
-  digit-2 = ap (λ (y : ℕ). y / 65536 % 256) ex ∙ digit2 (getD name at 0) (getD name (at + 1) 0) (getD name (at + 2) 0) (getD name (at + 3) 0) (getD name (at + 4) 0) (getD name (at + 4 + 1) 0) (getD name (at + 4 + 2) 0) (getD name (at + 4 + 3) 0) (small at) (small (at + 1)) (small (at + 2)) (small (at + 3)) (small (at + 4)) (small (at + 4 + 1)) (small (at + 4 + 2)) (small (at + 4 + 3))
+  unfolding u32At byte
+  digit-2 = omega (arith, ex, bytes)
 
   digit-3 : x / 16777216 % 256 ≡ getD name (at + 3) 0
-  unfolding u32At number byte
-  digit-3 = ap (λ (y : ℕ). y / 16777216 % 256) ex ∙ digit3 (getD name at 0) (getD name (at + 1) 0) (getD name (at + 2) 0) (getD name (at + 3) 0) (getD name (at + 4) 0) (getD name (at + 4 + 1) 0) (getD name (at + 4 + 2) 0) (getD name (at + 4 + 3) 0) (small at) (small (at + 1)) (small (at + 2)) (small (at + 3)) (small (at + 4)) (small (at + 4 + 1)) (small (at + 4 + 2)) (small (at + 4 + 3))
+  unfolding u32At byte
+  digit-3 = omega (arith, ex, bytes)
 
   digit-4 : x / 4294967296 % 256 ≡ getD name (at + 4) 0
-  unfolding u32At number byte
-  digit-4 = ap (λ (y : ℕ). y / 4294967296 % 256) ex ∙ digit4 (getD name at 0) (getD name (at + 1) 0) (getD name (at + 2) 0) (getD name (at + 3) 0) (getD name (at + 4) 0) (getD name (at + 4 + 1) 0) (getD name (at + 4 + 2) 0) (getD name (at + 4 + 3) 0) (small at) (small (at + 1)) (small (at + 2)) (small (at + 3)) (small (at + 4)) (small (at + 4 + 1)) (small (at + 4 + 2)) (small (at + 4 + 3))
+  unfolding u32At byte
+  digit-4 = omega (arith, ex, bytes)
 
   digit-5 : x / 1099511627776 % 256 ≡ getD name (at + 5) 0
-  unfolding u32At number byte
-  digit-5 = ap (λ (y : ℕ). y / 1099511627776 % 256) ex ∙ digit5 (getD name at 0) (getD name (at + 1) 0) (getD name (at + 2) 0) (getD name (at + 3) 0) (getD name (at + 4) 0) (getD name (at + 4 + 1) 0) (getD name (at + 4 + 2) 0) (getD name (at + 4 + 3) 0) (small at) (small (at + 1)) (small (at + 2)) (small (at + 3)) (small (at + 4)) (small (at + 4 + 1)) (small (at + 4 + 2)) (small (at + 4 + 3)) ∙ at-five
+  unfolding u32At byte
+  digit-5 = omega (arith, ex, bytes) ∙ at-five
 
   digit-6 : x / 281474976710656 % 256 ≡ getD name (at + 6) 0
-  unfolding u32At number byte
-  digit-6 = ap (λ (y : ℕ). y / 281474976710656 % 256) ex ∙ digit6 (getD name at 0) (getD name (at + 1) 0) (getD name (at + 2) 0) (getD name (at + 3) 0) (getD name (at + 4) 0) (getD name (at + 4 + 1) 0) (getD name (at + 4 + 2) 0) (getD name (at + 4 + 3) 0) (small at) (small (at + 1)) (small (at + 2)) (small (at + 3)) (small (at + 4)) (small (at + 4 + 1)) (small (at + 4 + 2)) (small (at + 4 + 3)) ∙ at-six
+  unfolding u32At byte
+  digit-6 = omega (arith, ex, bytes) ∙ at-six
 
   digit-7 : x / 72057594037927936 % 256 ≡ getD name (at + 7) 0
-  unfolding u32At number byte
-  digit-7 = ap (λ (y : ℕ). y / 72057594037927936 % 256) ex ∙ digit7 (getD name at 0) (getD name (at + 1) 0) (getD name (at + 2) 0) (getD name (at + 3) 0) (getD name (at + 4) 0) (getD name (at + 4 + 1) 0) (getD name (at + 4 + 2) 0) (getD name (at + 4 + 3) 0) (small at) (small (at + 1)) (small (at + 2)) (small (at + 3)) (small (at + 4)) (small (at + 4 + 1)) (small (at + 4 + 2)) (small (at + 4 + 3)) ∙ at-seven
+  unfolding u32At byte
+  digit-7 = omega (arith, ex, bytes) ∙ at-seven
 
   pub eight-key : (key : List ℕ) → at + 8 ≤ 32 → KeyStarts name key at
       → KeyStarts name (set (set (set (set (set (set (set (set key at (x % 256)) (at + 1) (x / 256 % 256)) (at + 2) (x / 65536 % 256)) (at + 3) (x / 16777216 % 256)) (at + 4) (x / 4294967296 % 256)) (at + 5) (x / 1099511627776 % 256)) (at + 6) (x / 281474976710656 % 256)) (at + 7) (x / 72057594037927936 % 256)) (at + 8)
   eight-key key l s =
-      let s1 = spelt-more name key at (at + 1) (x % 256) (omega arith) (omega arith) s digit-0 in
-      let s2 = spelt-more name _ (at + 1) (at + 2) (x / 256 % 256) (omega arith) (omega arith) s1 digit-1 in
-      let s3 = spelt-more name _ (at + 2) (at + 3) (x / 65536 % 256) (omega arith) (omega arith) s2 digit-2 in
-      let s4 = spelt-more name _ (at + 3) (at + 4) (x / 16777216 % 256) (omega arith) (omega arith) s3 digit-3 in
-      let s5 = spelt-more name _ (at + 4) (at + 5) (x / 4294967296 % 256) (omega arith) (omega arith) s4 digit-4 in
-      let s6 = spelt-more name _ (at + 5) (at + 6) (x / 1099511627776 % 256) (omega arith) (omega arith) s5 digit-5 in
-      let s7 = spelt-more name _ (at + 6) (at + 7) (x / 281474976710656 % 256) (omega arith) (omega arith) s6 digit-6 in
-      let s8 = spelt-more name _ (at + 7) (at + 8) (x / 72057594037927936 % 256) (omega arith) (omega arith) s7 digit-7 in
+      let s1 = key-more name key at (at + 1) (x % 256) (omega arith) (omega arith) s digit-0 in
+      let s2 = key-more name _ (at + 1) (at + 2) (x / 256 % 256) (omega arith) (omega arith) s1 digit-1 in
+      let s3 = key-more name _ (at + 2) (at + 3) (x / 65536 % 256) (omega arith) (omega arith) s2 digit-2 in
+      let s4 = key-more name _ (at + 3) (at + 4) (x / 16777216 % 256) (omega arith) (omega arith) s3 digit-3 in
+      let s5 = key-more name _ (at + 4) (at + 5) (x / 4294967296 % 256) (omega arith) (omega arith) s4 digit-4 in
+      let s6 = key-more name _ (at + 5) (at + 6) (x / 1099511627776 % 256) (omega arith) (omega arith) s5 digit-5 in
+      let s7 = key-more name _ (at + 6) (at + 7) (x / 281474976710656 % 256) (omega arith) (omega arith) s6 digit-6 in
+      let s8 = key-more name _ (at + 7) (at + 8) (x / 72057594037927936 % 256) (omega arith) (omega arith) s7 digit-7 in
       s8
 
 -- a whole key is the name

@@ -1,4 +1,4 @@
--- How equal entries are found: each entry leads to the last one before it that has the same hash. No promise rests on the hash.
+-- No promise rests on this file: how equal entries are found. Each entry leads to the last one before it that has the same hash.
 use Prim.Native.Nat.{ℕ, zero, suc, _+_, _-_, _*_, _/_, _%_, _^_, _<_, _≤_}
 use mathlib.Core.Path.{_≡_}
 use mathlib.Core.Bool.{Bool, true, cond}
@@ -9,11 +9,11 @@ use lib.Dec.{eqb}
 use Rattle.basics.specs.Numbers.{u64At}
 use Rattle.entries.specs.Entry.{count, entryAt, isEmpty, entriesDistinct}
 
--- a number of 64 bits turned by k bits
+-- a number of 64 bits rotated by k bits
 abbrev pub rotated : ℕ → ℕ → ℕ
 rotated k x = bitOr ((x * 2 ^ k) % 2 ^ 64) (x / 2 ^ (64 - k))
 
--- four numbers in one, each turned by bits of its own
+-- four numbers in one, each rotated by bits of its own
 unfoldable pub folded : ℕ → ℕ → ℕ → ℕ → ℕ
 folded a b c d = bitXor (bitXor (bitXor a (rotated 44 b)) (rotated 45 c)) (rotated 16 d)
 
@@ -34,7 +34,7 @@ lastOfHash list h (suc i) = cond (eqb (hashOf (entryAt list i)) h) (suc i) (last
 abbrev pub HeadRight : List ℕ → List ℕ → ℕ → Type 0
 HeadRight list head i = (h : ℕ) → h < 1025 → getD head h 0 ≡ lastOfHash list h i
 
--- next holds, for each entry below i, the one before it in its chain
+-- links holds, for each entry below i, the one before it in its chain
 abbrev pub LinksRight : List ℕ → List ℕ → ℕ → Type 0
 LinksRight list links i = (j : ℕ) → j < i → getD links j 0 ≡ lastOfHash list (hashOf (entryAt list j)) j
 

@@ -1,11 +1,11 @@
 -- Lists of 32-byte entries (document 01, "Two bit-name lists .. 32 bytes an entry, N entries").
-use Prim.Native.Nat.{ℕ, _*_, _/_, _<_}
-use mathlib.Core.Path.{_≡_}
+use Prim.Native.Nat.{ℕ, _*_, _/_}
 use mathlib.Core.Bool.{Bool, _||_, not, cond}
 use mathlib.Core.List.{List, []}
 use lib.ListN.{length, getD, take, drop}
 use lib.Dec.{eqb, ltb}
 use Rattle.basics.specs.Scan.{all}
+use Rattle.basics.specs.Nuls.{sameByte}
 
 -- the whole entries of a list
 abbrev pub count : List ℕ → ℕ
@@ -14,10 +14,6 @@ count list = length list / 32
 -- entry i, with no bytes past the last
 unfoldable pub entryAt : List ℕ → ℕ → List ℕ
 entryAt list i = cond (ltb i (count list)) (take 32 (drop (i * 32) list)) []
-
--- whether byte j of a is that of b, where NULs follow the shorter one
-unfoldable pub sameByte : List ℕ → List ℕ → ℕ → Bool
-sameByte a b j = eqb (getD a j 0) (getD b j 0)
 
 -- whether a and b are the same entry
 unfoldable pub sameEntry : List ℕ → List ℕ → Bool
@@ -38,8 +34,3 @@ entryNew list i = isEmpty (entryAt list i) || all i (differs list i)
 -- the entries are distinct, those that are empty aside (document 01, "Empty entries .. may repeat; the others in one list are distinct")
 unfoldable pub entriesDistinct : List ℕ → Bool
 entriesDistinct list = all (count list) (entryNew list)
-
--- the first n bytes of a key of 32 are those of a name, NULs after it
-pub record KeyStarts (name key : List ℕ) (n : ℕ) : Type 0 where
-  pub long : length key ≡ 32
-  pub each : (j : ℕ) → j < n → getD key j 0 ≡ getD name j 0

@@ -25,7 +25,7 @@ pub fn place_in(table: &[u16], i: usize) -> usize
     place(table[i])
 }
 
-// Four numbers in one, each turned by bits of its own.
+// Four numbers in one, each rotated by bits of its own.
 fn fold(a: u64, b: u64, c: u64, d: u64) -> u64
     ensures { λ r. ⌜ r ≡ folded a b c d ⌝ }
 {
@@ -33,10 +33,17 @@ fn fold(a: u64, b: u64, c: u64, d: u64) -> u64
 }
 
 // A number spread over the chains.
-fn chain_of(x: u64) -> usize
+fn spread_of(x: u64) -> usize
     ensures { λ r. ⌜ (r ≡ spread x) × (r < 1024) ⌝ }
 {
     ((x % 4294967296 * 1883130339 + x / 4294967296 * 1207823575) / 16777216 % 1024) as usize
+}
+
+// The chain of the four numbers of an entry.
+fn chain_of(a: u64, b: u64, c: u64, d: u64) -> usize
+    ensures { λ r. ⌜ (r ≡ spread (folded a b c d)) × (r < 1024) ⌝ }
+{
+    spread_of(fold(a, b, c, d))
 }
 
 // The chain of entry i: each of its bytes has a part in it.
@@ -52,7 +59,7 @@ fn hash(list: &[u8], i: usize) -> usize
     let b = eight(list, at + 8);
     let c = eight(list, at + 16);
     let d = eight(list, at + 24);
-    chain_of(fold(a, b, c, d))
+    chain_of(a, b, c, d)
 }
 
 // The chain of a name, which may end in NULs.
@@ -66,7 +73,7 @@ pub fn hash_of(name: &[u8]) -> usize
     let b = eight_or_less(name, 8);
     let c = eight_or_less(name, 16);
     let d = eight_or_less(name, 24);
-    chain_of(fold(a, b, c, d))
+    chain_of(a, b, c, d)
 }
 
 // Whether entry i differs from every entry before it: only those of its chain are looked at.
@@ -102,7 +109,7 @@ fn entry_new(list: &[u8], links: &[u16], i: usize, start: usize) -> bool
     chain_new(list, links, i, start)
 }
 
-// Whether the entries are distinct; if they are, the tables lead to each. Room: `head`, a place for each hash; `next`, one for each entry.
+// Whether the entries are distinct; if they are, the tables lead to each. Room: `head`, a place for each hash; `links`, one for each entry.
 pub fn distinct_in(list: &[u8], head: &mut [u16], links: &mut [u16]) -> bool
     requires { ⌜ (length (now head) ≡ 1025) × (length (now links) ≡ 512) × (length (now list) / 32 ≤ 512) ⌝ }
     requires { ⌜ HeadRight (now list) (now head) 0 ⌝ }

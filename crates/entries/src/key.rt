@@ -1,7 +1,7 @@
 // A name as the 32 bytes of an entry.
 use crate::same::eight_or_less;
 ghost use Prim.Native.Nat.{_+_, _≤_};
-ghost use Rattle.entries.specs.Entry.{KeyStarts};
+ghost use Rattle.entries.specs.Key.{KeyStarts};
 
 // Writes the eight bytes of a name from a place on, NULs past its end, at the same place of the key. By one number of 64 bits: it is read and
 // written at once.

@@ -1,6 +1,7 @@
 // Whether two entries are the same.
 use numbers::four;
 use numbers::u32_at;
+use numbers::wide64;
 ghost use mathlib.Core.Path.{_≡_};
 ghost use Prim.Native.Nat.{_+_, _/_, _≤_, _<_};
 ghost use lib.Dec.{eqb};
@@ -8,19 +9,12 @@ ghost use lib.ListN.{length};
 ghost use Rattle.basics.specs.Numbers.{u64At};
 ghost use Rattle.entries.specs.Entry.{entryAt, sameEntry};
 
-// Four bytes as a number of 64 bits.
-fn wide(x: u32) -> u64
-    ensures { λ r. ⌜ (r ≡ x) × (r < 4294967296) ⌝ }
-{
-    x as u64
-}
-
 // The number in the eight bytes from `at` on.
 pub fn eight(list: &[u8], at: usize) -> u64
     requires { ⌜ at + 8 ≤ length (now list) ⌝ }
     ensures { λ r. ⌜ r ≡ u64At (now (list .entry)) at ⌝ }
 {
-    wide(four(list, at)) + wide(four(list, at + 4)) * 4294967296
+    wide64(four(list, at)) + wide64(four(list, at + 4)) * 4294967296
 }
 
 // The number in the eight bytes from `at` on, of which some or all may lie past the end.
@@ -32,7 +26,7 @@ pub fn eight_or_less(s: &[u8], at: usize) -> u64
         return 0;
     }
     if s.len() < at + 8 {
-        return wide(u32_at(s, at)) + wide(u32_at(s, at + 4)) * 4294967296;
+        return wide64(u32_at(s, at)) + wide64(u32_at(s, at + 4)) * 4294967296;
     }
     eight(s, at)
 }

@@ -8,7 +8,8 @@ use native.Mathlib.Omega.{arith}
 use lib.ListN.{length, getD}
 use Rattle.basics.proofs.Order.{lt-or-ge}
 use Rattle.basics.proofs.Truth.{false-of}
-use Rattle.entries.specs.Entry.{count, entryAt, sameEntry, KeyStarts}
+use Rattle.entries.specs.Entry.{count, entryAt, sameEntry}
+use Rattle.entries.specs.Key.{KeyStarts}
 use Rattle.entries.specs.Chain.{hashOf, lastOfHash, Indexed}
 use Rattle.entries.proofs.Chains.{hash-same, last-none, last-le, last-fix, last-hash}
 use Rattle.entries.proofs.Keys.{key-same}
@@ -32,7 +33,7 @@ module _ (names name : List ℕ) where
   unfolding isEntry
   other-hash k n = false-of (sameEntry (entryAt names k) name) (λ e. n (hash-same (entryAt names k) name e))
 
-  module _ (head next : List ℕ) (x : Indexed names head next) where
+  module _ (head links : List ℕ) (x : Indexed names head links) where
     pub along-start : (key : List ℕ) (h p : ℕ) → KeyStarts name key 32 → h ≡ hashOf key → h < 1025 → p ≡ getD head h 0 → Along names name p
     along-start key h p s eh l ep =
         let e : p ≡ lastOfHash names (hashOf name) (count names) =
@@ -43,7 +44,7 @@ module _ (names name : List ℕ) where
           others = λ k u v. other-hash k (last-none names (hashOf name) (count names) k (omega (arith, e)) v);
         }
 
-    pub along-look : (p i q : ℕ) → Along names name p → (p ≡ 0 → ⊥) → i ≡ p - 1 → q ≡ getD next i 0 → Looking names name i q
+    pub along-look : (p i q : ℕ) → Along names name p → (p ≡ 0 → ⊥) → i ≡ p - 1 → q ≡ getD links i 0 → Looking names name i q
     along-look zero i q a n ei eq = absurd (n refl)
     along-look (suc p) i q a n ei eq =
         record { here = let l = a .inside in omega (arith, is); less = omega (arith, before, last-le names (hashOf name) i); then = on }

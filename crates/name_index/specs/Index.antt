@@ -1,4 +1,4 @@
--- When tables can lead to each name of a list. No promise rests on it: the search gives `lookup` either way.
+-- No promise rests on this file: when tables can lead to each name of a list. The search gives `lookup` either way.
 use Prim.Native.Nat.{ℕ}
 use mathlib.Core.Bool.{Bool, _&&_}
 use mathlib.Core.List.{List}

@@ -1,4 +1,4 @@
-// The search by tables that lead to each name: head, a place for each hash; next, one for each entry.
+// The search by tables that lead to each name: head, a place for each hash; links, one for each entry.
 ghost use mathlib.Core.Path.{_≡_};
 ghost use lib.ListN.{length};
 ghost use Rattle.entries.specs.Chain.{HeadRight, Indexed, IndexedIf};
@@ -14,22 +14,22 @@ use names::find_name;
 use names::no_name;
 
 // Fills the tables that lead to each name, and says whether they do: where the names are distinct, and not too many.
-pub fn index(names: &[u8], head: &mut [u16], next: &mut [u16]) -> bool
-    requires { ⌜ (length (now head) ≡ 1025) × (length (now next) ≡ 512) ⌝ }
+pub fn index(names: &[u8], head: &mut [u16], links: &mut [u16]) -> bool
+    requires { ⌜ (length (now head) ≡ 1025) × (length (now links) ≡ 512) ⌝ }
     requires { ⌜ HeadRight (now names) (now head) 0 ⌝ }
     ensures { λ r. ⌜ r ≡ indexable (now (names .entry)) ⌝ }
-    ensures { λ r. ⌜ IndexedIf r (now (names .entry)) (now (head .exit)) (now (next .exit)) ⌝ }
+    ensures { λ r. ⌜ IndexedIf r (now (names .entry)) (now (head .exit)) (now (links .exit)) ⌝ }
 {
     if 512 < count(names) {
         return false;
     }
-    distinct_in(names, head, next)
+    distinct_in(names, head, links)
 }
 
 // The entry that equals the name, which may end in NULs, where tables lead to each: the search goes along the name's chain alone, and passes
 // to the next entry at the first byte that differs.
-pub fn find(names: &[u8], head: &[u16], next: &[u16], name: &[u8]) -> Lookup
-    requires { ⌜ Indexed (now names) (now head) (now next) ⌝ }
+pub fn find(names: &[u8], head: &[u16], links: &[u16], name: &[u8]) -> Lookup
+    requires { ⌜ Indexed (now names) (now head) (now links) ⌝ }
     ensures { λ r. ⌜ r ≡ lookup (now (names .entry)) (now (name .entry)) ⌝ }
 {
     if no_name(name) {
@@ -48,7 +48,7 @@ pub fn find(names: &[u8], head: &[u16], next: &[u16], name: &[u8]) -> Lookup
             };
         }
         let i = p - 1;
-        p = place_in(next, i);
+        p = place_in(links, i);
         for j in 0..32 {
             if names[i * 32 + j] != key[j] {
                 continue 'entries;
@@ -62,12 +62,12 @@ pub fn find(names: &[u8], head: &[u16], next: &[u16], name: &[u8]) -> Lookup
 }
 
 // The entry that equals the name, by the tables where they lead to each.
-pub fn look_up(names: &[u8], indexed: bool, head: &[u16], next: &[u16], name: &[u8]) -> Lookup
-    requires { ⌜ IndexedIf indexed (now names) (now head) (now next) ⌝ }
+pub fn look_up(names: &[u8], indexed: bool, head: &[u16], links: &[u16], name: &[u8]) -> Lookup
+    requires { ⌜ IndexedIf indexed (now names) (now head) (now links) ⌝ }
     ensures { λ r. ⌜ r ≡ lookup (now (names .entry)) (now (name .entry)) ⌝ }
 {
     if indexed {
-        return find(names, head, next, name);
+        return find(names, head, links, name);
     }
     find_name(names, name)
 }

@@ -8,25 +8,16 @@ use lib.Dec.{eqb}
 use lib.ListN.{length, getD}
 use borrow.Author.Tests.{eq-eqb, ne-eqb, le-leb, lt-leb, eqb-true, leb-true, not-true, not-false}
 use Rattle.basics.specs.Scan.{all}
-use Rattle.basics.proofs.Scan.{all-none, all-more, all-plus, all-fails, all-done, all-each, all-of}
+use Rattle.basics.specs.Nuls.{nulThenNul}
+use Rattle.numbers.specs.Pairs.{pairAt}
+use Rattle.basics.proofs.Scan.{all-none, all-more, all-fails, all-done, all-each, all-of}
 use Rattle.basics.proofs.Truth.{both-true, false-of, clash}
 use Rattle.basics.proofs.Order.{lt-or-ge}
 use mathlib.Core.Logic.{⊎-elim}
 use Rattle.entries.specs.Entry.{count, entryAt, entriesDistinct}
 use Rattle.entries.proofs.Entries.{entry-byte}
-use Rattle.names.specs.Rule.{nulThenNul, entryRight, pairAt, lowRight, highRight, rightAt, namesRight}
-
--- sixteen pairs
-module _ (s : List ℕ) (at : ℕ) where
-  pub pairs-start : true ≡ all 0 (pairAt s at)
-  pairs-start = sym (all-none (pairAt s at))
-
-  pub pairs-more : (j : ℕ) (t : Bool) → t ≡ all j (pairAt s at) → t && (not (eqb (getD s (at + j) 0) 0) || eqb (getD s (at + j + 1) 0) 0) ≡ all (j + 1) (pairAt s at)
-  unfolding pairAt nulThenNul
-  pairs-more j t e = ap (λ (b : Bool). b && (not (eqb (getD s (at + j) 0) 0) || eqb (getD s (at + j + 1) 0) 0)) e ∙ sym (all-plus (pairAt s at) j)
-
-  pub pairs-done : (j : ℕ) (t : Bool) → j ≤ 16 → 16 ≤ j → t ≡ all j (pairAt s at) → t ≡ all 16 (pairAt s at)
-  pairs-done j t l u e = let k : j ≡ 16 = omega arith in rw k at e
+use Rattle.names.specs.Rule.{entryRight, rightAt, namesRight}
+use Rattle.names.specs.Halves.{lowRight, highRight}
 
 -- a test of each entry
 module _ (n : ℕ) (f : ℕ → Bool) where

@@ -14,7 +14,8 @@ use Rattle.basics.specs.Scan.{all, first}
 use Rattle.basics.proofs.Order.{lt-or-ge}
 use Rattle.basics.proofs.Scan.{all-none, all-more, all-fails, first-none, first-more, first-at, first-is}
 use Rattle.basics.proofs.Truth.{false-of, clash}
-use Rattle.entries.specs.Entry.{count, entryAt, sameByte, sameEntry, isEmpty, entriesDistinct}
+use Rattle.entries.specs.Entry.{count, entryAt, sameEntry, isEmpty, entriesDistinct}
+use Rattle.basics.specs.Nuls.{sameByte}
 use Rattle.entries.proofs.Entries.{entry-byte, entry-length, same-bytes, same-of, distinct-one}
 use Rattle.names.specs.Rule.{namesRight}
 use Rattle.names.specs.Search.{isEntry, noName, notFound, foundAt, lookup}

@@ -1,24 +1,12 @@
 // The rule of a name list.
 ghost use mathlib.Core.Path.{_≡_};
-ghost use Prim.Native.Nat.{_+_, _≤_};
-ghost use lib.ListN.{length};
 ghost use Rattle.basics.specs.Scan.{all};
 ghost use Rattle.entries.specs.Entry.{count};
-ghost use Rattle.names.specs.Rule.{pairAt, lowRight, highRight, rightAt, namesRight};
+ghost use Rattle.names.specs.Rule.{rightAt, namesRight};
+ghost use Rattle.names.specs.Halves.{lowRight, highRight};
+use numbers::nuls::nul_pairs;
 
-// Whether each NUL among the sixteen bytes from `at` on is followed by a NUL. No early exit: all bytes are compared at once.
-fn sixteen_right(names: &[u8], at: usize) -> bool
-    requires { ⌜ at + 17 ≤ length (now names) ⌝ }
-    ensures { λ r. ⌜ r ≡ all 16 (pairAt (now (names .entry)) at) ⌝ }
-{
-    let mut right = true;
-    for j in 0..16 {
-        right = right & ((names[at + j] != 0) | (names[at + j + 1] == 0));
-    }
-    right
-}
-
-// Whether it is so in the first half of each entry, whose last byte is NUL.
+// Whether each NUL in the first half of each entry is followed by a NUL, and the last byte is NUL.
 fn low_right(names: &[u8]) -> bool
     ensures { λ r. ⌜ r ≡ all (count (now (names .entry))) (lowRight (now (names .entry))) ⌝ }
 {
@@ -26,7 +14,7 @@ fn low_right(names: &[u8]) -> bool
         if names[i * 32 + 31] != 0 {
             return false;
         }
-        if !sixteen_right(names, i * 32) {
+        if !nul_pairs(names, i * 32, 16) {
             return false;
         }
     }
@@ -38,7 +26,7 @@ fn high_right(names: &[u8]) -> bool
     ensures { λ r. ⌜ r ≡ all (count (now (names .entry))) (highRight (now (names .entry))) ⌝ }
 {
     for i in 0..names.len() / 32 {
-        if !sixteen_right(names, i * 32 + 15) {
+        if !nul_pairs(names, i * 32 + 15, 16) {
             return false;
         }
     }

@@ -7,7 +7,8 @@ use Rattle.bits.specs.Bit.{number}
 use Rattle.bits.specs.Set.{has, wordsOf, somePast, past}
 use Rattle.word_bytes.specs.Bytes.{table, wordsIn, bytesOf}
 use Rattle.bits.specs.Change.{applied, listMask, listValue}
-use Rattle.entries.specs.Entry.{entryAt, sameByte, sameEntry}
+use Rattle.entries.specs.Entry.{entryAt, sameEntry}
+use Rattle.basics.specs.Nuls.{sameByte}
 use Rattle.names.specs.Search.{isEntry, noName, lookup}
 use Rattle.netlink_attributes.specs.Attributes.{attributeAt, partOf, attributesUpTo, attributes}
 use Rattle.netlink.specs.Policy as P

@@ -1,4 +1,6 @@
 // Little-endian numbers in a slice. Past the end of the slice a byte counts as 0, so every position has an answer.
+pub mod nuls;
+
 ghost use mathlib.Core.Path.{_≡_};
 ghost use Prim.Native.Nat.{_+_, _≤_, _<_, min};
 ghost use lib.ListN.{length};
@@ -79,4 +81,11 @@ fn wide32(x: u8) -> u32
     ensures { λ r. ⌜ (r ≡ x) × (r < 256) ⌝ }
 {
     x as u32
+}
+
+// A number of 32 bits as one of 64.
+pub fn wide64(x: u32) -> u64
+    ensures { λ r. ⌜ (r ≡ x) × (r < 4294967296) ⌝ }
+{
+    x as u64
 }

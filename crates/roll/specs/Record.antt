@@ -1,8 +1,7 @@
 -- Document 01, "The box a call is given", port roll: "records of one kind byte, then a body whose length the kind fixes".
-use mathlib.Core.Path.{_≡_}
-use Prim.Native.Nat.{ℕ, zero, suc, _+_, _*_, _≤_, min}
+use Prim.Native.Nat.{ℕ, zero, suc, _+_}
 use mathlib.Core.List.{List, [], _∷_}
-use mathlib.Core.Bool.{Bool, true, false, cond}
+use mathlib.Core.Bool.{Bool, true, false, _&&_, cond}
 use lib.ListN.{length, getD}
 use lib.Dec.{leb, ltb, eqb}
 use Rattle.basics.specs.Numbers.{byteAt, u32At}
@@ -19,20 +18,13 @@ pub record Port : Type 0 where
 unfoldable pub recordSize : ℕ → ℕ
 recordSize kind = cond (eqb kind 1) 21 0
 
--- the most that one takes, and what holds of every kind: none, or room for an index and a name
-abbrev pub mostBytes : ℕ
-mostBytes = 21
-
-abbrev pub SizeFits : ℕ → Type 0
-SizeFits size = (size ≤ mostBytes) × (min 1 size * 21 ≤ size)
-
 -- the record at a place: where a port's index and name start, and where the record ends
 unfoldable pub recordAt : List ℕ → ℕ → RecordRead
 recordAt roll at =
     cond (leb (length roll) at) R.End
     (cond (eqb (recordSize (byteAt roll at)) 0) R.Unknown
     (cond (ltb (length roll) (at + recordSize (byteAt roll at))) R.Cut
-    (R.Port (at + 1) (at + 5) (at + recordSize (byteAt roll at)))))
+    (R.Port (record { index = at + 1; name = at + 5; end = at + recordSize (byteAt roll at) }))))
 
 -- the records in order, to the roll's end or to the first that is broken: of an unknown kind, or cut
 pub data Records : Type 0 where
@@ -45,7 +37,7 @@ abbrev pub onRecord : List ℕ → RecordRead → (ℕ → Records) → Records
 onRecord roll R.End rest = endOfRoll
 onRecord roll R.Unknown rest = badRecord
 onRecord roll R.Cut rest = badRecord
-onRecord roll (R.Port i n e) rest = port (record { index = u32At roll i; name = nameAt roll n }) (rest e)
+onRecord roll (R.Port p) rest = port (record { index = u32At roll (p .index); name = nameAt roll (p .name) }) (rest (p .end))
 
 -- at most so many records from a place on
 unfoldable pub recordsUpTo : ℕ → List ℕ → ℕ → Records
@@ -85,3 +77,7 @@ indexOf roll k = portAt roll k .index
 
 unfoldable pub nameOf : List ℕ → ℕ → List ℕ
 nameOf roll k = portAt roll k .name
+
+-- "1 to 64 ports", in whole records to the roll's end
+unfoldable pub portsListed : List ℕ → Bool
+portsListed roll = allWhole (records roll 0) && (leb 1 (portCount roll) && leb (portCount roll) 64)

@@ -1,16 +1,18 @@
--- The table of a roll's ports, read once.
-use Prim.Native.Nat.{ℕ, _<_, _≤_, _/_, _%_}
+-- No promise rests on this file: the table of a roll's ports, read once, and what the size of a record fits.
+use Prim.Native.Nat.{ℕ, _*_, _/_, _%_, _<_, _≤_, min}
 use mathlib.Core.Path.{_≡_}
 use mathlib.Core.List.{List}
-use mathlib.Core.Bool.{Bool, true, _&&_}
 use lib.ListN.{length, getD}
-use lib.Dec.{leb, ltb}
+use lib.Dec.{ltb}
 use Rattle.roll.specs.Name.{nameAt}
-use Rattle.roll.specs.Record.{records, allWhole, portCount, indexOf, nameOf}
+use Rattle.roll.specs.Record.{portCount, portsListed, indexOf, nameOf}
 
--- "1 to 64 ports", in whole records to the roll's end
-unfoldable pub portsListed : List ℕ → Bool
-portsListed roll = allWhole (records roll 0) && (leb 1 (portCount roll) && leb (portCount roll) 64)
+-- the most that one takes, and what holds of every kind: none, or room for an index and a name
+abbrev pub mostBytes : ℕ
+mostBytes = 21
+
+abbrev pub SizeFits : ℕ → Type 0
+SizeFits size = (size ≤ mostBytes) × (min 1 size * 21 ≤ size)
 
 -- the two halves of a word
 abbrev pub lowOf : ℕ → ℕ

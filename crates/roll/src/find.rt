@@ -2,9 +2,10 @@
 ghost use mathlib.Core.Path.{_≡_};
 ghost use Rattle.roll.specs.Table.{Tabled};
 ghost use Rattle.roll.specs.Find.{foundByIndex, foundByName};
-use crate::name::holds_name;
+use crate::name::holds_name_by;
 use crate::table::index_of;
 use crate::table::name_of;
+use numbers::u32_at;
 
 pub enum Found {
     // Which port it is, from 0.
@@ -30,8 +31,9 @@ pub fn port_of_name(roll: &[u8], ports: &[u64], wanted: &[u8]) -> Found
     requires { ⌜ Tabled (now roll) (now ports) ⌝ }
     ensures { λ r. ⌜ r ≡ foundByName (now (roll .entry)) (now (wanted .entry)) ⌝ }
 {
+    let probe = u32_at(wanted, 8);
     for k in 0..ports.len() {
-        if holds_name(name_of(roll, ports, k), wanted) {
+        if holds_name_by(name_of(roll, ports, k), wanted, probe) {
             return Found::At(k);
         }
     }

@@ -1,9 +1,11 @@
 // The name of a port: a field of 16 bytes.
 ghost use mathlib.Core.Path.{_≡_};
-ghost use Prim.Native.Nat.{_<_};
-ghost use Rattle.roll.specs.Name.{nameAt, sameName, holdsName, nulThenNul, nameRight};
+ghost use lib.Dec.{eqb};
+ghost use lib.ListN.{length};
+ghost use Rattle.basics.specs.Numbers.{u32At};
+ghost use Rattle.roll.specs.Name.{nameAt, sameName, holdsName, nameRight};
 use netlink_attributes::payload;
-use numbers::byte_at;
+use numbers::nuls::nul_pairs;
 use numbers::u32_at;
 
 // The 16 bytes at a place of the roll; none where they do not lie in it.
@@ -19,20 +21,27 @@ pub fn name_at(roll: &[u8], at: usize) -> &[u8]
     payload(roll, at, at + 16)
 }
 
+// Whether two names have the same four bytes at a place, NULs past the end of a name.
+fn same_at(a: &[u8], b: &[u8], at: usize) -> bool
+    ensures { λ r. ⌜ r ≡ eqb (u32At (now (a .entry)) at) (u32At (now (b .entry)) at) ⌝ }
+{
+    u32_at(a, at) == u32_at(b, at)
+}
+
 // Whether two fields hold the same name, four bytes at a time, those in which the names of one box differ first. NULs follow the shorter one.
 pub fn same_name(a: &[u8], b: &[u8]) -> bool
     ensures { λ r. ⌜ r ≡ sameName (now (a .entry)) (now (b .entry)) ⌝ }
 {
-    if u32_at(a, 8) != u32_at(b, 8) {
+    if !same_at(a, b, 8) {
         return false;
     }
-    if u32_at(a, 4) != u32_at(b, 4) {
+    if !same_at(a, b, 4) {
         return false;
     }
-    if u32_at(a, 0) != u32_at(b, 0) {
+    if !same_at(a, b, 0) {
         return false;
     }
-    u32_at(a, 12) == u32_at(b, 12)
+    same_at(a, b, 12)
 }
 
 // Whether a field holds the name, NULs after it.
@@ -45,31 +54,31 @@ pub fn holds_name(field: &[u8], name: &[u8]) -> bool
     same_name(field, name)
 }
 
-// Whether a NUL at j is followed by a NUL.
-fn nul_then_nul(field: &[u8], j: usize) -> bool
-    requires { ⌜ j < 15 ⌝ }
-    ensures { λ r. ⌜ r ≡ nulThenNul (now (field .entry)) j ⌝ }
+// The same, of a name whose four bytes at 8 are known: those are compared first, and tell most fields of a box.
+pub fn holds_name_by(field: &[u8], name: &[u8], probe: u32) -> bool
+    requires { ⌜ probe ≡ u32At (now name) 8 ⌝ }
+    ensures { λ r. ⌜ r ≡ holdsName (now (field .entry)) (now (name .entry)) ⌝ }
 {
-    if byte_at(field, j) != 0 {
-        return true;
+    if u32_at(field, 8) != probe {
+        return false;
     }
-    byte_at(field, j + 1) == 0
+    holds_name(field, name)
 }
 
-// Whether a field is 1 to 15 bytes that are not NUL, then NULs only.
+// Whether a field of 16 bytes is 1 to 15 bytes that are not NUL, then NULs only. Its fifteen pairs of bytes are eight and eight, of which
+// one is in both: eight are compared at once.
 pub fn name_right(field: &[u8]) -> bool
+    requires { ⌜ length (now field) ≡ 16 ⌝ }
     ensures { λ r. ⌜ r ≡ nameRight (now (field .entry)) ⌝ }
 {
-    if byte_at(field, 0) == 0 {
+    if field[0] == 0 {
         return false;
     }
-    if byte_at(field, 15) != 0 {
+    if field[15] != 0 {
         return false;
     }
-    for j in 0..15 {
-        if !nul_then_nul(field, j) {
-            return false;
-        }
+    if !nul_pairs(field, 0, 8) {
+        return false;
     }
-    true
+    nul_pairs(field, 7, 8)
 }

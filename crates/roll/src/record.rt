@@ -1,14 +1,17 @@
 // One record of a roll: a kind byte, then a body whose length the kind fixes.
 ghost use mathlib.Core.Path.{_≡_};
-ghost use Rattle.roll.specs.Record.{recordSize, SizeFits, recordAt};
+ghost use Rattle.roll.specs.Record.{recordSize, recordAt};
+ghost use Rattle.roll.specs.Table.{SizeFits};
+
+// Where a port's index (4 bytes) and its name (16 bytes) start, and where the record ends.
+pub struct PortRecord {
+    pub index: usize,
+    pub name: usize,
+    pub end: usize,
+}
 
 pub enum RecordRead {
-    // A port: where its index (4 bytes) and its name (16 bytes) start, and where the record ends.
-    Port {
-        index: usize,
-        name: usize,
-        end: usize,
-    },
+    Port(PortRecord),
     // A kind that no record has.
     Unknown,
     // The roll ends inside the record.
@@ -41,9 +44,9 @@ pub fn read_record(roll: &[u8], at: usize) -> RecordRead
     if roll.len() - at < size {
         return RecordRead::Cut;
     }
-    RecordRead::Port {
+    RecordRead::Port(PortRecord {
         index: at + 1,
         name: at + 5,
         end: at + size,
-    }
+    })
 }

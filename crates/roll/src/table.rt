@@ -30,13 +30,13 @@ pub fn read_ports(roll: &[u8], table: &mut [u64]) -> usize
     let mut at = 0;
     loop {
         match read_record(roll, at) {
-            RecordRead::Port { index, name, end } => {
+            RecordRead::Port(port) => {
                 if count == PORTS {
                     return 0;
                 }
-                table[count] = word(u32_at(roll, index), name);
+                table[count] = word(u32_at(roll, port.index), port.name);
                 count += 1;
-                at = end;
+                at = port.end;
             }
             RecordRead::Unknown => {
                 return 0;

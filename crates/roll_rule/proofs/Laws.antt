@@ -8,9 +8,9 @@ use borrow.Author.Tests.{le-leb, lt-leb, lt-ltb, le-ltb, ltb-true, not-true, not
 use Rattle.basics.specs.Scan.{all}
 use Rattle.basics.proofs.Scan.{all-none, all-more, all-fails, all-done, all-each}
 use Rattle.basics.proofs.Truth.{both-true}
-use Rattle.roll.specs.Record.{records, allWhole, portCount, indexOf, nameOf}
+use Rattle.roll.specs.Record.{records, allWhole, portCount, indexOf, nameOf, portsListed}
 use Rattle.roll.specs.Name.{nameRight}
-use Rattle.roll.specs.Table.{portsListed, Tabled, TableRead}
+use Rattle.roll.specs.Table.{Tabled, TableRead}
 use lib.ListN.{length}
 use Rattle.roll.proofs.table.Laws.{listed-some}
 use Rattle.roll_rule.specs.Rule.{portRight, portsDistinct, rollRight}

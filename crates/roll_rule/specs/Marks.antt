@@ -1,4 +1,4 @@
--- How ports that may be alike are told apart in one pass: each gets a mark, and alike ones get the same. No promise rests on the marks.
+-- No promise rests on this file: how ports are told apart in one pass. Each gets a mark, and alike ones get the same.
 use Prim.Native.Nat.{ℕ, _+_, _*_, _/_, _%_, _<_}
 use mathlib.Core.Path.{_≡_}
 use mathlib.Core.List.{List}

@@ -4,9 +4,8 @@ use mathlib.Core.List.{List}
 use mathlib.Core.Bool.{Bool, _&&_, not}
 use lib.Dec.{leb, eqb}
 use Rattle.basics.specs.Scan.{all}
-use Rattle.roll.specs.Record.{portCount, indexOf, nameOf}
+use Rattle.roll.specs.Record.{portCount, indexOf, nameOf, portsListed}
 use Rattle.roll.specs.Name.{sameName, nameRight}
-use Rattle.roll.specs.Table.{portsListed}
 
 -- "Index 1 to 2,147,483,647; name 1 to 15 bytes that aren't NUL, then NULs only"
 unfoldable pub portRight : List ℕ → ℕ → Bool

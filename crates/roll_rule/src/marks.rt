@@ -6,15 +6,10 @@ ghost use Rattle.roll.specs.Table.{Tabled};
 ghost use Rattle.roll_rule.specs.Rule.{isNew, portsDistinct};
 ghost use Rattle.roll_rule.specs.Marks.{indexMark, nameMark, markOfIndex, markOfName, Marked};
 use crate::distinct::is_new;
-use numbers::u32_at;
+use numbers::four;
+use numbers::wide64;
 use roll::table::index_of;
 use roll::table::name_of;
-
-fn wide(x: u32) -> u64
-    ensures { λ r. ⌜ (r ≡ x) × (r < 4294967296) ⌝ }
-{
-    x as u64
-}
 
 // The mark of an index.
 fn index_mark(number: u32) -> usize
@@ -25,12 +20,13 @@ fn index_mark(number: u32) -> usize
 
 // The mark of a name.
 fn name_mark(field: &[u8]) -> usize
+    requires { ⌜ length (now field) ≡ 16 ⌝ }
     ensures { λ r. ⌜ (r ≡ nameMark (now (field .entry))) × (r < 1024) ⌝ }
 {
-    let a = wide(u32_at(field, 0));
-    let b = wide(u32_at(field, 4));
-    let c = wide(u32_at(field, 8));
-    let d = wide(u32_at(field, 12));
+    let a = wide64(four(field, 0));
+    let b = wide64(four(field, 4));
+    let c = wide64(four(field, 8));
+    let d = wide64(four(field, 12));
     ((a * 483130339 + b * 407823575 + c * 476453121 + d * 347328907) / 4194304 % 1024) as usize
 }
 

@@ -3,23 +3,23 @@ use Prim.Native.Nat.{_≤_, _-_}
 use mathlib.Core.Path.{refl}
 use native.Mathlib.Omega.{arith}
 use borrow.Author.Needs.{needs}
-use Rattle.entries.specs.Entry.{KeyStarts}
+use Rattle.entries.specs.Key.{KeyStarts}
 use Rattle.names.proofs.Search.{SameBefore, name-barred, same-start}
 use Rattle.name_index.proofs.Along.{Along, Looking, along-start, along-look, along-found, along-on, along-more, along-end}
 use Rattle.name_index.proofs.find.Statement.{statement}
 use Rattle.name_index.proofs.find.Tie as tie
 
 abbrev Inv-loop : tie.InvT-loop
-Inv-loop names head next name key p i j₀ j = (j ≤ 32) × SameBefore names name i j × Looking names name i p × KeyStarts name key 32
+Inv-loop names head links name key p i j₀ j = (j ≤ 32) × SameBefore names name i j × Looking names name i p × KeyStarts name key 32
 
 abbrev μ-loop : tie.MeasureT-loop
-μ-loop names head next name key p i j₀ j = 32 - j
+μ-loop names head links name key p i j₀ j = 32 - j
 
 abbrev Inv-entries : tie.InvT-entries
-Inv-entries names head next name key p₀ p = Along names name p × KeyStarts name key 32
+Inv-entries names head links name key p₀ p = Along names name p × KeyStarts name key 32
 
 abbrev μ-entries : tie.MeasureT-entries
-μ-entries names head next name key p₀ p = p
+μ-entries names head links name key p₀ p = p
 
 no-name-requires : tie.Need-no-name-requires Inv-loop μ-loop Inv-entries μ-entries
 no-name-requires c κs = search needs

@@ -9,14 +9,16 @@ use lib.Dec.{eqb, leb}
 use native.Mathlib.Omega.{arith}
 use borrow.Author.Tests.{eq-eqb, ne-eqb, eqb-true, le-leb, lt-leb, not-true, not-false}
 use Rattle.basics.specs.Numbers.{byteAt, u32At}
+use Rattle.basics.specs.Nuls.{nulThenNul, sameByte}
 use Rattle.basics.specs.Scan.{all}
+use Rattle.numbers.specs.Pairs.{pairAt}
 use Rattle.basics.proofs.Numbers.{same-four}
 use Rattle.basics.proofs.Order.{lt-or-ge}
-use Rattle.basics.proofs.Scan.{all-none, all-more, all-fails, all-done, all-of, all-each}
+use Rattle.basics.proofs.Scan.{all-of, all-each}
 use Rattle.basics.proofs.Truth.{false-of, both-true, clash}
 use Rattle.netlink_attributes.specs.Attributes.{partOf}
 use Rattle.netlink_attributes.proofs.Laws.{part-past}
-use Rattle.roll.specs.Name.{nameAt, sameByte, sameName, holdsName, nulThenNul, nameRight}
+use Rattle.roll.specs.Name.{nameAt, sameName, holdsName, nameRight}
 
 -- the field at a place
 module _ (roll : List ℕ) (at : ℕ) where
@@ -40,11 +42,11 @@ pub ruleset field-laws = (field-short, field-past, field-in)
 -- two names
 module _ (a b : List ℕ) where
   pub same-bytes : sameName a b ≡ true → (j : ℕ) → j < 16 → byteAt a j ≡ byteAt b j
-  unfolding sameName sameByte
+  unfolding sameName sameByte byteAt
   same-bytes h j l = eqb-true _ _ (all-each (sameByte a b) 16 j h l)
 
   pub same-of : ((j : ℕ) → j < 16 → byteAt a j ≡ byteAt b j) → sameName a b ≡ true
-  unfolding sameName sameByte
+  unfolding sameName sameByte byteAt
   same-of h = all-of (sameByte a b) 16 (λ j l. eq-eqb _ _ (h j l))
 
   pub four-same : (p : ℕ) → p + 4 ≤ 16 → sameName a b ≡ true → u32At a p ≡ u32At b p
@@ -53,28 +55,20 @@ module _ (a b : List ℕ) where
       rw
       (same-bytes h p (omega arith), same-bytes h (p + 1) (omega arith), same-bytes h (p + 2) (omega arith), same-bytes h (p + 3) (omega arith))
 
-  module _ (p x y : ℕ) (ex : x ≡ u32At a p) (ey : y ≡ u32At b p) where
-    pub four-differ : (x ≡ y → ⊥) → p + 4 ≤ 16 → false ≡ sameName a b
-    four-differ n l = sym (false-of (sameName a b) (λ h. n (ex ∙ four-same p l h ∙ sym ey)))
+  pub four-told : (p x y : ℕ) → x ≡ u32At a p → y ≡ u32At b p → eqb x y ≡ eqb (u32At a p) (u32At b p)
+  four-told p x y ex ey = rw (ex, ey)
+
+  pub four-differ : (p : ℕ) (t : Bool) → t ≡ eqb (u32At a p) (u32At b p) → not t ≡ true → p + 4 ≤ 16 → false ≡ sameName a b
+  four-differ p t et n l = sym (false-of (sameName a b) (λ h. clash (eq-eqb _ _ (four-same p l h)) (sym et ∙ not-true t n)))
 
   module _ (sa : (j : ℕ) → getD a j 0 < 256) (sb : (j : ℕ) → getD b j 0 < 256) where
     bytes : (p j : ℕ) → u32At a p ≡ u32At b p → p ≤ j → j < p + 4 → byteAt a j ≡ byteAt b j
-    unfolding u32At byteAt
-    bytes p j e l u = let k : j ≡ p + (j - p) = omega arith in rw k (at (j - p) (omega arith))
-      where
-        four : (getD a p 0 ≡ getD b p 0) × (getD a (p + 1) 0 ≡ getD b (p + 1) 0) × (getD a (p + 2) 0 ≡ getD b (p + 2) 0) × (getD a (p + 3) 0 ≡ getD b (p + 3) 0)
-        four =
-            same-four (getD a p 0) (getD a (p + 1) 0) (getD a (p + 2) 0) (getD a (p + 3) 0) (getD b p 0) (getD b (p + 1) 0) (getD b (p + 2) 0) (getD b (p + 3) 0)
-            (sa p) (sa (p + 1)) (sa (p + 2)) (sb p) (sb (p + 1)) (sb (p + 2)) e
+    unfolding byteAt
+    bytes p j e l u =
+        let k : j ≡ p + (j - p) = omega arith in
+        rw k (same-four a b p (λ i h. sa (p + i)) (λ i h. sb (p + i)) e (j - p) (omega arith))
 
-        at : (r : ℕ) → r < 4 → getD a (p + r) 0 ≡ getD b (p + r) 0
-        at zero h = let z : p + 0 ≡ p = omega arith in rw z (four .0)
-        at (suc zero) h = four .1
-        at (suc (suc zero)) h = four .2
-        at (suc (suc (suc zero))) h = four .3
-        at (suc (suc (suc (suc r)))) h = absurd (omega arith)
-
-    pub fours-same : u32At a 0 ≡ u32At b 0 → u32At a 4 ≡ u32At b 4 → u32At a 8 ≡ u32At b 8 → u32At a 12 ≡ u32At b 12 → sameName a b ≡ true
+    fours-same : u32At a 0 ≡ u32At b 0 → u32At a 4 ≡ u32At b 4 → u32At a 8 ≡ u32At b 8 → u32At a 12 ≡ u32At b 12 → sameName a b ≡ true
     fours-same e0 e4 e8 e12 = same-of (λ j l. ⊎-elim (λ (u : j < 8). low j u) (λ (u : 8 ≤ j). high j u l) (lt-or-ge j 8))
       where
         low : (j : ℕ) → j < 8 → byteAt a j ≡ byteAt b j
@@ -84,13 +78,16 @@ module _ (a b : List ℕ) where
         high j g l = ⊎-elim (λ (u : j < 12). bytes 8 j e8 g u) (λ (u : 12 ≤ j). bytes 12 j e12 u l) (lt-or-ge j 12)
 
     -- the last four decide, where the others are equal
-    pub fours-decide : (x0 y0 x4 y4 x8 y8 x y : ℕ) → x0 ≡ u32At a 0 → y0 ≡ u32At b 0 → x0 ≡ y0 → x4 ≡ u32At a 4 → y4 ≡ u32At b 4 → x4 ≡ y4
-        → x8 ≡ u32At a 8 → y8 ≡ u32At b 8 → x8 ≡ y8 → x ≡ u32At a 12 → y ≡ u32At b 12 → eqb x y ≡ sameName a b
-    fours-decide x0 y0 x4 y4 x8 y8 x y a0 b0 e0 a4 b4 e4 a8 b8 e8 ex ey = go (eqb x y) refl
+    pub fours-decide : (t8 t4 t0 t : Bool) → t8 ≡ eqb (u32At a 8) (u32At b 8) → not t8 ≡ false → t4 ≡ eqb (u32At a 4) (u32At b 4) → not t4 ≡ false
+        → t0 ≡ eqb (u32At a 0) (u32At b 0) → not t0 ≡ false → t ≡ eqb (u32At a 12) (u32At b 12) → t ≡ sameName a b
+    fours-decide t8 t4 t0 t e8 n8 e4 n4 e0 n0 e = go t e
       where
-        go : (t : Bool) → eqb x y ≡ t → t ≡ sameName a b
-        go true q = sym (fours-same (sym a0 ∙ e0 ∙ b0) (sym a4 ∙ e4 ∙ b4) (sym a8 ∙ e8 ∙ b8) (sym ex ∙ eqb-true _ _ q ∙ ey))
-        go false q = four-differ 12 x y ex ey (λ p. clash (eq-eqb _ _ p) q) (omega arith)
+        equal : (p : ℕ) (b′ : Bool) → b′ ≡ eqb (u32At a p) (u32At b p) → not b′ ≡ false → u32At a p ≡ u32At b p
+        equal p b′ q n = eqb-true _ _ (sym q ∙ not-false b′ n)
+
+        go : (z : Bool) → z ≡ eqb (u32At a 12) (u32At b 12) → z ≡ sameName a b
+        go true q = sym (fours-same (equal 0 t0 e0 n0) (equal 4 t4 e4 n4) (equal 8 t8 e8 n8) (eqb-true _ _ (sym q)))
+        go false q = four-differ 12 false q refl (omega arith)
 
 -- a field that holds a name
 module _ (field name : List ℕ) where
@@ -106,50 +103,52 @@ module _ (field name : List ℕ) where
   unfolding holdsName
   named-same h = both-true (leb (length name) 16) (sameName field name) h .1
 
+  pub name-probed : (x y : ℕ) → x ≡ u32At field 8 → y ≡ u32At name 8 → (x ≡ y → ⊥) → false ≡ holdsName field name
+  name-probed x y ex ey n =
+      sym (false-of (holdsName field name) (λ h. n (ex ∙ four-same field name 8 (omega arith) (named-same h) ∙ sym ey)))
+
 pub ruleset named-laws = (name-long, name-fits)
 
--- the rule of a name
+-- the rule of a name, by its first byte, its last, and its pairs: eight from 0 on, eight from 7 on
 module _ (s : List ℕ) where
-  module _ (j x : ℕ) (ex : x ≡ byteAt s j) where
-    pub nul-no : (x ≡ 0 → ⊥) → true ≡ nulThenNul s j
-    unfolding nulThenNul
-    nul-no n = sym (rw (← ex, ne-eqb _ _ n))
+  pub right-empty : getD s 0 0 ≡ 0 → false ≡ nameRight s
+  unfolding nameRight byteAt
+  right-empty z = sym (rw (eq-eqb _ _ z))
 
-    pub nul-yes : (y : ℕ) → x ≡ 0 → y ≡ byteAt s (j + 1) → eqb y 0 ≡ nulThenNul s j
-    unfolding nulThenNul
-    nul-yes y z ey = sym (rw (← ex, eq-eqb _ _ z, ← ey))
+  module _ (n : getD s 0 0 ≡ 0 → ⊥) where
+    pub right-full : (getD s 15 0 ≡ 0 → ⊥) → false ≡ nameRight s
+    unfolding nameRight byteAt
+    right-full z = sym (rw (ne-eqb _ _ n, ne-eqb _ _ z))
 
-  module _ (x : ℕ) (ex : x ≡ byteAt s 0) where
-    pub right-empty : x ≡ 0 → false ≡ nameRight s
-    unfolding nameRight
-    right-empty z = sym (rw (← ex, eq-eqb _ _ z))
+    module _ (z : getD s 15 0 ≡ 0) where
+      rest : nameRight s ≡ all 15 (nulThenNul s)
+      unfolding nameRight byteAt
+      rest = rw (ne-eqb _ _ n, eq-eqb _ _ z)
 
-    module _ (n : x ≡ 0 → ⊥) (y : ℕ) (ey : y ≡ byteAt s 15) where
-      pub right-full : (y ≡ 0 → ⊥) → false ≡ nameRight s
-      unfolding nameRight
-      right-full z = sym (rw (← ex, ne-eqb _ _ n, ← ey, ne-eqb _ _ z))
+      part : (from : ℕ) → from ≤ 7 → all 15 (nulThenNul s) ≡ true → all 8 (pairAt s from) ≡ true
+      unfolding pairAt
+      part from u h = all-of (pairAt s from) 8 (λ j l. all-each (nulThenNul s) 15 (from + j) h (omega arith))
 
-      module _ (z : y ≡ 0) where
-        rest : nameRight s ≡ all 15 (nulThenNul s)
-        unfolding nameRight
-        rest = rw (← ex, ne-eqb _ _ n, ← ey, eq-eqb _ _ z)
+      pub right-low : (b : Bool) → b ≡ all 8 (pairAt s 0) → not b ≡ true → false ≡ nameRight s
+      right-low b e q = sym (rest ∙ false-of (all 15 (nulThenNul s)) (λ h. clash (part 0 (omega arith) h) (sym e ∙ not-true b q)))
 
-        pub right-not : (j : ℕ) (b : Bool) → j < 15 → b ≡ nulThenNul s j → not b ≡ true → false ≡ nameRight s
-        right-not j b l e q = sym (rest ∙ all-fails (nulThenNul s) 15 j l (sym e ∙ not-true b q))
+      pub right-high : (b c : Bool) → b ≡ all 8 (pairAt s 0) → not b ≡ false → c ≡ all 8 (pairAt s 7) → c ≡ nameRight s
+      unfolding pairAt
+      right-high b c e q ec = go c ec
+        where
+          each : all 8 (pairAt s 7) ≡ true → (j : ℕ) → j < 15 → nulThenNul s j ≡ true
+          each h j l =
+              ⊎-elim
+              (λ (u : j < 8). let k : j ≡ 0 + j = omega arith in ap (nulThenNul s) k ∙ all-each (pairAt s 0) 8 j (sym e ∙ not-false b q) u)
+              (λ (u : 8 ≤ j). let k : j ≡ 7 + (j - 7) = omega arith in ap (nulThenNul s) k ∙ all-each (pairAt s 7) 8 (j - 7) h (omega arith))
+              (lt-or-ge j 8)
 
-        pub right-done : (j : ℕ) → all j (nulThenNul s) ≡ true → j ≤ 15 → 15 ≤ j → true ≡ nameRight s
-        right-done j h l u = sym (rest ∙ all-done (nulThenNul s) 15 j h l u)
-
-  pub right-start : all 0 (nulThenNul s) ≡ true
-  right-start = all-none (nulThenNul s)
-
-  pub right-more : (j : ℕ) (b : Bool) → all j (nulThenNul s) ≡ true → b ≡ nulThenNul s j → not b ≡ false → all (j + 1) (nulThenNul s) ≡ true
-  right-more j b h e q = all-more (nulThenNul s) j h (sym e ∙ not-false b q)
+          go : (t : Bool) → t ≡ all 8 (pairAt s 7) → t ≡ nameRight s
+          go true p = sym (rest ∙ all-of (nulThenNul s) 15 (each (sym p)))
+          go false p = sym (rest ∙ false-of (all 15 (nulThenNul s)) (λ h. clash (part 7 (omega arith) h) (sym p)))
 
   pub right-starts : nameRight s ≡ true → byteAt s 0 ≡ 0 → ⊥
   unfolding nameRight
   right-starts h z = clash h (rw z)
 
-pub ruleset nul-laws = (nul-no, nul-yes)
-
-pub ruleset right-laws = (right-empty, right-full, right-not, right-done, right-start, right-more)
+pub ruleset right-laws = (right-empty, right-full, right-low, right-high)

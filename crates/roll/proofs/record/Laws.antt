@@ -12,8 +12,10 @@ use Rattle.basics.specs.Numbers.{byteAt, u32At}
 use Rattle.roll.specs.Name.{nameAt}
 use Rattle.basics.proofs.Order.{lt-or-ge}
 use Rattle.roll.specs.declared.record.RecordRead.{RecordRead}
-use Rattle.roll.specs.declared.record.RecordRead.the-variants.{Port, Unknown, Cut, End}
-use Rattle.roll.specs.Record.{recordSize, mostBytes, SizeFits, recordAt, Records, onRecord, recordsUpTo, records}
+use Rattle.roll.specs.declared.record.PortRecord.{PortRecord}
+use Rattle.roll.specs.declared.record.RecordRead.the-variants as R
+use Rattle.roll.specs.Record.{recordSize, recordAt, Records, onRecord, recordsUpTo, records}
+use Rattle.roll.specs.Table.{mostBytes, SizeFits}
 use Rattle.roll.specs.Record.Records.{endOfRoll, badRecord, port}
 
 -- each kind
@@ -36,21 +38,21 @@ module _ (kind : ℕ) where
 pub ruleset size-laws = (size-port, size-none)
 
 module _ (roll : List ℕ) (at : ℕ) where
-  pub record-end : length roll ≤ at → End ≡ recordAt roll at
+  pub record-end : length roll ≤ at → R.End ≡ recordAt roll at
   unfolding recordAt
   record-end h = simp (le-leb _ _ h)
 
   module _ (h : at < length roll) (size : ℕ) (es : size ≡ recordSize (getD roll at 0)) where
-    pub record-unknown : size ≡ 0 → Unknown ≡ recordAt roll at
+    pub record-unknown : size ≡ 0 → R.Unknown ≡ recordAt roll at
     unfolding recordAt byteAt
     record-unknown z = sym (rw (lt-leb _ _ h, ← es, eq-eqb _ _ z))
 
     module _ (k : size ≡ 0 → ⊥) where
-      pub record-cut : length roll - at < size → Cut ≡ recordAt roll at
+      pub record-cut : length roll - at < size → R.Cut ≡ recordAt roll at
       unfolding recordAt byteAt
       record-cut c = let g : length roll < at + size = omega arith in sym (rw (lt-leb _ _ h, ← es, ne-eqb _ _ k, lt-ltb _ _ g))
 
-      pub record-port : (i n e : ℕ) → i ≡ at + 1 → n ≡ at + 5 → e ≡ at + size → size ≤ length roll - at → Port i n e ≡ recordAt roll at
+      pub record-port : (i n e : ℕ) → i ≡ at + 1 → n ≡ at + 5 → e ≡ at + size → size ≤ length roll - at → R.Port (record { index = i; name = n; end = e }) ≡ recordAt roll at
       unfolding recordAt byteAt
       record-port i n e ei en ee c =
           let g : at + size ≤ length roll = omega arith in
@@ -60,10 +62,11 @@ pub ruleset record-laws = (record-end, record-unknown, record-cut, record-port)
 
 -- where a port's record lies: its index behind the kind, its name behind the index, its end behind the name and in the roll
 abbrev pub Bounded : List ℕ → ℕ → RecordRead → Type 0
-Bounded roll at End = length roll ≤ at
-Bounded roll at Unknown = at < length roll
-Bounded roll at Cut = at < length roll
-Bounded roll at (Port i n e) = (i ≡ at + 1) × (n ≡ i + 4) × (n + 16 ≤ e) × (e ≤ length roll) × (e ≤ at + mostBytes)
+Bounded roll at R.End = length roll ≤ at
+Bounded roll at R.Unknown = at < length roll
+Bounded roll at R.Cut = at < length roll
+Bounded roll at (R.Port p) =
+    (p .index ≡ at + 1) × (p .name ≡ p .index + 4) × (p .name + 16 ≤ p .end) × (p .end ≤ length roll) × (p .end ≤ at + mostBytes)
 
 pub bounded : (roll : List ℕ) (at : ℕ) → Bounded roll at (recordAt roll at)
 bounded roll at =
@@ -85,10 +88,10 @@ bounded roll at =
 -- as far as what follows agrees
 on-same : (roll : List ℕ) (at : ℕ) (r : RecordRead) (f g : ℕ → Records) → Bounded roll at r
     → ((k : ℕ) → at < k → k ≤ length roll → f k ≡ g k) → onRecord roll r f ≡ onRecord roll r g
-on-same roll at End f g b p = refl
-on-same roll at Unknown f g b p = refl
-on-same roll at Cut f g b p = refl
-on-same roll at (Port i n e) f g b p = ap (port (record { index = u32At roll i; name = nameAt roll n })) (p e (omega arith) (omega arith))
+on-same roll at R.End f g b p = refl
+on-same roll at R.Unknown f g b p = refl
+on-same roll at R.Cut f g b p = refl
+on-same roll at (R.Port r) f g b p = ap (port (record { index = u32At roll (r .index); name = nameAt roll (r .name) })) (p (r .end) (omega arith) (omega arith))
 
 -- a larger bound on the count changes nothing
 enough : (m n : ℕ) (s : List ℕ) (at : ℕ) → length s ≤ m + at → length s ≤ n + at → recordsUpTo (suc m) s at ≡ recordsUpTo (suc n) s at
@@ -112,9 +115,9 @@ module _ (roll : List ℕ) (at : ℕ) (r : RecordRead) (e : r ≡ recordAt roll 
   turn = records-step roll at ∙ ap (λ (x : RecordRead). onRecord roll x (records roll)) (sym e)
 
   -- where it is a port's
-  module _ (i n z : ℕ) (q : r ≡ Port i n z) where
-    pub lies : (i ≡ at + 1) × (n ≡ i + 4) × (n + 16 ≤ z) × (z ≤ length roll) × (z ≤ at + mostBytes)
+  module _ (p : PortRecord) (q : r ≡ R.Port p) where
+    pub lies : (p .index ≡ at + 1) × (p .name ≡ p .index + 4) × (p .name + 16 ≤ p .end) × (p .end ≤ length roll) × (p .end ≤ at + mostBytes)
     lies = rw (sym e ∙ q) at (bounded roll at)
 
-    pub port-less : length roll - z < length roll - at
+    pub port-less : length roll - p .end < length roll - at
     port-less = let b = lies in omega arith

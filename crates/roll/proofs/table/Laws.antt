@@ -16,9 +16,10 @@ use Rattle.basics.proofs.Truth.{both-true}
 use Rattle.netlink_attributes.proofs.Laws.{part-in}
 use lib.ListN.{length-take, length-drop}
 use Rattle.roll.specs.Name.{nameAt}
-use Rattle.roll.specs.Record.{Port, mostBytes, recordAt, Records, onRecord, recordsUpTo, records, allWhole, recordPorts, portsOf, portCount, portAt, indexOf, nameOf}
+use Rattle.roll.specs.Record.{Port, recordAt, Records, onRecord, recordsUpTo, records, allWhole, recordPorts, portsOf, portCount, portAt, indexOf, nameOf, portsListed}
 use Rattle.roll.specs.Record.Records.{endOfRoll, badRecord, port}
-use Rattle.roll.specs.Table.{portsListed, lowOf, highOf, Tabled, TableRead}
+use Rattle.roll.specs.Table.{lowOf, highOf, Tabled, TableRead, mostBytes}
+use Rattle.roll.specs.declared.record.PortRecord.{PortRecord}
 use Rattle.roll.specs.declared.record.RecordRead.{RecordRead}
 use Rattle.roll.specs.declared.record.RecordRead.the-variants as R
 use Rattle.roll.proofs.record.Laws.{Bounded, bounded, turn, lies, port-less}
@@ -123,12 +124,12 @@ module _ (roll table : List ℕ) (count at : ℕ) (f : Filled roll table count a
       same true = refl
       same false = refl
 
-  module _ (i n z : ℕ) (q : r ≡ R.Port i n z) where
+  module _ (p : PortRecord) (q : r ≡ R.Port p) where
     abbrev here : Port
-    here = record { index = u32At roll i; name = nameAt roll n }
+    here = record { index = u32At roll (p .index); name = nameAt roll (p .name) }
 
-    stands : (behind (suc count) (records roll 0) ≡ records roll z) × (count < length (recordPorts (records roll 0))) × (getD (recordPorts (records roll 0)) count (record { index = 0; name = [] }) ≡ here)
-    stands = behind-port count (records roll 0) (records roll z) here _ (f .left ∙ rw q at (turn roll at r e))
+    stands : (behind (suc count) (records roll 0) ≡ records roll (p .end)) × (count < length (recordPorts (records roll 0))) × (getD (recordPorts (records roll 0)) count (record { index = 0; name = [] }) ≡ here)
+    stands = behind-port count (records roll 0) (records roll (p .end)) here _ (f .left ∙ rw q at (turn roll at r e))
 
     pub read-many : count ≡ 64 → TableRead roll (take 0 table)
     unfolding portsListed portCount portsOf
@@ -137,18 +138,18 @@ module _ (roll table : List ℕ) (count at : ℕ) (f : Filled roll table count a
         let l : 64 < length (recordPorts (records roll 0)) = omega (arith, s .1) in
         none-read roll table (rw (lt-leb _ _ l, and-false, and-false))
 
-    pub name-fits : n < 65536
-    name-fits = let b = lies roll at r e i n z q in let p = f .place in let u = f .few in omega arith
+    pub name-fits : p .name < 65536
+    name-fits = let b = lies roll at r e p q in let g = f .place in let u = f .few in omega arith
 
     module _ (c : count ≡ 64 → ⊥) where
       pub count-small : count < 64
       count-small = ⊎-elim (λ (h : count < 64). h) (λ (h : 64 ≤ count). absurd (c (let g = f .few in omega arith))) (lt-or-ge count 64)
 
-      pub filled-next : (x w : ℕ) (new : List ℕ) → x ≡ u32At roll i → lowOf w ≡ x → highOf w ≡ n → new ≡ set table count w → Filled roll new (count + 1) z
+      pub filled-next : (x w : ℕ) (new : List ℕ) → x ≡ u32At roll (p .index) → lowOf w ≡ x → highOf w ≡ p .name → new ≡ set table count w → Filled roll new (count + 1) (p .end)
       unfolding portCount portsOf indexOf nameOf portAt
       filled-next x w new ex el eh en =
           let s = stands in
-          let b = lies roll at r e i n z q in
+          let b = lies roll at r e p q in
           let u = count-small in
           let g = f .place in
           let k = f .room in
@@ -158,8 +159,8 @@ module _ (roll table : List ℕ) (count at : ℕ) (f : Filled roll table count a
             few = omega arith;
             place = omega arith;
             room = ap length en ∙ length-set table count w ∙ k;
-            indexes = rw en (more ℕ lowOf (indexOf roll) table count w (omega arith) (f .indexes) (el ∙ ex ∙ sym (ap (λ (p : Port). p .index) (s .2))));
-            names = rw en (more (List ℕ) (λ (y : ℕ). nameAt roll (highOf y)) (nameOf roll) table count w (omega arith) (f .names) (ap (nameAt roll) eh ∙ sym (ap (λ (p : Port). p .name) (s .2))));
+            indexes = rw en (more ℕ lowOf (indexOf roll) table count w (omega arith) (f .indexes) (el ∙ ex ∙ sym (ap (λ (z : Port). z .index) (s .2))));
+            names = rw en (more (List ℕ) (λ (y : ℕ). nameAt roll (highOf y)) (nameOf roll) table count w (omega arith) (f .names) (ap (nameAt roll) eh ∙ sym (ap (λ (z : Port). z .name) (s .2))));
           }
 
 pub ruleset table-laws = (filled-start, read-unknown, read-cut, read-end, read-many, filled-next, count-small, name-fits, port-less)
@@ -189,9 +190,13 @@ module _ (roll : List ℕ) where
       go R.End b j l f = absurd (omega arith)
       go R.Unknown b j l f = absurd (omega arith)
       go R.Cut b j l f = absurd (omega arith)
-      go (R.Port i n e) b zero l f = whole-field n (omega arith)
-      go (R.Port i n e) b (suc j) l f = f e j (omega arith)
+      go (R.Port p) b zero l f = whole-field (p .name) (omega arith)
+      go (R.Port p) b (suc j) l f = f (p .end) j (omega arith)
 
   pub name-long : (j : ℕ) → j < portCount roll → length (nameOf roll j) ≡ 16
   unfolding nameOf portAt portCount portsOf records
   name-long j l = names-long (suc (length roll)) 0 j _ l
+
+  -- so is the field that the code has of it
+  pub field-long : (ports s : List ℕ) (k : ℕ) → Tabled roll ports → k < length ports → s ≡ nameOf roll k → length s ≡ 16
+  field-long ports s k tab l e = ap length e ∙ name-long k (rw (tab .count) at l)

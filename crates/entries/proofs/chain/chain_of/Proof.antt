@@ -1,22 +1,16 @@
-use mathlib.Core.Path.{refl}
-use native.Mathlib.Omega.{arith}
+use Rattle.entries.proofs.Chains.{spread-folded}
 use borrow.Author.Needs.{needs}
-use Rattle.entries.specs.Chain.{spread}
 use Rattle.entries.proofs.chain.chain_of.Statement.{statement}
 use Rattle.entries.proofs.chain.chain_of.Tie as tie
 
-mul-result : tie.Need-mul-result
-mul-result c = search needs
+fold-requires : tie.Need-fold-requires
+fold-requires c κs = search needs
 
-mul-result-2 : tie.Need-mul-result-2
-mul-result-2 c = search needs
-
-add-result : tie.Need-add-result
-add-result c = search needs
+spread-of-requires : tie.Need-spread-of-requires
+spread-of-requires c κs = search needs
 
 returns : tie.Need-returns
-unfolding spread
-returns c = (refl, omega arith)
+returns c = search (needs, spread-folded)
 
 pub chain-of-spec : {M : Type 1} → statement M
-chain-of-spec = tie.close (tie.spec mul-result mul-result-2 add-result returns)
+chain-of-spec = tie.close (tie.spec fold-requires spread-of-requires returns)

@@ -34,17 +34,14 @@ add-eight-3 c = search needs
 eight-requires-4 : tie.Need-eight-requires-4
 eight-requires-4 c κs = search needs
 
-fold-requires : tie.Need-fold-requires
-fold-requires c κs = search needs
-
 chain-of-requires : tie.Need-chain-of-requires
 chain-of-requires c κs = search needs
 
 returns-2 : tie.Need-returns-2
 returns-2 c =
-    let s = c .before .before .before .before .before .before .before .before .before in (
-      hash-some (s .args .list .now) (s .args .i) (s .pre) _ _ _ _ _ _ (c .before .before .before .before .before .before .if1 .left) (c .before .before .before .before .before .eight .ensures)
-          (c .before .before .before .before .eight2 .ensures) (c .before .before .before .eight3 .ensures) (c .before .before .eight4 .ensures) (c .before .fold .ensures) (c .chain-of .ensures .0),
+    let s = c .before .before .before .before .before .before .before .before in (
+      hash-some (s .args .list .now) (s .args .i) (s .pre) _ _ _ _ _ (c .before .before .before .before .before .if1 .left) (c .before .before .before .before .eight .ensures)
+          (c .before .before .before .eight2 .ensures) (c .before .before .eight3 .ensures) (c .before .eight4 .ensures) (c .chain-of .ensures .0),
       omega arith,
     )
 
@@ -62,6 +59,5 @@ hash-spec =
     eight-requires-3
     add-eight-3
     eight-requires-4
-    fold-requires
     chain-of-requires
     returns-2)

@@ -22,15 +22,12 @@ eight-or-less-requires-3 c κs = search needs
 eight-or-less-requires-4 : tie.Need-eight-or-less-requires-4
 eight-or-less-requires-4 c κs = search needs
 
-fold-requires : tie.Need-fold-requires
-fold-requires c κs = search needs
-
 chain-of-requires : tie.Need-chain-of-requires
 chain-of-requires c κs = search needs
 
 returns-2 : tie.Need-returns-2
 returns-2 c = (
-  hash-all _ _ _ _ _ _ _ _ (c .before .before .before .before .before .before .before .byte-at .ensures) (c .before .before .before .before .before .before .if1 .left) (c .before .before .before .before .before .eight-or-less .ensures) (c .before .before .before .before .eight-or-less2 .ensures) (c .before .before .before .eight-or-less3 .ensures) (c .before .before .eight-or-less4 .ensures) (c .before .fold .ensures) (c .chain-of .ensures .0),
+  hash-all _ _ _ _ _ _ _ (c .before .before .before .before .before .before .byte-at .ensures) (c .before .before .before .before .before .if1 .left) (c .before .before .before .before .eight-or-less .ensures) (c .before .before .before .eight-or-less2 .ensures) (c .before .before .eight-or-less3 .ensures) (c .before .eight-or-less4 .ensures) (c .chain-of .ensures .0),
   omega arith,
 )
 
@@ -44,6 +41,5 @@ hash-of-spec =
     eight-or-less-requires-2
     eight-or-less-requires-3
     eight-or-less-requires-4
-    fold-requires
     chain-of-requires
     returns-2)

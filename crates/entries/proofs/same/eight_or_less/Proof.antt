@@ -12,8 +12,8 @@ add-if2 c = search needs
 u32-at-requires : tie.Need-u32-at-requires
 u32-at-requires c κs = search needs
 
-wide-requires : tie.Need-wide-requires
-wide-requires c κs = search needs
+wide64-requires : tie.Need-wide64-requires
+wide64-requires c κs = search needs
 
 add-u32-at : tie.Need-add-u32-at
 add-u32-at c = search needs
@@ -21,8 +21,8 @@ add-u32-at c = search needs
 u32-at-requires-2 : tie.Need-u32-at-requires-2
 u32-at-requires-2 c κs = search needs
 
-wide-requires-2 : tie.Need-wide-requires-2
-wide-requires-2 c κs = search needs
+wide64-requires-2 : tie.Need-wide64-requires-2
+wide64-requires-2 c κs = search needs
 
 mul-result : tie.Need-mul-result
 mul-result c = search needs
@@ -46,10 +46,10 @@ eight-or-less-spec =
     returns
     add-if2
     u32-at-requires
-    wide-requires
+    wide64-requires
     add-u32-at
     u32-at-requires-2
-    wide-requires-2
+    wide64-requires-2
     mul-result
     add-result
     returns-2

@@ -5,7 +5,7 @@ use mathlib.Core.Bool.{true}
 use lib.ListN.{length}
 use borrow.Author.Needs.{needs}
 use Rattle.basics.specs.Scan.{all}
-use Rattle.names.specs.Rule.{highRight}
+use Rattle.names.specs.Halves.{highRight}
 use Rattle.names.proofs.Rules.{each-start, high-is, each-not, each-more, each-done}
 use Rattle.names.proofs.rule.high_right.Statement.{statement}
 use Rattle.names.proofs.rule.high_right.Tie as tie
@@ -19,14 +19,14 @@ abbrev μ-loop : tie.MeasureT-loop
 loop-holds : tie.Need-loop-holds Inv-loop μ-loop
 loop-holds c = search (needs, each-start)
 
-mul-sixteen-right : tie.Need-mul-sixteen-right Inv-loop μ-loop
-mul-sixteen-right c = search needs
+mul-nul-pairs : tie.Need-mul-nul-pairs Inv-loop μ-loop
+mul-nul-pairs c = search needs
 
-add-sixteen-right : tie.Need-add-sixteen-right Inv-loop μ-loop
-add-sixteen-right c = search needs
+add-nul-pairs : tie.Need-add-nul-pairs Inv-loop μ-loop
+add-nul-pairs c = search needs
 
-sixteen-right-requires : tie.Need-sixteen-right-requires Inv-loop μ-loop
-sixteen-right-requires c κs = search needs
+nul-pairs-requires : tie.Need-nul-pairs-requires Inv-loop μ-loop
+nul-pairs-requires c κs = search needs
 
 returns : tie.Need-returns Inv-loop μ-loop
 returns c = search (needs, high-is, each-not)
@@ -50,9 +50,9 @@ high-right-spec =
     Inv-loop
     μ-loop
     loop-holds
-    mul-sixteen-right
-    add-sixteen-right
-    sixteen-right-requires
+    mul-nul-pairs
+    add-nul-pairs
+    nul-pairs-requires
     returns
     add-i
     loop-less

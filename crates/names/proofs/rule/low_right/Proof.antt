@@ -6,7 +6,7 @@ use lib.ListN.{length}
 use native.Mathlib.Omega.{arith}
 use borrow.Author.Needs.{needs}
 use Rattle.basics.specs.Scan.{all}
-use Rattle.names.specs.Rule.{lowRight}
+use Rattle.names.specs.Halves.{lowRight}
 use Rattle.names.proofs.Rules.{each-start, low-end, low-not, low-more, each-done}
 use Rattle.names.proofs.rule.low_right.Statement.{statement}
 use Rattle.names.proofs.rule.low_right.Tie as tie
@@ -32,11 +32,11 @@ shared-slice-read-if1 c = search needs
 returns : tie.Need-returns Inv-loop μ-loop
 returns c = search (needs, low-end, low-not)
 
-mul-sixteen-right : tie.Need-mul-sixteen-right Inv-loop μ-loop
-mul-sixteen-right c = search needs
+mul-nul-pairs : tie.Need-mul-nul-pairs Inv-loop μ-loop
+mul-nul-pairs c = search needs
 
-sixteen-right-requires : tie.Need-sixteen-right-requires Inv-loop μ-loop
-sixteen-right-requires c κs = search needs
+nul-pairs-requires : tie.Need-nul-pairs-requires Inv-loop μ-loop
+nul-pairs-requires c κs = search needs
 
 returns-2 : tie.Need-returns-2 Inv-loop μ-loop
 returns-2 c = search (needs, low-end, low-not)
@@ -48,7 +48,7 @@ loop-less : tie.Need-loop-less Inv-loop μ-loop
 loop-less c = search needs
 
 loop-again : tie.Need-loop-again Inv-loop μ-loop
-loop-again c = (omega arith, low-more _ _ _ (c .before .sixteen-right .ensures) (search needs) (search needs) (c .if2 .left))
+loop-again c = (omega arith, low-more _ _ _ (c .before .nul-pairs .ensures) (search needs) (search needs) (c .if2 .left))
 
 returns-3 : tie.Need-returns-3 Inv-loop μ-loop
 returns-3 c = search (needs, each-done)
@@ -64,8 +64,8 @@ low-right-spec =
     add-if1
     shared-slice-read-if1
     returns
-    mul-sixteen-right
-    sixteen-right-requires
+    mul-nul-pairs
+    nul-pairs-requires
     returns-2
     add-i
     loop-less

@@ -8,10 +8,13 @@ use Rattle.roll.proofs.find.port_of_name.Statement.{statement}
 use Rattle.roll.proofs.find.port_of_name.Tie as tie
 
 abbrev Inv-loop : tie.InvT-loop
-Inv-loop roll ports wanted k₀ k-end k = (k-end ≡ length ports) × (k ≤ length ports) × Passed (hasName roll wanted) k
+Inv-loop roll ports wanted probe k₀ k-end k = (k-end ≡ length ports) × (k ≤ length ports) × Passed (hasName roll wanted) k
 
 abbrev μ-loop : tie.MeasureT-loop
-μ-loop roll ports wanted k₀ k-end k = k-end - k
+μ-loop roll ports wanted probe k₀ k-end k = k-end - k
+
+u32-at-requires : tie.Need-u32-at-requires Inv-loop μ-loop
+u32-at-requires c κs = search (needs, name-laws)
 
 loop-holds : tie.Need-loop-holds Inv-loop μ-loop
 loop-holds c = search (needs, name-laws)
@@ -19,8 +22,8 @@ loop-holds c = search (needs, name-laws)
 name-of-requires : tie.Need-name-of-requires Inv-loop μ-loop
 name-of-requires c κs = search (needs, name-laws)
 
-holds-name-requires : tie.Need-holds-name-requires Inv-loop μ-loop
-holds-name-requires c κs = search (needs, name-laws)
+holds-name-by-requires : tie.Need-holds-name-by-requires Inv-loop μ-loop
+holds-name-by-requires c κs = search (needs, name-laws)
 
 returns : tie.Need-returns Inv-loop μ-loop
 returns c = search (needs, name-laws)
@@ -43,9 +46,10 @@ port-of-name-spec =
     (tie.spec
     Inv-loop
     μ-loop
+    u32-at-requires
     loop-holds
     name-of-requires
-    holds-name-requires
+    holds-name-by-requires
     returns
     add-k
     loop-less

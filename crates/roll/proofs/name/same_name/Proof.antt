@@ -3,55 +3,41 @@ use borrow.Author.Needs.{needs}
 use Rattle.roll.proofs.name.same_name.Statement.{statement}
 use Rattle.roll.proofs.name.same_name.Tie as tie
 
-u32-at-requires : tie.Need-u32-at-requires
-u32-at-requires c κs = search needs
-
-u32-at-requires-2 : tie.Need-u32-at-requires-2
-u32-at-requires-2 c κs = search needs
+same-at-requires : tie.Need-same-at-requires
+same-at-requires c κs = search needs
 
 returns : tie.Need-returns
 returns c = search (needs, four-differ)
 
-u32-at-requires-3 : tie.Need-u32-at-requires-3
-u32-at-requires-3 c κs = search needs
-
-u32-at-requires-4 : tie.Need-u32-at-requires-4
-u32-at-requires-4 c κs = search needs
+same-at-requires-2 : tie.Need-same-at-requires-2
+same-at-requires-2 c κs = search needs
 
 returns-2 : tie.Need-returns-2
 returns-2 c = search (needs, four-differ)
 
-u32-at-requires-5 : tie.Need-u32-at-requires-5
-u32-at-requires-5 c κs = search needs
-
-u32-at-requires-6 : tie.Need-u32-at-requires-6
-u32-at-requires-6 c κs = search needs
+same-at-requires-3 : tie.Need-same-at-requires-3
+same-at-requires-3 c κs = search needs
 
 returns-3 : tie.Need-returns-3
 returns-3 c = search (needs, four-differ)
 
-u32-at-requires-7 : tie.Need-u32-at-requires-7
-u32-at-requires-7 c κs = search needs
-
-u32-at-requires-8 : tie.Need-u32-at-requires-8
-u32-at-requires-8 c κs = search needs
+same-at-requires-4 : tie.Need-same-at-requires-4
+same-at-requires-4 c κs = search needs
 
 returns-4 : tie.Need-returns-4
-returns-4 c = let k = c .before .before .before .before .before .before .before .before .before .before .before in search (needs, fours-decide (k .before .before .args .a .now) (k .before .before .args .b .now) (λ j. k .before .shared-slice-known .given j .fits) (λ j. k .shared-slice-known2 .given j .fits))
+returns-4 c =
+    let k = c .before .before .before .before .before .before .before in
+    search (needs, fours-decide (k .before .before .args .a .now) (k .before .before .args .b .now) (λ j. k .before .shared-slice-known .given j .fits) (λ j. k .shared-slice-known2 .given j .fits))
 
 pub same-name-spec : {M : Type 1} → statement M
 same-name-spec =
     tie.close
     (tie.spec
-    u32-at-requires
-    u32-at-requires-2
+    same-at-requires
     returns
-    u32-at-requires-3
-    u32-at-requires-4
+    same-at-requires-2
     returns-2
-    u32-at-requires-5
-    u32-at-requires-6
+    same-at-requires-3
     returns-3
-    u32-at-requires-7
-    u32-at-requires-8
+    same-at-requires-4
     returns-4)

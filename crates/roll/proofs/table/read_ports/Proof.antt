@@ -17,14 +17,14 @@ loop-holds c = search (needs, table-laws)
 read-record-requires : tie.Need-read-record-requires Inv-loop μ-loop
 read-record-requires c κs = search (needs, table-laws)
 
-enum-known-index : tie.Need-enum-known-index Inv-loop μ-loop
-enum-known-index c = search (needs, table-laws)
+enum-known-port : tie.Need-enum-known-port Inv-loop μ-loop
+enum-known-port c = search (needs, table-laws)
 
 same-length : tie.Need-same-length Inv-loop μ-loop
 same-length c = search (needs, table-laws)
 
 returns : tie.Need-returns Inv-loop μ-loop
-returns c = (search needs, search (needs, table-laws))
+returns c = search (needs, table-laws)
 
 u32-at-requires : tie.Need-u32-at-requires Inv-loop μ-loop
 u32-at-requires c κs = search (needs, table-laws)
@@ -54,7 +54,7 @@ same-length-2 : tie.Need-same-length-2 Inv-loop μ-loop
 same-length-2 c = search (needs, table-laws)
 
 returns-2 : tie.Need-returns-2 Inv-loop μ-loop
-returns-2 c = (search needs, search (needs, table-laws))
+returns-2 c = search (needs, table-laws)
 
 enum-told-2 : tie.Need-enum-told-2 Inv-loop μ-loop
 enum-told-2 c = search (needs, table-laws)
@@ -63,7 +63,7 @@ same-length-3 : tie.Need-same-length-3 Inv-loop μ-loop
 same-length-3 c = search (needs, table-laws)
 
 returns-3 : tie.Need-returns-3 Inv-loop μ-loop
-returns-3 c = (search needs, search (needs, table-laws))
+returns-3 c = search (needs, table-laws)
 
 enum-told-3 : tie.Need-enum-told-3 Inv-loop μ-loop
 enum-told-3 c = search (needs, table-laws)
@@ -72,7 +72,7 @@ same-length-4 : tie.Need-same-length-4 Inv-loop μ-loop
 same-length-4 c = search (needs, table-laws)
 
 returns-4 : tie.Need-returns-4 Inv-loop μ-loop
-returns-4 c = (search needs, search (needs, table-laws))
+returns-4 c = search (needs, table-laws)
 
 pub read-ports-spec : {M : Type 1} → statement M
 read-ports-spec =
@@ -82,7 +82,7 @@ read-ports-spec =
     μ-loop
     loop-holds
     read-record-requires
-    enum-known-index
+    enum-known-port
     same-length
     returns
     u32-at-requires

@@ -5,29 +5,29 @@ use borrow.Author.Needs.{needs}
 use Rattle.roll_rule.proofs.marks.name_mark.Statement.{statement}
 use Rattle.roll_rule.proofs.marks.name_mark.Tie as tie
 
-u32-at-requires : tie.Need-u32-at-requires
-u32-at-requires c κs = search needs
+four-requires : tie.Need-four-requires
+four-requires c κs = search needs
 
-wide-requires : tie.Need-wide-requires
-wide-requires c κs = search needs
+wide64-requires : tie.Need-wide64-requires
+wide64-requires c κs = search needs
 
-u32-at-requires-2 : tie.Need-u32-at-requires-2
-u32-at-requires-2 c κs = search needs
+four-requires-2 : tie.Need-four-requires-2
+four-requires-2 c κs = search needs
 
-wide-requires-2 : tie.Need-wide-requires-2
-wide-requires-2 c κs = search needs
+wide64-requires-2 : tie.Need-wide64-requires-2
+wide64-requires-2 c κs = search needs
 
-u32-at-requires-3 : tie.Need-u32-at-requires-3
-u32-at-requires-3 c κs = search needs
+four-requires-3 : tie.Need-four-requires-3
+four-requires-3 c κs = search needs
 
-wide-requires-3 : tie.Need-wide-requires-3
-wide-requires-3 c κs = search needs
+wide64-requires-3 : tie.Need-wide64-requires-3
+wide64-requires-3 c κs = search needs
 
-u32-at-requires-4 : tie.Need-u32-at-requires-4
-u32-at-requires-4 c κs = search needs
+four-requires-4 : tie.Need-four-requires-4
+four-requires-4 c κs = search needs
 
-wide-requires-4 : tie.Need-wide-requires-4
-wide-requires-4 c κs = search needs
+wide64-requires-4 : tie.Need-wide64-requires-4
+wide64-requires-4 c κs = search needs
 
 mul-result : tie.Need-mul-result
 mul-result c = search needs
@@ -52,7 +52,7 @@ add-result-3 c = search needs
 
 returns : tie.Need-returns
 returns c = (
-  name-mark-is _ _ _ _ _ (c .before .before .before .before .before .before .wide .ensures .0 ∙ c .before .before .before .before .before .before .before .u32-at .ensures) (c .before .before .before .before .wide2 .ensures .0 ∙ c .before .before .before .before .before .u32-at2 .ensures) (c .before .before .wide3 .ensures .0 ∙ c .before .before .before .u32-at3 .ensures) (c .wide4 .ensures .0 ∙ c .before .u32-at4 .ensures),
+  name-mark-is _ _ _ _ _ (c .before .before .before .before .before .before .wide64 .ensures .0 ∙ c .before .before .before .before .before .before .before .four .ensures) (c .before .before .before .before .wide642 .ensures .0 ∙ c .before .before .before .before .before .four2 .ensures) (c .before .before .wide643 .ensures .0 ∙ c .before .before .before .four3 .ensures) (c .wide644 .ensures .0 ∙ c .before .four4 .ensures),
   omega arith,
 )
 
@@ -60,14 +60,14 @@ pub name-mark-spec : {M : Type 1} → statement M
 name-mark-spec =
     tie.close
     (tie.spec
-    u32-at-requires
-    wide-requires
-    u32-at-requires-2
-    wide-requires-2
-    u32-at-requires-3
-    wide-requires-3
-    u32-at-requires-4
-    wide-requires-4
+    four-requires
+    wide64-requires
+    four-requires-2
+    wide64-requires-2
+    four-requires-3
+    wide64-requires-3
+    four-requires-4
+    wide64-requires-4
     mul-result
     mul-result-2
     add-result
