@@ -181,9 +181,11 @@ module _ (s : List ℕ) (from : ℕ) (i n o : Slot) (at : ℕ) (inv : BitFrom s 
       abbrev here : Slot
       here = found (x .start) (x .end)
 
-      bit-judged : bitWalked s from
-          ≡ onStop (onVerdict v at (firstFault bitPolicy s (attributes s (x .next)))) W.Refused
-          (lastParts (attributes s (x .next)) (cond (eqb (x .kind) 1) here i) (cond (eqb (x .kind) 2) here n) (cond (eqb (x .kind) 3) here o))
+      -- the parts, this attribute among them by its type
+      abbrev keptAs : ℕ → BitWalk
+      keptAs k = lastParts (attributes s (x .next)) (cond (eqb k 1) here i) (cond (eqb k 2) here n) (cond (eqb k 3) here o)
+
+      bit-judged : bitWalked s from ≡ onStop (onVerdict v at (firstFault bitPolicy s (attributes s (x .next)))) W.Refused (keptAs (x .kind))
       unfolding firstFault lastOfType
       bit-judged = rw q at bit-step ∙ rw (verdict, place)
         where
@@ -194,14 +196,11 @@ module _ (s : List ℕ) (from : ℕ) (i n o : Slot) (at : ℕ) (inv : BitFrom s 
           place = let i = within in omega arith
 
       -- by the type
-      bit-kind : (k : ℕ) → x .kind ≡ k → v ≡ Right
-          → bitWalked s from
-          ≡ onStop (firstFault bitPolicy s (attributes s (x .next))) W.Refused
-          (lastParts (attributes s (x .next)) (cond (eqb k 1) here i) (cond (eqb k 2) here n) (cond (eqb k 3) here o))
+      bit-kind : (k : ℕ) → x .kind ≡ k → v ≡ Right → bitWalked s from ≡ onStop (firstFault bitPolicy s (attributes s (x .next))) W.Refused (keptAs k)
       bit-kind k g h =
           bit-judged
-          ∙ ap (λ (y : Verdict). onStop (onVerdict y at (firstFault bitPolicy s (attributes s (x .next)))) W.Refused (lastParts (attributes s (x .next)) (cond (eqb (x .kind) 1) here i) (cond (eqb (x .kind) 2) here n) (cond (eqb (x .kind) 3) here o))) h
-          ∙ ap (λ (y : ℕ). onStop (firstFault bitPolicy s (attributes s (x .next))) W.Refused (lastParts (attributes s (x .next)) (cond (eqb y 1) here i) (cond (eqb y 2) here n) (cond (eqb y 3) here o))) g
+          ∙ ap (λ (y : Verdict). onStop (onVerdict y at (firstFault bitPolicy s (attributes s (x .next)))) W.Refused (keptAs (x .kind))) h
+          ∙ ap (λ (y : ℕ). onStop (firstFault bitPolicy s (attributes s (x .next))) W.Refused (keptAs y)) g
 
       pub bit-wrong : (f : Fault) (y : Refusal) → v ≡ Wrong f → y ≡ ofFault f at → W.Refused y ≡ bitWalked s from
       bit-wrong f y h ey = ap W.Refused ey ∙ sym (rw h at bit-judged)

@@ -74,16 +74,21 @@ module _ (s : List ℕ) (nest n size : ℕ) (parts : BitsetParts) where
       masked-short at r ea h e = told n _ _ r e (present ∙ rw (ea, ← ep, ← ew) (simp (lt-ltb _ _ h)))
 
       module _ (h : w ≤ length p / 4) (q : List ℕ) (eq : q ≡ partOf s (parts .mask .start) (parts .mask .end)) where
+        value-long : ltb (length p / 4) (wordsFor size) ≡ false
+        value-long = le-ltb (length p / 4) (wordsFor size) (rw ew at h)
+
         pub masked-short-mask : (at : ℕ) (r : Judged) → at ≡ parts .mask .start - 4 → length q / 4 < w → r ≡ refusedAs (ShortBitmap at)
             → r ≡ judgedAs n (maskedReading s nest n size parts)
         masked-short-mask at r ea g e =
-            told n _ _ r e (present ∙ rw (ea, ← ep, ← eq, le-ltb (length p / 4) (wordsFor size) (rw ew at h), lt-ltb (length q / 4) (wordsFor size) (rw ew at g)))
+            told n _ _ r e (present ∙ rw (ea, ← ep, ← eq, value-long, lt-ltb (length q / 4) (wordsFor size) (rw ew at g)))
 
         module _ (g : w ≤ length q / 4) (t : Bool) (et : t ≡ somePast (has (wordsIn q)) n size) where
+          mask-long : ltb (length q / 4) (wordsFor size) ≡ false
+          mask-long = le-ltb (length q / 4) (wordsFor size) (rw ew at g)
+
           pub masked-past : (at : ℕ) (r : Judged) → at ≡ parts .mask .start - 4 → t ≡ true → r ≡ refusedAs (PastLength at)
               → r ≡ judgedAs n (maskedReading s nest n size parts)
-          masked-past at r ea z e =
-              told n _ _ r e (present ∙ rw (ea, ← ep, ← eq, le-ltb (length p / 4) (wordsFor size) (rw ew at h), le-ltb (length q / 4) (wordsFor size) (rw ew at g), ← et, z))
+          masked-past at r ea z e = told n _ _ r e (present ∙ rw (ea, ← ep, ← eq, value-long, mask-long, ← et, z))
 
           pub masked-right : (m v : List ℕ) → t ≡ false → m ≡ wordsOf 16 (cutAt size (has (wordsIn q))) → v ≡ wordsOf 16 (both (has m) (has (wordsIn p)))
               → record { judgement = Accepted; form = record { mask = m; value = v } } ≡ judgedAs n (maskedReading s nest n size parts)
@@ -93,7 +98,7 @@ module _ (s : List ℕ) (nest n size : ℕ) (parts : BitsetParts) where
               (ev ∙ wordsOf-cong 16 _ _
               (λ i l. ap (λ (x : Bool). x && has (wordsIn p) i) (ap (λ (ws : List ℕ). has ws i) em ∙ has-wordsOf 16 _ i l)
               ∙ and-assoc (ltb i size) (has (wordsIn q) i) (has (wordsIn p) i)))
-              (present ∙ rw (← ep, ← eq, le-ltb (length p / 4) (wordsFor size) (rw ew at h), le-ltb (length q / 4) (wordsFor size) (rw ew at g), ← et, z))
+              (present ∙ rw (← ep, ← eq, value-long, mask-long, ← et, z))
 
 pub ruleset masked-laws = (masked-missing, masked-short, masked-short-mask, masked-past, masked-right)
 

@@ -69,17 +69,20 @@ module _ (p : List ℕ) (j w : ℕ) (e : w ≡ getD (wordsIn p) j 0) where
 pub ruleset fill-laws = (fill-start, fill-more, fill-done, cut-word-is, both-word-is)
 
 module _ (n : ℕ) (j : Judged) (t : Judgement) (e : t ≡ j .judgement) where
-  pub nomask-refused : (why : Refusal) (r : Judged) → t ≡ Refused why → r ≡ refusedAs why → r ≡ underNomask n j
+  -- the answer for a list that is accepted
+  abbrev accepted : Judged
+  accepted = record { judgement = Accepted; form = record { mask = wordsOf 16 (allBelow n); value = j .form .mask } }
+
+  by-judgement : underNomask n j ≡ onJudgement t accepted
   unfolding underNomask
-  nomask-refused why r q er =
-      er ∙ sym (ap (λ (x : Judgement). onJudgement x (record { judgement = Accepted; form = record { mask = wordsOf 16 (allBelow n); value = j .form .mask } })) (sym e ∙ q))
+  by-judgement = ap (λ (x : Judgement). onJudgement x accepted) (sym e)
+
+  pub nomask-refused : (why : Refusal) (r : Judged) → t ≡ Refused why → r ≡ refusedAs why → r ≡ underNomask n j
+  nomask-refused why r q er = er ∙ sym (by-judgement ∙ ap (λ (x : Judgement). onJudgement x accepted) q)
 
   pub nomask-accepted : (m l : List ℕ) → t ≡ Accepted → m ≡ wordsOf 16 (allBelow n) → l ≡ j .form .mask
       → record { judgement = Accepted; form = record { mask = m; value = l } } ≡ underNomask n j
-  unfolding underNomask
-  nomask-accepted m l q em el =
-      rw (em, el)
-      (sym (ap (λ (x : Judgement). onJudgement x (record { judgement = Accepted; form = record { mask = wordsOf 16 (allBelow n); value = j .form .mask } })) (sym e ∙ q)))
+  nomask-accepted m l q em el = rw (em, el) (sym (by-judgement ∙ ap (λ (x : Judgement). onJudgement x accepted) q))
 
 pub ruleset nomask-laws = (nomask-refused, nomask-accepted)
 

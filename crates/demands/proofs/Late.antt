@@ -11,9 +11,9 @@ use Rattle.netlink.specs.declared.policy.Fault.the-variants as W
 use Rattle.netlink.specs.declared.walk.Slot.{Slot}
 use Rattle.netlink.specs.declared.walk.Stop.{Stop}
 use Rattle.netlink.specs.declared.walk.Stop.the-variants.{Whole, At}
+use Rattle.bitset_form.specs.declared.parts.BitsetParts.{BitsetParts}
 use Rattle.refusal.specs.Refusal.{numberOf, ofFault}
 use Rattle.refusal.specs.declared.Refusal.{Refusal}
-use Rattle.bitset_form.specs.declared.parts.BitsetParts.{BitsetParts}
 use Rattle.boxes.specs.Box.{Box}
 use Rattle.boxes.specs.declared.Call.{Call}
 use Rattle.admission.specs.declared.commands.CommandRead.{CommandRead}

@@ -92,16 +92,21 @@ module _ (parts : BitsetParts) where
 pub ruleset mixed-laws = (mixed-value, mixed-mask, mixed-list, mixed-nomask, mixed-whole, mixed-masked)
 
 module _ (s : List ℕ) (nest : ℕ) (names : List ℕ) (parts : BitsetParts) (m : Mixing) (em : m ≡ mixedAt parts) where
+  -- a list or compact
+  abbrev either : Reading
+  either = cond (parts .bits .present) (listReading s names parts) (compactReading s nest (count names) parts)
+
+  by-mixing : bitsetPartsReading s nest names parts ≡ onMixing m either
+  unfolding bitsetPartsReading
+  by-mixing = ap (λ (x : Mixing). onMixing x either) (sym em)
+
   pub parts-mixed : (at : ℕ) (r : Judged) → m ≡ At at → r ≡ refusedAs (Mixed at) → r ≡ judgedAs (count names) (bitsetPartsReading s nest names parts)
-  unfolding bitsetPartsReading judgedAs
-  parts-mixed at r q e =
-      e ∙ sym (ap (λ (x : Mixing). judgedAs (count names) (onMixing x (cond (parts .bits .present) (listReading s names parts) (compactReading s nest (count names) parts)))) (sym em ∙ q))
+  unfolding judgedAs
+  parts-mixed at r q e = e ∙ sym (ap (judgedAs (count names)) (by-mixing ∙ ap (λ (x : Mixing). onMixing x either) q))
 
   module _ (q : m ≡ Unmixed) where
-    pure : bitsetPartsReading s nest names parts
-        ≡ cond (parts .bits .present) (listReading s names parts) (compactReading s nest (count names) parts)
-    unfolding bitsetPartsReading
-    pure = ap (λ (x : Mixing). onMixing x (cond (parts .bits .present) (listReading s names parts) (compactReading s nest (count names) parts))) (sym em ∙ q)
+    pure : bitsetPartsReading s nest names parts ≡ either
+    pure = by-mixing ∙ ap (λ (x : Mixing). onMixing x either) q
 
     pub parts-list : (r : Judged) → parts .bits .present ≡ true → r ≡ judgedAs (count names) (listReading s names parts)
         → r ≡ judgedAs (count names) (bitsetPartsReading s nest names parts)
