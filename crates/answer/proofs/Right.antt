@@ -19,5 +19,5 @@ use Rattle.answer.specs.Box.{portRoll, debugNames, flagNames, firstWords
 use Rattle.answer.specs.Run.{callAt}
 
 pub box-right : (at : ℕ) → boxRight programBox firstState (callAt at) ≡ true
-unfolding boxRight listsRight familyRight adminRight portRoll debugNames flagNames firstWords programBox firstState all byteAt u32At partOf R.rollRight R.portRight R.portsDistinct R.isNew R.another P.portsListed P.allWhole P.portCount P.portsOf P.recordPorts P.portAt P.indexOf P.nameOf P.records P.recordsUpTo P.recordAt P.recordSize M.nameAt M.nameRight U.nulThenNul N.namesRight N.rightAt N.entryRight E.entryAt E.entriesDistinct E.entryNew E.differs E.sameEntry U.sameByte S.settingsRight S.portClear S.setClear L.sizeOf L.everySet L.portWords L.firstOf L.totalWords L.setPlace L.setAt B.noneFrom B.clearFrom B.has
+unfolding boxRight listsRight familyRight adminRight portRoll debugNames flagNames firstWords programBox firstState all byteAt u32At partOf R.rollRight R.portRight R.portsDistinct R.isNew R.another P.portsListed P.allWhole P.portCount P.portsOf P.recordPorts P.portAt P.indexOf P.nameOf P.records P.recordsUpTo P.recordAt P.recordSize M.nameAt M.nameRight U.nulThenNul N.namesRight N.rightAt N.entryRight E.entryAt E.entriesDistinct E.entryNew E.differs E.sameEntry U.sameByte S.settingsRight S.portClear S.setClear L.listOf L.sizeOf L.everySet L.portWords L.firstOf L.totalWords L.setPlace L.setAt B.noneFrom B.clearFrom B.has
 box-right at = refl

@@ -4,7 +4,7 @@ use mathlib.Core.Bool.{Bool, _&&_}
 use lib.Dec.{leb}
 use Rattle.names.specs.Rule.{namesRight}
 use Rattle.roll_rule.specs.Rule.{rollRight}
-use Rattle.layout.specs.Layout.{Names}
+use Rattle.layout.specs.Layout.{Names, listOf, everySet}
 use Rattle.boxes.specs.declared.Call.{Call}
 use Rattle.boxes.specs.Box.{Box, State, portsIn, sizesIn}
 use Rattle.boxes.specs.Settings.{settingsRight}
@@ -17,9 +17,9 @@ familyRight family = leb 16 family && leb family 65535
 unfoldable pub adminRight : ℕ → Bool
 adminRight admin = leb admin 1
 
--- each name list
+-- the name list of every set
 unfoldable pub listsRight : Names → Bool
-listsRight names = namesRight (names .debug) && namesRight (names .flags)
+listsRight names = everySet (λ set. namesRight (listOf names set))
 
 -- the box breaks no rule: family, admin, roll, name lists, settings
 unfoldable pub boxRight : Box → State → Call → Bool

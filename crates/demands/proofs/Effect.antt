@@ -23,7 +23,7 @@ use Rattle.layout.proofs.Kept.{splice-below, splice-above, change-own, change-o
 use Rattle.boxes.proofs.rule.Meaning.{Right, box-means, box-keeps}
 use Rattle.boxes.proofs.settings.Laws as S
 use Rattle.boxes.proofs.settings.Change.{change-right}
-use Rattle.execute.specs.Execute.{withSet}
+use Rattle.execute.specs.Execute.{withSet, withEffect}
 
 -- an accepted bitset makes a set below N of a set below N
 effect-below : (n : ℕ) (b : Bitset) → Fits n b → (s : ℕ → Bool) → Below n s → Below n (effect b s)
@@ -45,7 +45,7 @@ module _ (box : Box) (state : State) (call : Call) (right : boxRight box state c
   new = wordsOf (widthIn box set) (effect b (has held))
 
   abbrev pub after : State
-  after = withSet box state position set new
+  after = withEffect box state position set b
 
   rules : Right box state call
   rules = box-means box state call right
@@ -72,20 +72,20 @@ module _ (box : Box) (state : State) (call : Call) (right : boxRight box state c
   new-clear = below-none new n (λ i l. has-all (widthIn box set) (effect b (has held)) effect-fits i ∙ effect-below n b fits (has held) held-below i l)
 
   pub set-own : Same (has (setOf box after position set)) (effect b (has held))
-  unfolding setOf placeIn withSet
+  unfolding setOf placeIn withSet withEffect
   set-own i =
       ap (λ (l : List ℕ). has l i)
       (change-own (state .words) (portsIn box) (widthsIn box) (settings .exact) position here set new new-long)
       ∙ has-all (widthIn box set) (effect b (has held)) effect-fits i
 
   pub set-others : (p : ℕ) (s : Set) → p < portsIn box → (position ≡ p → set ≡ s → ⊥) → setOf box after p s ≡ setOf box state p s
-  unfolding setOf placeIn withSet
+  unfolding setOf placeIn withSet withEffect
   set-others p s l apart =
       change-other (state .words) (portsIn box) (widthsIn box) (settings .exact) position here set new new-long p s l apart
 
   pub set-elsewhere : (k : ℕ) → (k < placeIn box position set) ⊎ (placeIn box position set + widthIn box set ≤ k)
       → getD (after .words) k 0 ≡ getD (state .words) k 0
-  unfolding placeIn widthIn withSet
+  unfolding placeIn widthIn withSet withEffect
   set-elsewhere k =
       let inside = place-inside (portsIn box) (widthsIn box) position set here in
       let room : placeIn box position set + length new ≤ length (state .words) = let e = settings .exact in let l = new-long in omega arith in
@@ -93,7 +93,7 @@ module _ (box : Box) (state : State) (call : Call) (right : boxRight box state c
       (λ l. splice-above (state .words) new (placeIn box position set) room k (let e = new-long in omega arith))
 
   pub set-right : boxRight box after call ≡ true
-  unfolding placeIn withSet
+  unfolding placeIn withSet withEffect
   set-right =
       box-keeps box state after call right
       (change-right (state .words) (portsIn box) (sizesIn box) (rules .settings-right) position here set new new-long new-clear)

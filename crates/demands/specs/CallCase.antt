@@ -3,13 +3,12 @@ use Prim.Native.Nat.{ℕ, _+_, _≤_}
 use mathlib.Core.Path.{_≡_}
 use mathlib.Core.List.{List}
 use mathlib.Core.Bool.{true, false}
-use Rattle.bits.specs.Set.{has, wordsOf}
 use Rattle.netlink_headers.specs.declared.headers.MessageHeader.{MessageHeader}
 use Rattle.refusal.specs.declared.Refusal.{Refusal}
-use Rattle.bitset_form.specs.Bitset.{Bitset, effect}
-use Rattle.boxes.specs.Box.{Box, State, widthIn, setOf}
+use Rattle.bitset_form.specs.Bitset.{Bitset}
+use Rattle.boxes.specs.Box.{Box, State}
 use Rattle.response.specs.Answer.{Outcome, responseOf, noBytes, errorResponse, ackBytes, unchanged}
-use Rattle.execute.specs.Execute.{withSet, getBytes}
+use Rattle.execute.specs.Execute.{withEffect, getBytes}
 use Rattle.response.specs.declared.Kind.the-variants.{Skipped, Done, End, Refused}
 use lib.ListN.{length}
 use Rattle.netlink_headers.specs.Headers.{messageHeader}
@@ -29,13 +28,7 @@ pub data MessageCase (box : Box) (state : State) (m : List ℕ) (h : MessageHead
       → o ≡ unchanged (responseOf Done next (getBytes box state m (requestOf h next (n .command)) (n .target))) state
       → MessageCase box state m h next o
   setDone : (n : Named (box .roll) m) → n .command .change ≡ true → (b : Bitset) → Carries box m n b
-      → o
-      ≡ record {
-        response = responseOf Done next (ackBytes m h);
-        state =
-            withSet box state (n .target .position) (n .command .set)
-            (wordsOf (widthIn box (n .command .set)) (effect b (has (setOf box state (n .target .position) (n .command .set)))));
-      }
+      → o ≡ record { response = responseOf Done next (ackBytes m h); state = withEffect box state (n .target .position) (n .command .set) b }
       → MessageCase box state m h next o
 
 -- the end or a refusal by 1 to 4, which change nothing, say nothing and give the position back; or a message of a right box, which moves on

@@ -11,7 +11,7 @@ use Rattle.bits.proofs.Cut.{none-below}
 use Rattle.entries.specs.Entry.{count}
 use Rattle.netlink_attributes.specs.Attributes.{partOf}
 use Rattle.netlink.specs.declared.walk.Slot.{Slot}
-use Rattle.bitset_form.specs.Bitset.{Bitset, Reading, effect, maskOf, valueOf}
+use Rattle.bitset_form.specs.Bitset.{Bitset, Reading, maskOf, valueOf}
 use Rattle.bitset_form.specs.Form.{formOf}
 use Rattle.bitset_form.specs.Bitset.Reading.{refused, accepted}
 use Rattle.bitset.specs.Judge.{bitsetReading}
@@ -38,7 +38,7 @@ use Rattle.response.specs.Answer.{Outcome, responseOf, ackBytes, unchanged, Per
 use Rattle.response.specs.declared.Kind.the-variants.{Done}
 use Rattle.response.specs.declared.Answer.{Answer}
 use Rattle.execute.specs.declared.Request.{Request}
-use Rattle.execute.specs.Execute.{withSet, getBytes, readingOutcome, setOutcome, portOutcome, targetOutcome, headerOutcome, topOutcome, requestOutcome}
+use Rattle.execute.specs.Execute.{withSet, withEffect, getBytes, readingOutcome, setOutcome, portOutcome, targetOutcome, headerOutcome, topOutcome, requestOutcome}
 use Rattle.execute.specs.CarriedOut.{changedBy, carriedOut}
 use Rattle.execute.specs.Fit.{Fit}
 
@@ -67,8 +67,8 @@ module _ (box : Box) (state : State) (fit : Fit box state) where
     bit-of f i l = ap (λ (z : List ℕ). has z i) (take-wordsOf (widthIn box set) 16 f few) ∙ has-wordsOf (widthIn box set) f i l
 
     changed : (b : Bitset) → bitsetReading s from names ≡ accepted b
-        → changedBy box state position set (formOf (count names) b) ≡ withSet box state position set (wordsOf (widthIn box set) (effect b (has (setOf box state position set))))
-    unfolding changedBy held
+        → changedBy box state position set (formOf (count names) b) ≡ withEffect box state position set b
+    unfolding changedBy withEffect held
     changed b e =
         let fits = accepted-fits s from names b e in
         ap (withSet box state position set)

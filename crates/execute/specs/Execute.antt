@@ -7,7 +7,7 @@ use Rattle.basics.specs.Put.{splice}
 use Rattle.bits.specs.Set.{has, wordsOf}
 use Rattle.netlink_attributes.specs.Attributes.{partOf}
 use Rattle.netlink.specs.declared.walk.Slot.{Slot}
-use Rattle.bitset_form.specs.Bitset.{Reading, effect}
+use Rattle.bitset_form.specs.Bitset.{Bitset, Reading, effect}
 use Rattle.bitset_form.specs.Bitset.Reading.{refused, accepted}
 use Rattle.bitset.specs.Judge.{bitsetReading}
 use Rattle.roll.specs.Record.{indexOf, nameOf}
@@ -30,6 +30,10 @@ use Rattle.execute.specs.declared.Request.{Request}
 -- the state with new words for a set of the port at a position
 unfoldable pub withSet : Box → State → ℕ → Set → List ℕ → State
 withSet box state position set new = record { words = splice (placeIn box position set) (state .words) new }
+
+-- the state in which that set is what a bitset makes of it
+unfoldable pub withEffect : Box → State → ℕ → Set → Bitset → State
+withEffect box state position set b = withSet box state position set (wordsOf (widthIn box set) (effect b (has (setOf box state position set))))
 
 -- what the reply to a GET is about: a set of the port that is named, compact with header flag 1
 unfoldable pub contentIn : Box → State → Set → Target → Content
@@ -58,9 +62,7 @@ readingOutcome (refused r) box state m request position = unchanged (errorRespon
 readingOutcome (accepted b) box state m request position =
     record {
       response = responseOf Done (request .next) (ackBytes m (request .header));
-      state =
-          withSet box state position (request .command .set)
-          (wordsOf (widthIn box (request .command .set)) (effect b (has (setOf box state position (request .command .set)))));
+      state = withEffect box state position (request .command .set) b;
     }
 
 -- a SET: the bitset is walked in the message cut at the nest's end, so that every place counts from the request's start

@@ -10,7 +10,7 @@ use Rattle.names.specs.Rule.{namesRight}
 use Rattle.names.proofs.Rules as N
 use Rattle.layout.specs.declared.Set.{Set}
 use Rattle.layout.specs.declared.Set.the-variants.{Debug, Flags}
-use Rattle.layout.specs.Layout.{Names, namesOf, listOf, ofLists}
+use Rattle.layout.specs.Layout.{Names, listOf, everySet, ofLists}
 use Rattle.layout.specs.AtMost.{AtMost}
 use Rattle.boxes.specs.Rule.{listsRight}
 
@@ -20,18 +20,18 @@ sizes-are names debug flags ed ef = rw (ed, ef)
 
 module _ (names : Names) (d : Bool) (ed : d ≡ namesRight (names .debug)) where
   pub debug-wrong : not d ≡ true → false ≡ listsRight names
-  unfolding listsRight
+  unfolding listsRight everySet listOf
   debug-wrong h = sym (rw (← ed, not-true d h))
 
   pub flags-decide : (f : Bool) → not d ≡ false → f ≡ namesRight (names .flags) → f ≡ listsRight names
-  unfolding listsRight
+  unfolding listsRight everySet listOf
   flags-decide f h ef = ef ∙ sym (rw (← ed, not-false d h))
 
 pub ruleset lists-laws = (debug-wrong, flags-decide)
 
 -- what it means
 pub lists-each : (names : Names) → listsRight names ≡ true → (set : Set) → namesRight (listOf names set) ≡ true
-unfolding listsRight listOf
+unfolding listsRight everySet listOf
 lists-each names h Debug = both-true (namesRight (names .debug)) (namesRight (names .flags)) h .0
 lists-each names h Flags = both-true (namesRight (names .debug)) (namesRight (names .flags)) h .1
 
