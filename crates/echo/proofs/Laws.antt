@@ -1,7 +1,7 @@
 -- The laws by which the family is proved: netlink's contracts are all that they use.
 use Prim.Native.Nat.{ℕ, _+_, _-_, _≤_, _<_}
 use mathlib.Core.Path.{_≡_, refl, sym, ap, _∙_}
-use mathlib.Core.List.{List, [], _++_}
+use mathlib.Core.List.{List, _++_}
 use mathlib.Core.Bool.{true, false, not}
 use lib.ListN.{length, getD, take, drop}
 use native.Mathlib.Omega.{arith}

@@ -47,9 +47,9 @@ pub fn put_name(page: &mut [u8], kind: u16, name: &[u8]) -> usize
     let n = put_padded_name(&mut page[AttributeHeader::SIZE..], name);
     // four bytes of header, and the NUL
     let stated = n + 5;
+    let step = Stated::of(stated as u32).step().bytes();
     put_attribute_header(page, stated as u16, kind);
-    let step = Stated::of(stated as u32).step();
-    step.bytes()
+    step
 }
 
 // A flag: no payload.

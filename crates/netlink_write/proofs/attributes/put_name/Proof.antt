@@ -20,14 +20,8 @@ put-padded-name-requires c κs = search needs
 add-stated : tie.Need-add-stated
 add-stated c = omega (arith, c .before .before .put-padded-name .ensures .0, nul-le (c .before .before .before .before .before .before .args .name .now))
 
-cast-put-attribute-header : tie.Need-cast-put-attribute-header
-cast-put-attribute-header c = omega (arith, c .before .before .before .put-padded-name .ensures .0, nul-le (c .before .before .before .before .before .before .before .args .name .now))
-
-put-attribute-header-requires : tie.Need-put-attribute-header-requires
-put-attribute-header-requires c κs = search needs
-
 cast-of : tie.Need-cast-of
-cast-of c = omega (arith, c .before .before .before .before .before .before .put-padded-name .ensures .0, nul-le (c .before .before .before .before .before .before .before .before .before .before .args .name .now))
+cast-of c = omega (arith, c .before .before .put-padded-name .ensures .0, nul-le (c .before .before .before .before .before .before .args .name .now))
 
 of-requires : tie.Need-of-requires
 of-requires c κs = search needs
@@ -37,6 +31,12 @@ step-requires c κs = search needs
 
 bytes-requires : tie.Need-bytes-requires
 bytes-requires c κs = search needs
+
+cast-put-attribute-header : tie.Need-cast-put-attribute-header
+cast-put-attribute-header c = omega (arith, c .before .before .before .before .before .before .put-padded-name .ensures .0, nul-le (c .before .before .before .before .before .before .before .before .before .before .args .name .now))
+
+put-attribute-header-requires : tie.Need-put-attribute-header-requires
+put-attribute-header-requires c κs = search needs
 
 same-length : tie.Need-same-length
 same-length c = search needs
@@ -53,11 +53,11 @@ put-name-spec =
     part-put-padded-name-end
     put-padded-name-requires
     add-stated
-    cast-put-attribute-header
-    put-attribute-header-requires
     cast-of
     of-requires
     step-requires
     bytes-requires
+    cast-put-attribute-header
+    put-attribute-header-requires
     same-length
     returns)
