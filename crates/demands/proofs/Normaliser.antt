@@ -2,7 +2,7 @@
 --     set-alike        a SET that comes to its bitset: done where the normaliser, given the payload alone, answers 0 and writes the normal form of
 --                      the bitset that is carried out; refused by the number by which the normaliser refuses
 --     done-normal      the bitset of a done SET is the one whose normal form the normaliser writes
-use Prim.Native.Nat.{ℕ, _+_, _-_, _≤_, _<_}
+use Prim.Native.Nat.{ℕ, _+_, _≤_, _<_}
 use mathlib.Core.Path.{_≡_, refl, sym, ap, _∙_}
 use mathlib.Core.List.{List}
 use mathlib.Core.Bool.{Bool, true, false, _&&_, not, cond}

@@ -39,7 +39,7 @@ use Rattle.response.specs.declared.Kind.the-variants.{End, Skipped, Refused}
 use Rattle.response.specs.declared.Answer.{Answer}
 use Rattle.execute.proofs.Laws.{unchanged-performs}
 
--- nothing is written, and the state stays
+-- nothing is written, and the state is as before
 pub no-bytes-performs : (o : Outcome State) (k : Kind) (next : ℕ) (P : List ℕ) (state : State) (r : Answer) → r ≡ record { kind = k; next = next; written = 0 }
     → o ≡ unchanged (noBytes k next) state → Performs o P P state r
 no-bytes-performs o k next P state r e q = rw q (record { response = record { result = e; page = sym (put-nil P) }; state-is = refl })
