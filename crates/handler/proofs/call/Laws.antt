@@ -31,7 +31,7 @@ use Rattle.admission.specs.declared.commands.Command.{Command}
 use Rattle.admission.specs.declared.Admission.{Admission}
 use Rattle.admission.specs.declared.Admission.the-variants as A
 use Rattle.response.specs.Answer.{Outcome, noBytes, errorResponse, unchanged, Responds, Performs}
-use Rattle.execute.specs.Execute.{requestOutcome}
+use Rattle.execute.specs.Execute.{requestOf, requestOutcome}
 use Rattle.execute.specs.Fit.{Fit}
 use Rattle.handler.specs.Call.{onAdmission, messageOutcome, onMessage, positionOutcome, outcome}
 use Rattle.response.specs.declared.Kind.{Kind}
@@ -52,7 +52,7 @@ module _ (box : Box) (state : State) (m : List ℕ) (h : MessageHeader) (next : 
     pub message-refused : (why : Refusal) → a ≡ A.Refused why → Responds (errorResponse m next why) P Q r → Performs (onAdmission a box state m h next) P Q state r
     message-refused why q s = rw q (unchanged-performs (errorResponse m next why) P Q state r s)
 
-    pub message-admitted : (c : Command) (new : State) → a ≡ A.Admitted c → Performs (requestOutcome box state m (record { header = h; next = next; command = c })) P Q new r
+    pub message-admitted : (c : Command) (new : State) → a ≡ A.Admitted c → Performs (requestOutcome box state m (requestOf h next c)) P Q new r
         → Performs (onAdmission a box state m h next) P Q new r
     message-admitted c new q d = rw q d
 
