@@ -26,7 +26,7 @@ use Rattle.request.specs.declared.top.Top.the-variants as T
 use Rattle.request.specs.declared.target.Target.{Target}
 use Rattle.request.specs.declared.target.TargetRead.{TargetRead}
 use Rattle.request.specs.declared.target.TargetRead.the-variants as A
-use Rattle.decision.specs.Decision.{withoutForm, readingDecision, bitsetDecision, targetDecision, headerDecision, topDecision, decided}
+use Rattle.decision.specs.Decision.{withoutForm, readingDecision, bitsetDecision, headerDecision, decided}
 use Rattle.decision.specs.declared.Plan.the-variants as P
 use Rattle.decision.specs.declared.Decision.{Decision}
 

@@ -40,13 +40,13 @@ use Rattle.request.proofs.target.Place.{target-inside}
 use Rattle.response.specs.Answer.{Outcome, ackBytes}
 use Rattle.handler.specs.Call.{outcome}
 use Rattle.reply.specs.Message.{headingOf, Content}
-use Rattle.execute.specs.Execute.{contentIn, replyAndAck, getBytes}
+use Rattle.execute.specs.Execute.{requestOf, contentIn, replyAndAck, getBytes}
 use Rattle.response.specs.declared.Kind.the-variants.{Done}
 use Rattle.demands.specs.Answer.{Counted}
 use Rattle.demands.specs.Call.{messageOf}
 use Rattle.demands.specs.CallCase.{CallCase}
 use Rattle.demands.specs.CallCase.CallCase.{ended, notRead, messageAnswered}
-use Rattle.demands.specs.Message.{Named, requestOf, Carries}
+use Rattle.demands.specs.Message.{Named, Carries}
 use Rattle.demands.specs.CallCase.MessageCase.{messageSkipped, messageRefused, getDone, setDone}
 use Rattle.demands.specs.Done.{DoneSet, DoneGet, replyTo}
 use Rattle.demands.specs.Request.{isSet}

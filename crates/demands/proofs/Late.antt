@@ -91,13 +91,12 @@ bitset-late s from names = walk _ (form-late s (from - 4) names _)
 level-late : (box : Box) (m : List ℕ) (command : CommandRead) (parts : TopParts) → Late (levelChecks box m command parts)
 unfolding levelChecks topChecks headerChecks portChecks
 level-late box m command parts =
-    walk _
-    (row _ _ (omega arith)
+    row _ _ (omega arith)
     (row _ _ (omega arith)
     (walk _
     (row _ _ (omega arith)
     (row _ _ (omega arith)
-    (row _ _ (omega arith) (row _ _ (omega arith) (row _ _ (omega arith) (choice (isSet command) _ _ (bitset-late _ _ _) nothing)))))))))
+    (row _ _ (omega arith) (row _ _ (omega arith) (row _ _ (omega arith) (choice (isSet command) _ _ (bitset-late _ _ _) nothing))))))))
 
 skip-late : (h : MessageHeader) {checks : List Check} → Late checks → Late (skipIf h ∷ checks)
 unfolding skipIf
@@ -113,7 +112,7 @@ message-late box call m h =
     skip-late h
     (row _ _ (omega arith)
     (row _ _ (omega arith)
-    (row _ _ (omega arith) (row _ _ (omega arith) (row _ _ (omega arith) (level-late box m _ _))))))
+    (row _ _ (omega arith) (row _ _ (omega arith) (row _ _ (omega arith) (walk _ (level-late box m _ _)))))))
 
 pub message-number : (box : Box) (call : Call) (m : List ℕ) (h : MessageHeader) (why : Refusal)
     → FirstIs why (messageChecks box call m h) → 5 ≤ numberOf why

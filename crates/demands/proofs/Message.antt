@@ -32,9 +32,9 @@ use Rattle.request.specs.declared.top.Top.{Top}
 use Rattle.request.specs.declared.top.Top.the-variants as T
 use Rattle.response.specs.Answer.{Outcome, responseOf, unchanged}
 use Rattle.response.specs.declared.Kind.the-variants.{Done}
-use Rattle.execute.specs.Execute.{getBytes, readingOutcome, setOutcome, portOutcome, targetOutcome, headerOutcome, topOutcome, requestOutcome}
+use Rattle.execute.specs.Execute.{requestOf, getBytes, readingOutcome, setOutcome, portOutcome, targetOutcome, headerOutcome, topOutcome, requestOutcome}
 use Rattle.handler.specs.Call.{onAdmission, messageOutcome}
-use Rattle.demands.specs.Message.{Named, requestOf}
+use Rattle.demands.specs.Message.{Named}
 use Rattle.demands.specs.CallCase.{MessageCase}
 use Rattle.demands.specs.CallCase.MessageCase.{messageSkipped, messageRefused, getDone, setDone}
 

@@ -2,7 +2,7 @@
 --     set-alike        a SET that comes to its bitset: done where the normaliser, given the payload alone, answers 0 and writes the normal form of
 --                      the bitset that is carried out; refused by the number by which the normaliser refuses
 --     done-normal      the bitset of a done SET is the one whose normal form the normaliser writes
-use Prim.Native.Nat.{ℕ, _+_, _-_, _≤_, _<_}
+use Prim.Native.Nat.{ℕ, _+_, _≤_, _<_}
 use mathlib.Core.Path.{_≡_, refl, sym, ap, _∙_}
 use mathlib.Core.List.{List}
 use mathlib.Core.Bool.{Bool, true, false, _&&_, not, cond}
@@ -49,12 +49,12 @@ use Rattle.request.specs.declared.target.TargetRead.{TargetRead}
 use Rattle.response.specs.Answer.{Outcome, responseOf, unchanged}
 use Rattle.response.specs.declared.Kind.the-variants.{Done}
 use Rattle.execute.specs.declared.Request.{Request}
-use Rattle.execute.specs.Execute.{getBytes, readingOutcome, setOutcome, portOutcome, targetOutcome, headerOutcome, topOutcome, requestOutcome}
+use Rattle.execute.specs.Execute.{requestOf, getBytes, readingOutcome, setOutcome, portOutcome, targetOutcome, headerOutcome, topOutcome, requestOutcome}
 use Rattle.handler.specs.Call.{refusedInPlace, onAdmission, messageOutcome, positionOutcome, outcome, endsRun}
 use Rattle.demands.specs.Call.{messageOf}
 use Rattle.demands.specs.CallCase.{CallCase}
 use Rattle.demands.specs.CallCase.CallCase.{ended, notRead, messageAnswered}
-use Rattle.demands.specs.Message.{Named, requestOf}
+use Rattle.demands.specs.Message.{Named}
 use Rattle.demands.specs.Done.{DoneSet}
 use Rattle.demands.specs.Normaliser.{namesFor, normaliserAnswer, AnsweredAlike}
 use Rattle.demands.specs.Normaliser.AnsweredAlike.{both-done, both-refused}

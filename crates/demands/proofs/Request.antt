@@ -47,12 +47,11 @@ use Rattle.request.specs.declared.top.Top.the-variants as T
 use Rattle.response.specs.Answer.{Outcome, responseOf, unchanged}
 use Rattle.request.specs.declared.target.Target.{Target}
 use Rattle.execute.specs.declared.Request.{Request}
-use Rattle.demands.specs.Message.{requestOf}
-use Rattle.execute.specs.Execute.{getBytes, readingOutcome, setOutcome, portOutcome, targetOutcome, headerOutcome, topOutcome, requestOutcome}
+use Rattle.execute.specs.Execute.{requestOf, getBytes, readingOutcome, setOutcome, portOutcome, targetOutcome, headerOutcome, topOutcome, requestOutcome}
 use Rattle.handler.specs.Call.{onAdmission, messageOutcome}
 use Rattle.response.specs.declared.Kind.{Kind}
 use Rattle.response.specs.declared.Kind.the-variants.{Done, Refused}
-use Rattle.demands.specs.Check.{Check, refuseIf, firstKind}
+use Rattle.demands.specs.Check.{Check, refuseIf, walkChecks, firstKind}
 use Rattle.demands.specs.Check.Check.{skips}
 use Rattle.demands.specs.Bitset.{bitsetChecks}
 use Rattle.demands.specs.Request.{unlisted, isSet, setIn, noPort, namedOtherwise, skipIf, admissionChecks, topChecks, portChecks, headerChecks, levelChecks, commandChecks, messageChecks}
@@ -163,7 +162,7 @@ module _ (box : Box) (state : State) (m : List ℕ) (h : MessageHeader) (next : 
 
   -- the top level
   abbrev levels : CommandRead → List Check
-  levels command = levelChecks box m command (topParts (walked (topPolicy (isSet command)) m 20 .slots))
+  levels command = walkChecks (walked (topPolicy (isSet command)) m 20) (λ slots. levelChecks box m command (topParts slots))
 
   level-first : (command : Command) → kind (requestOutcome box state m (requestOf h next command)) ≡ firstKind Done (levels (Listed command))
   unfolding requestOutcome topOf nestsOf levelChecks topChecks isSet setIn

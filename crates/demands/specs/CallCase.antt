@@ -8,7 +8,7 @@ use Rattle.refusal.specs.declared.Refusal.{Refusal}
 use Rattle.bitset_form.specs.Bitset.{Bitset}
 use Rattle.boxes.specs.Box.{Box, State}
 use Rattle.response.specs.Answer.{Outcome, responseOf, noBytes, errorResponse, ackBytes, unchanged}
-use Rattle.execute.specs.Execute.{withEffect, getBytes}
+use Rattle.execute.specs.Execute.{requestOf, withEffect, getBytes}
 use Rattle.response.specs.declared.Kind.the-variants.{Skipped, Done, End, Refused}
 use lib.ListN.{length}
 use Rattle.netlink_headers.specs.Headers.{messageHeader}
@@ -18,7 +18,7 @@ use Rattle.boxes.specs.Rule.{boxRight}
 use Rattle.demands.specs.Check.{firstKind}
 use Rattle.demands.specs.Request.{messageChecks}
 use Rattle.demands.specs.Call.{messageOf}
-use Rattle.demands.specs.Message.{Named, requestOf, Carries}
+use Rattle.demands.specs.Message.{Named, Carries}
 
 -- what a message comes to: nothing for a skipped one, an error message, a reply, or a change of one set of one port
 pub data MessageCase (box : Box) (state : State) (m : List ℕ) (h : MessageHeader) (next : ℕ) (o : Outcome State) : Type 0 where

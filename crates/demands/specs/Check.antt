@@ -1,8 +1,10 @@
 -- Document 01, "What a call says back": "Checks run in this order ..; the first fault answers".
 use mathlib.Core.List.{List, [], _∷_}
 use mathlib.Core.Bool.{Bool, cond}
+use Rattle.netlink.specs.declared.walk.Slot.{Slot}
 use Rattle.netlink.specs.declared.walk.Stop.{Stop}
 use Rattle.netlink.specs.declared.walk.Stop.the-variants.{Whole, At}
+use Rattle.netlink.specs.declared.walk.Walked.{Walked}
 use Rattle.refusal.specs.Refusal.{ofFault}
 use Rattle.refusal.specs.declared.Refusal.{Refusal}
 use Rattle.response.specs.declared.Kind.{Kind}
@@ -23,6 +25,10 @@ refuseIf applies why = cond applies (refuses why) passes
 unfoldable pub walks : Stop → Check
 walks Whole = passes
 walks (At fault at) = refuses (ofFault fault at)
+
+-- a parent walked whole, then the checks of what its slots hold
+abbrev pub walkChecks : Walked → (List Slot → List Check) → List Check
+walkChecks w rest = walks (w .stop) ∷ rest (w .slots)
 
 -- the kind of the first check that does not pass, else the kind given
 unfoldable pub firstKind : Kind → List Check → Kind

@@ -4,7 +4,6 @@ use mathlib.Core.Path.{_≡_}
 use mathlib.Core.List.{List}
 use Rattle.basics.specs.Numbers.{byteAt}
 use Rattle.netlink_attributes.specs.Attributes.{partOf}
-use Rattle.netlink_headers.specs.declared.headers.MessageHeader.{MessageHeader}
 use Rattle.bitset_form.specs.Bitset.{Bitset}
 use Rattle.bitset_form.specs.Bitset.Reading.{accepted}
 use Rattle.bitset.specs.Judge.{bitsetReading}
@@ -19,7 +18,6 @@ use Rattle.admission.specs.declared.commands.Command.{Command}
 use Rattle.admission.specs.declared.commands.CommandRead.the-variants.{Listed}
 use Rattle.request.specs.declared.parts.TopParts.{TopParts}
 use Rattle.request.specs.declared.top.Top.the-variants.{Nests}
-use Rattle.execute.specs.declared.Request.{Request}
 
 -- what the request m names: a listed command, its header nest and bitset, and the port of the roll that its header gives
 pub record Named (roll m : List ℕ) : Type 0 where
@@ -29,10 +27,6 @@ pub record Named (roll m : List ℕ) : Type 0 where
   pub nests : topOf m (command .change) ≡ Nests parts
   pub target : Target
   pub found : targetOf m (parts .header) roll ≡ A.Port target
-
--- the request as it is admitted
-abbrev pub requestOf : MessageHeader → ℕ → Command → Request
-requestOf h next command = record { header = h; next = next; command = command }
 
 -- the bitset that a SET carries, as document 01 reads it over the names of the set
 abbrev pub Carries : (box : Box) (m : List ℕ) → Named (box .roll) m → Bitset → Type 0

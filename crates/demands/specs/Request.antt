@@ -28,7 +28,7 @@ use Rattle.request.specs.declared.parts.HeaderParts.{HeaderParts}
 use Rattle.admission.specs.declared.commands.Command.{Command}
 use Rattle.admission.specs.declared.commands.CommandRead.{CommandRead}
 use Rattle.admission.specs.declared.commands.CommandRead.the-variants.{Listed, Unlisted}
-use Rattle.demands.specs.Check.{Check, refuseIf, walks}
+use Rattle.demands.specs.Check.{Check, refuseIf, walkChecks}
 use Rattle.demands.specs.Check.Check.{skips, passes}
 use Rattle.demands.specs.Bitset.{bitsetChecks}
 
@@ -72,13 +72,10 @@ admissionChecks m h family admin command =
     ∷ refuseIf (isSet command && not (eqb admin 1)) R.Permission
     ∷ []
 
--- the top level: 10 to 12, then 13
-unfoldable pub topChecks : List ℕ → Bool → TopParts → List Check
-topChecks m change parts =
-    walks (walked (topPolicy change) m 20 .stop)
-    ∷ refuseIf (not (parts .header .present)) (R.MissingTop 1)
-    ∷ refuseIf (change && not (parts .bitset .present)) (R.MissingTop 2)
-    ∷ []
+-- 13 of the top level, from its parts
+unfoldable pub topChecks : Bool → TopParts → List Check
+topChecks change parts =
+    refuseIf (not (parts .header .present)) (R.MissingTop 1) ∷ refuseIf (change && not (parts .bitset .present)) (R.MissingTop 2) ∷ []
 
 -- 14 to 17 of the header nest, from its parts
 unfoldable pub portChecks : List ℕ → List ℕ → Slot → HeaderParts → List Check
@@ -93,13 +90,12 @@ portChecks m roll header parts =
 -- the header level: 10 to 12, then 14 to 17
 unfoldable pub headerChecks : List ℕ → List ℕ → Slot → List Check
 headerChecks m roll header =
-    walks (walked headerPolicy (partOf m 0 (header .end)) (header .start) .stop)
-    ∷ portChecks m roll header (headerParts (walked headerPolicy (partOf m 0 (header .end)) (header .start) .slots))
+    walkChecks (walked headerPolicy (partOf m 0 (header .end)) (header .start)) (λ slots. portChecks m roll header (headerParts slots))
 
--- the levels of a listed command: top level, header, and in a SET the bitset
+-- a listed command, from the parts of the top level: 13, the header level, and in a SET the bitset
 unfoldable pub levelChecks : Box → List ℕ → CommandRead → TopParts → List Check
 levelChecks box m command parts =
-    topChecks m (isSet command) parts
+    topChecks (isSet command) parts
     ++ (headerChecks m (box .roll) (parts .header)
     ++ cond (isSet command) (bitsetChecks (partOf m 0 (parts .bitset .end)) (parts .bitset .start) (listOf (box .names) (setIn command))) [])
 
@@ -107,7 +103,7 @@ levelChecks box m command parts =
 unfoldable pub commandChecks : Box → Call → List ℕ → MessageHeader → CommandRead → List Check
 commandChecks box call m h command =
     admissionChecks m h (call .family) (call .admin) command
-    ++ levelChecks box m command (topParts (walked (topPolicy (isSet command)) m 20 .slots))
+    ++ walkChecks (walked (topPolicy (isSet command)) m 20) (λ slots. levelChecks box m command (topParts slots))
 
 -- the message m with its header h
 unfoldable pub messageChecks : Box → Call → List ℕ → MessageHeader → List Check

@@ -34,7 +34,7 @@ use Rattle.decision.specs.Decision.{bitsetDecision, headerDecision, decided}
 use Rattle.decision.specs.declared.Decision.{Decision}
 use Rattle.request.specs.declared.target.Target.{Target}
 use Rattle.decision.specs.declared.Plan.the-variants as P
-use Rattle.response.specs.Answer.{Outcome, responseOf, ackBytes, unchanged, Performs}
+use Rattle.response.specs.Answer.{responseOf, ackBytes, unchanged, Performs}
 use Rattle.response.specs.declared.Kind.the-variants.{Done}
 use Rattle.response.specs.declared.Answer.{Answer}
 use Rattle.execute.specs.declared.Request.{Request}

@@ -5,6 +5,7 @@ use mathlib.Core.Bool.{cond}
 use lib.Dec.{eqb}
 use Rattle.basics.specs.Put.{splice}
 use Rattle.bits.specs.Set.{has, wordsOf}
+use Rattle.netlink_headers.specs.declared.headers.MessageHeader.{MessageHeader}
 use Rattle.netlink_attributes.specs.Attributes.{partOf}
 use Rattle.netlink.specs.declared.walk.Slot.{Slot}
 use Rattle.bitset_form.specs.Bitset.{Bitset, Reading, effect}
@@ -15,6 +16,7 @@ use Rattle.layout.specs.Layout.{listOf, sizeOf}
 use Rattle.layout.specs.declared.Set.{Set}
 use Rattle.boxes.specs.Box.{Box, State, sizesIn, placeIn, widthIn, setOf}
 use Rattle.reply.specs.Message.{headingOf, Content, replyBytes}
+use Rattle.admission.specs.declared.commands.Command.{Command}
 use Rattle.request.specs.Top.{topOf}
 use Rattle.request.specs.Target.{targetOf}
 use Rattle.request.specs.declared.target.Target.{Target}
@@ -26,6 +28,10 @@ use Rattle.request.specs.declared.target.TargetRead.the-variants as A
 use Rattle.response.specs.Answer.{Outcome, responseOf, errorResponse, ackBytes, unchanged}
 use Rattle.response.specs.declared.Kind.the-variants.{Done}
 use Rattle.execute.specs.declared.Request.{Request}
+
+-- the request with a header and a command, after which the datagram goes on at a position
+abbrev pub requestOf : MessageHeader → ℕ → Command → Request
+requestOf h next command = record { header = h; next = next; command = command }
 
 -- the state with new words for a set of the port at a position
 unfoldable pub withSet : Box → State → ℕ → Set → List ℕ → State

@@ -19,7 +19,7 @@ use Rattle.admission.specs.Admission.{admitted}
 use Rattle.admission.specs.declared.Admission.{Admission}
 use Rattle.admission.specs.declared.Admission.the-variants as A
 use Rattle.response.specs.Answer.{Outcome, noBytes, errorResponse, unchanged}
-use Rattle.execute.specs.Execute.{requestOutcome}
+use Rattle.execute.specs.Execute.{requestOf, requestOutcome}
 use Rattle.response.specs.declared.Kind.{Kind}
 use Rattle.response.specs.declared.Kind.the-variants.{End, Skipped, Done, Refused}
 
@@ -27,7 +27,7 @@ use Rattle.response.specs.declared.Kind.the-variants.{End, Skipped, Done, Refus
 abbrev pub onAdmission : Admission → Box → State → List ℕ → MessageHeader → ℕ → Outcome State
 onAdmission A.Skipped box state m h next = unchanged (noBytes Skipped next) state
 onAdmission (A.Refused r) box state m h next = unchanged (errorResponse m next r) state
-onAdmission (A.Admitted command) box state m h next = requestOutcome box state m (record { header = h; next = next; command = command })
+onAdmission (A.Admitted command) box state m h next = requestOutcome box state m (requestOf h next command)
 
 -- the message m with its header h
 unfoldable pub messageOutcome : Box → State → Call → List ℕ → MessageHeader → ℕ → Outcome State

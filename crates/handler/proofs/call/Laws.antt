@@ -31,7 +31,7 @@ use Rattle.admission.specs.declared.commands.Command.{Command}
 use Rattle.admission.specs.declared.Admission.{Admission}
 use Rattle.admission.specs.declared.Admission.the-variants as A
 use Rattle.response.specs.Answer.{Outcome, noBytes, errorResponse, unchanged, Responds, Performs}
-use Rattle.execute.specs.Execute.{requestOutcome}
+use Rattle.execute.specs.Execute.{requestOf, requestOutcome}
 use Rattle.execute.specs.Fit.{Fit}
 use Rattle.handler.specs.Call.{onAdmission, messageOutcome, onMessage, positionOutcome, outcome}
 use Rattle.response.specs.declared.Kind.{Kind}
@@ -39,7 +39,7 @@ use Rattle.response.specs.declared.Kind.the-variants.{End, Skipped, Refused}
 use Rattle.response.specs.declared.Answer.{Answer}
 use Rattle.execute.proofs.Laws.{unchanged-performs}
 
--- nothing is written, and the state stays
+-- nothing is written, and the state is as before
 pub no-bytes-performs : (o : Outcome State) (k : Kind) (next : ℕ) (P : List ℕ) (state : State) (r : Answer) → r ≡ record { kind = k; next = next; written = 0 }
     → o ≡ unchanged (noBytes k next) state → Performs o P P state r
 no-bytes-performs o k next P state r e q = rw q (record { response = record { result = e; page = sym (put-nil P) }; state-is = refl })
@@ -52,7 +52,7 @@ module _ (box : Box) (state : State) (m : List ℕ) (h : MessageHeader) (next : 
     pub message-refused : (why : Refusal) → a ≡ A.Refused why → Responds (errorResponse m next why) P Q r → Performs (onAdmission a box state m h next) P Q state r
     message-refused why q s = rw q (unchanged-performs (errorResponse m next why) P Q state r s)
 
-    pub message-admitted : (c : Command) (new : State) → a ≡ A.Admitted c → Performs (requestOutcome box state m (record { header = h; next = next; command = c })) P Q new r
+    pub message-admitted : (c : Command) (new : State) → a ≡ A.Admitted c → Performs (requestOutcome box state m (requestOf h next c)) P Q new r
         → Performs (onAdmission a box state m h next) P Q new r
     message-admitted c new q d = rw q d
 

@@ -38,7 +38,7 @@ use Rattle.request.specs.declared.target.TargetRead.the-variants as P
 use Rattle.response.specs.Answer.{Outcome, responseOf, unchanged}
 use Rattle.response.specs.declared.Kind.the-variants.{Done}
 use Rattle.execute.specs.declared.Request.{Request}
-use Rattle.execute.specs.Execute.{getBytes, readingOutcome, setOutcome, portOutcome, targetOutcome, headerOutcome, topOutcome, requestOutcome}
+use Rattle.execute.specs.Execute.{requestOf, getBytes, readingOutcome, setOutcome, portOutcome, targetOutcome, headerOutcome, topOutcome, requestOutcome}
 use Rattle.handler.specs.Call.{onAdmission, messageOutcome, refusedInPlace, onMessage, positionOutcome, outcome, endsRun}
 
 -- whatever a message comes to, the next position is the one after it
@@ -85,7 +85,7 @@ module _ (box : Box) (state : State) (m : List ℕ) where
       by : (x : Admission) → onAdmission x box state m h next .response .next ≡ next
       by A.Skipped = refl
       by (A.Refused r) = refl
-      by (A.Admitted command) = request-next (record { header = h; next = next; command = command })
+      by (A.Admitted command) = request-next (requestOf h next command)
 
 module _ (box : Box) (state : State) (call : Call) (datagram : List ℕ) (room : ℕ) where
   abbrev position : ℕ

@@ -11,7 +11,7 @@ use Rattle.netlink.specs.declared.walk.Slot.{Slot}
 use Rattle.refusal.specs.declared.Refusal.the-variants.{UnknownPort, OtherName}
 use Rattle.roll.specs.Find.{foundByIndex, foundByName}
 use Rattle.roll.specs.Name.{holdsName}
-use Rattle.roll.specs.Record.{portCount, nameOf}
+use Rattle.roll.specs.Record.{nameOf}
 use Rattle.roll.specs.Table.{Tabled}
 use lib.ListN.{length}
 use Rattle.roll.proofs.find.Laws.{index-is}
