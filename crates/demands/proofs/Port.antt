@@ -8,10 +8,11 @@ use lib.Dec.{eqb}
 use native.Mathlib.Omega.{arith}
 use borrow.Author.Tests.{eqb-true}
 use Rattle.basics.specs.Numbers.{byteAt}
+use Rattle.basics.specs.Nuls.{nulThenNul}
 use Rattle.basics.specs.Scan.{all}
 use Rattle.basics.proofs.Truth.{both-true}
 use Rattle.netlink.specs.Policy.{nulAt}
-use Rattle.roll.specs.Name.{nulThenNul, nameRight}
+use Rattle.roll.specs.Name.{nameRight}
 use Rattle.roll.specs.Record.{portCount, nameOf}
 use Rattle.roll_rule.specs.Rule.{rollRight}
 use Rattle.roll.proofs.table.Laws.{name-long}
