@@ -66,19 +66,16 @@ pub fn holds_name_by(field: &[u8], name: &[u8], probe: u32) -> bool
 }
 
 // Whether a field of 16 bytes is 1 to 15 bytes that are not NUL, then NULs only. Its fifteen pairs of bytes are eight and eight, of which
-// one is in both: eight are compared at once.
+// one is in both. They come first: what is known of a byte would keep the compiler from comparing eight at once.
 pub fn name_right(field: &[u8]) -> bool
     requires { ⌜ length (now field) ≡ 16 ⌝ }
     ensures { λ r. ⌜ r ≡ nameRight (now (field .entry)) ⌝ }
 {
+    if !(nul_pairs(field, 0, 8) & nul_pairs(field, 7, 8)) {
+        return false;
+    }
     if field[0] == 0 {
         return false;
     }
-    if field[15] != 0 {
-        return false;
-    }
-    if !nul_pairs(field, 0, 8) {
-        return false;
-    }
-    nul_pairs(field, 7, 8)
+    field[15] == 0
 }

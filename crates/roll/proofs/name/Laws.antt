@@ -2,7 +2,7 @@
 use Prim.Native.Nat.{ℕ, zero, suc, _+_, _-_, _≤_, _<_}
 use mathlib.Core.Path.{_≡_, refl, sym, ap, _∙_}
 use mathlib.Core.List.{List, []}
-use mathlib.Core.Bool.{Bool, true, false, not}
+use mathlib.Core.Bool.{Bool, true, false, _&&_, not}
 use mathlib.Core.Logic.{⊎-elim}
 use lib.ListN.{length, getD}
 use lib.Dec.{eqb, leb}
@@ -109,46 +109,50 @@ module _ (field name : List ℕ) where
 
 pub ruleset named-laws = (name-long, name-fits)
 
--- the rule of a name, by its first byte, its last, and its pairs: eight from 0 on, eight from 7 on
+-- the rule of a name, by its pairs, eight from 0 on and eight from 7 on, then its first byte and its last
 module _ (s : List ℕ) where
-  pub right-empty : getD s 0 0 ≡ 0 → false ≡ nameRight s
-  unfolding nameRight byteAt
-  right-empty z = sym (rw (eq-eqb _ _ z))
+  part : (from : ℕ) → from ≤ 7 → all 15 (nulThenNul s) ≡ true → all 8 (pairAt s from) ≡ true
+  unfolding pairAt
+  part from u h = all-of (pairAt s from) 8 (λ j l. all-each (nulThenNul s) 15 (from + j) h (omega arith))
 
-  module _ (n : getD s 0 0 ≡ 0 → ⊥) where
-    pub right-full : (getD s 15 0 ≡ 0 → ⊥) → false ≡ nameRight s
-    unfolding nameRight byteAt
-    right-full z = sym (rw (ne-eqb _ _ n, ne-eqb _ _ z))
+  whole : all 8 (pairAt s 0) ≡ true → all 8 (pairAt s 7) ≡ true → all 15 (nulThenNul s) ≡ true
+  unfolding pairAt
+  whole low high =
+      all-of (nulThenNul s) 15
+      (λ j l. ⊎-elim
+      (λ (u : j < 8). let k : j ≡ 0 + j = omega arith in ap (nulThenNul s) k ∙ all-each (pairAt s 0) 8 j low u)
+      (λ (u : 8 ≤ j). let k : j ≡ 7 + (j - 7) = omega arith in ap (nulThenNul s) k ∙ all-each (pairAt s 7) 8 (j - 7) high (omega arith))
+      (lt-or-ge j 8))
 
-    module _ (z : getD s 15 0 ≡ 0) where
-      rest : nameRight s ≡ all 15 (nulThenNul s)
+  module _ (b c : Bool) (eb : b ≡ all 8 (pairAt s 0)) (ec : c ≡ all 8 (pairAt s 7)) where
+    pub right-pairs : not (b && c) ≡ true → false ≡ nameRight s
+    unfolding nameRight
+    right-pairs q = sym (false-of (nameRight s) (λ h. clash (both (split h)) (not-true (b && c) q)))
+      where
+        split : nameRight s ≡ true → all 15 (nulThenNul s) ≡ true
+        split h = both-true (eqb (byteAt s 15) 0) (all 15 (nulThenNul s)) (both-true (not (eqb (byteAt s 0) 0)) (eqb (byteAt s 15) 0 && all 15 (nulThenNul s)) h .1) .1
+
+        both : all 15 (nulThenNul s) ≡ true → b && c ≡ true
+        both h = rw (eb ∙ part 0 (omega arith) h, ec ∙ part 7 (omega arith) h)
+
+    module _ (q : not (b && c) ≡ false) where
+      pairs : all 15 (nulThenNul s) ≡ true
+      pairs = let z = both-true b c (not-false (b && c) q) in whole (sym eb ∙ z .0) (sym ec ∙ z .1)
+
+      pub right-empty : getD s 0 0 ≡ 0 → false ≡ nameRight s
       unfolding nameRight byteAt
-      rest = rw (ne-eqb _ _ n, eq-eqb _ _ z)
+      right-empty z = sym (rw (eq-eqb _ _ z))
 
-      part : (from : ℕ) → from ≤ 7 → all 15 (nulThenNul s) ≡ true → all 8 (pairAt s from) ≡ true
-      unfolding pairAt
-      part from u h = all-of (pairAt s from) 8 (λ j l. all-each (nulThenNul s) 15 (from + j) h (omega arith))
-
-      pub right-low : (b : Bool) → b ≡ all 8 (pairAt s 0) → not b ≡ true → false ≡ nameRight s
-      right-low b e q = sym (rest ∙ false-of (all 15 (nulThenNul s)) (λ h. clash (part 0 (omega arith) h) (sym e ∙ not-true b q)))
-
-      pub right-high : (b c : Bool) → b ≡ all 8 (pairAt s 0) → not b ≡ false → c ≡ all 8 (pairAt s 7) → c ≡ nameRight s
-      unfolding pairAt
-      right-high b c e q ec = go c ec
+      pub right-last : (getD s 0 0 ≡ 0 → ⊥) → eqb (getD s 15 0) 0 ≡ nameRight s
+      unfolding nameRight byteAt
+      right-last n = sym (rw (ne-eqb _ _ n, pairs) (last (eqb (getD s 15 0) 0)))
         where
-          each : all 8 (pairAt s 7) ≡ true → (j : ℕ) → j < 15 → nulThenNul s j ≡ true
-          each h j l =
-              ⊎-elim
-              (λ (u : j < 8). let k : j ≡ 0 + j = omega arith in ap (nulThenNul s) k ∙ all-each (pairAt s 0) 8 j (sym e ∙ not-false b q) u)
-              (λ (u : 8 ≤ j). let k : j ≡ 7 + (j - 7) = omega arith in ap (nulThenNul s) k ∙ all-each (pairAt s 7) 8 (j - 7) h (omega arith))
-              (lt-or-ge j 8)
-
-          go : (t : Bool) → t ≡ all 8 (pairAt s 7) → t ≡ nameRight s
-          go true p = sym (rest ∙ all-of (nulThenNul s) 15 (each (sym p)))
-          go false p = sym (rest ∙ false-of (all 15 (nulThenNul s)) (λ h. clash (part 7 (omega arith) h) (sym p)))
+          last : (t : Bool) → t && true ≡ t
+          last true = refl
+          last false = refl
 
   pub right-starts : nameRight s ≡ true → byteAt s 0 ≡ 0 → ⊥
   unfolding nameRight
   right-starts h z = clash h (rw z)
 
-pub ruleset right-laws = (right-empty, right-full, right-low, right-high)
+pub ruleset right-laws = (right-pairs, right-empty, right-last)
