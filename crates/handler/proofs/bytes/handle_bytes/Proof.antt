@@ -17,14 +17,8 @@ same-length c = search needs
 returns : tie.Need-returns
 returns c = search (needs, bytes-laws)
 
-array-borrow-prefix-few : tie.Need-array-borrow-prefix-few
-array-borrow-prefix-few c = search needs
-
-slice-aggregate-handle-in : tie.Need-slice-aggregate-handle-in
-slice-aggregate-handle-in c = simp length-take (omega arith)
-
-handle-in-requires : tie.Need-handle-in-requires
-handle-in-requires c κs = let w = words-mean _ _ (c .before .before .before .before .before .are-words .ensures) (c .before .before .before .before .if1 .left) in (w .0, simp length-take (omega arith))
+handle-some-requires : tie.Need-handle-some-requires
+handle-some-requires c κs = let w = words-mean _ _ (c .before .before .before .before .are-words .ensures) (c .before .before .before .if1 .left) in (w .0, omega arith)
 
 same-length-2 : tie.Need-same-length-2
 same-length-2 c = search needs
@@ -35,14 +29,14 @@ same-length-3 c = search needs
 returns-2 : tie.Need-returns-2
 returns-2 c = search (needs, bytes-laws)
 
-array-borrow-prefix-words : tie.Need-array-borrow-prefix-words
-array-borrow-prefix-words c = let w = words-mean _ _ (c .before .before .before .are-words .ensures) (c .before .before .if1 .left) in let most = w .1 in omega arith
+array-borrow-prefix-all : tie.Need-array-borrow-prefix-all
+array-borrow-prefix-all c = let w = words-mean _ _ (c .before .before .are-words .ensures) (c .before .if1 .left) in let most = w .1 in omega arith
 
-slice-aggregate-handle-in-2 : tie.Need-slice-aggregate-handle-in-2
-slice-aggregate-handle-in-2 c = let w = words-mean _ _ (c .before .before .before .before .are-words .ensures) (c .before .before .before .if1 .left) in let most = w .1 in simp length-take (omega arith)
+slice-aggregate-words : tie.Need-slice-aggregate-words
+slice-aggregate-words c = let w = words-mean _ _ (c .before .before .before .are-words .ensures) (c .before .before .if1 .left) in let most = w .1 in simp length-take (omega arith)
 
-handle-in-requires-2 : tie.Need-handle-in-requires-2
-handle-in-requires-2 c κs = let w = words-mean _ _ (c .before .before .before .before .before .are-words .ensures) (c .before .before .before .before .if1 .left) in let most = w .1 in (w .0, simp length-take (omega arith))
+handle-in-requires : tie.Need-handle-in-requires
+handle-in-requires c κs = let w = words-mean _ _ (c .before .before .before .before .before .are-words .ensures) (c .before .before .before .before .if1 .left) in let most = w .1 in (w .0, simp length-take (omega arith))
 
 same-length-4 : tie.Need-same-length-4
 same-length-4 c = search needs
@@ -61,15 +55,13 @@ handle-bytes-spec =
     refuse-in-place-requires
     same-length
     returns
-    array-borrow-prefix-few
-    slice-aggregate-handle-in
-    handle-in-requires
+    handle-some-requires
     same-length-2
     same-length-3
     returns-2
-    array-borrow-prefix-words
-    slice-aggregate-handle-in-2
-    handle-in-requires-2
+    array-borrow-prefix-all
+    slice-aggregate-words
+    handle-in-requires
     same-length-4
     same-length-5
     returns-3)
