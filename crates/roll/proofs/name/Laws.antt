@@ -2,7 +2,7 @@
 use Prim.Native.Nat.{ℕ, zero, suc, _+_, _-_, _≤_, _<_}
 use mathlib.Core.Path.{_≡_, refl, sym, ap, _∙_}
 use mathlib.Core.List.{List, []}
-use mathlib.Core.Bool.{Bool, true, false, _&&_, not}
+use mathlib.Core.Bool.{Bool, true, false, not}
 use mathlib.Core.Logic.{⊎-elim}
 use lib.ListN.{length, getD}
 use lib.Dec.{eqb, leb}
@@ -11,10 +11,9 @@ use borrow.Author.Tests.{eq-eqb, ne-eqb, eqb-true, le-leb, lt-leb, not-true, not
 use Rattle.basics.specs.Numbers.{byteAt, u32At}
 use Rattle.basics.specs.Nuls.{nulThenNul, sameByte}
 use Rattle.basics.specs.Scan.{all}
-use Rattle.numbers.specs.Pairs.{pairAt}
 use Rattle.basics.proofs.Numbers.{same-four}
 use Rattle.basics.proofs.Order.{lt-or-ge}
-use Rattle.basics.proofs.Scan.{all-of, all-each}
+use Rattle.basics.proofs.Scan.{all-none, all-more, all-fails, all-done, all-of, all-each}
 use Rattle.basics.proofs.Truth.{false-of, both-true, clash}
 use Rattle.netlink_attributes.specs.Attributes.{partOf}
 use Rattle.netlink_attributes.proofs.Laws.{part-past}
@@ -109,50 +108,48 @@ module _ (field name : List ℕ) where
 
 pub ruleset named-laws = (name-long, name-fits)
 
--- the rule of a name, by its pairs, eight from 0 on and eight from 7 on, then its first byte and its last
+-- the rule of a name
 module _ (s : List ℕ) where
-  part : (from : ℕ) → from ≤ 7 → all 15 (nulThenNul s) ≡ true → all 8 (pairAt s from) ≡ true
-  unfolding pairAt
-  part from u h = all-of (pairAt s from) 8 (λ j l. all-each (nulThenNul s) 15 (from + j) h (omega arith))
+  module _ (j x : ℕ) (ex : x ≡ byteAt s j) where
+    pub nul-no : (x ≡ 0 → ⊥) → true ≡ nulThenNul s j
+    unfolding nulThenNul byteAt
+    nul-no n = sym (rw (← ex, ne-eqb _ _ n))
 
-  whole : all 8 (pairAt s 0) ≡ true → all 8 (pairAt s 7) ≡ true → all 15 (nulThenNul s) ≡ true
-  unfolding pairAt
-  whole low high =
-      all-of (nulThenNul s) 15
-      (λ j l. ⊎-elim
-      (λ (u : j < 8). let k : j ≡ 0 + j = omega arith in ap (nulThenNul s) k ∙ all-each (pairAt s 0) 8 j low u)
-      (λ (u : 8 ≤ j). let k : j ≡ 7 + (j - 7) = omega arith in ap (nulThenNul s) k ∙ all-each (pairAt s 7) 8 (j - 7) high (omega arith))
-      (lt-or-ge j 8))
+    pub nul-yes : (y : ℕ) → x ≡ 0 → y ≡ byteAt s (j + 1) → eqb y 0 ≡ nulThenNul s j
+    unfolding nulThenNul byteAt
+    nul-yes y z ey = sym (rw (← ex, eq-eqb _ _ z, ← ey))
 
-  module _ (b c : Bool) (eb : b ≡ all 8 (pairAt s 0)) (ec : c ≡ all 8 (pairAt s 7)) where
-    pub right-pairs : not (b && c) ≡ true → false ≡ nameRight s
+  module _ (x : ℕ) (ex : x ≡ byteAt s 0) where
+    pub right-empty : x ≡ 0 → false ≡ nameRight s
     unfolding nameRight
-    right-pairs q = sym (false-of (nameRight s) (λ h. clash (both (split h)) (not-true (b && c) q)))
-      where
-        split : nameRight s ≡ true → all 15 (nulThenNul s) ≡ true
-        split h = both-true (eqb (byteAt s 15) 0) (all 15 (nulThenNul s)) (both-true (not (eqb (byteAt s 0) 0)) (eqb (byteAt s 15) 0 && all 15 (nulThenNul s)) h .1) .1
+    right-empty z = sym (rw (← ex, eq-eqb _ _ z))
 
-        both : all 15 (nulThenNul s) ≡ true → b && c ≡ true
-        both h = rw (eb ∙ part 0 (omega arith) h, ec ∙ part 7 (omega arith) h)
+    module _ (n : x ≡ 0 → ⊥) (y : ℕ) (ey : y ≡ byteAt s 15) where
+      pub right-full : (y ≡ 0 → ⊥) → false ≡ nameRight s
+      unfolding nameRight
+      right-full z = sym (rw (← ex, ne-eqb _ _ n, ← ey, ne-eqb _ _ z))
 
-    module _ (q : not (b && c) ≡ false) where
-      pairs : all 15 (nulThenNul s) ≡ true
-      pairs = let z = both-true b c (not-false (b && c) q) in whole (sym eb ∙ z .0) (sym ec ∙ z .1)
+      module _ (z : y ≡ 0) where
+        rest : nameRight s ≡ all 15 (nulThenNul s)
+        unfolding nameRight
+        rest = rw (← ex, ne-eqb _ _ n, ← ey, eq-eqb _ _ z)
 
-      pub right-empty : getD s 0 0 ≡ 0 → false ≡ nameRight s
-      unfolding nameRight byteAt
-      right-empty z = sym (rw (eq-eqb _ _ z))
+        pub right-not : (j : ℕ) (b : Bool) → j < 15 → b ≡ nulThenNul s j → not b ≡ true → false ≡ nameRight s
+        right-not j b l e q = sym (rest ∙ all-fails (nulThenNul s) 15 j l (sym e ∙ not-true b q))
 
-      pub right-last : (getD s 0 0 ≡ 0 → ⊥) → eqb (getD s 15 0) 0 ≡ nameRight s
-      unfolding nameRight byteAt
-      right-last n = sym (rw (ne-eqb _ _ n, pairs) (last (eqb (getD s 15 0) 0)))
-        where
-          last : (t : Bool) → t && true ≡ t
-          last true = refl
-          last false = refl
+        pub right-done : (j : ℕ) → all j (nulThenNul s) ≡ true → j ≤ 15 → 15 ≤ j → true ≡ nameRight s
+        right-done j h l u = sym (rest ∙ all-done (nulThenNul s) 15 j h l u)
+
+  pub right-start : all 0 (nulThenNul s) ≡ true
+  right-start = all-none (nulThenNul s)
+
+  pub right-more : (j : ℕ) (b : Bool) → all j (nulThenNul s) ≡ true → b ≡ nulThenNul s j → not b ≡ false → all (j + 1) (nulThenNul s) ≡ true
+  right-more j b h e q = all-more (nulThenNul s) j h (sym e ∙ not-false b q)
 
   pub right-starts : nameRight s ≡ true → byteAt s 0 ≡ 0 → ⊥
   unfolding nameRight
   right-starts h z = clash h (rw z)
 
-pub ruleset right-laws = (right-pairs, right-empty, right-last)
+pub ruleset nul-laws = (nul-no, nul-yes)
+
+pub ruleset right-laws = (right-empty, right-full, right-not, right-done, right-start, right-more)

@@ -1,5 +1,4 @@
 use Rattle.roll_rule.proofs.Laws.{port-laws}
-use Rattle.roll.proofs.table.Laws.{field-long}
 use borrow.Author.Needs.{needs}
 use Rattle.roll_rule.proofs.port_right.Statement.{statement}
 use Rattle.roll_rule.proofs.port_right.Tie as tie
@@ -17,7 +16,7 @@ name-of-requires : tie.Need-name-of-requires
 name-of-requires c κs = search needs
 
 name-right-requires : tie.Need-name-right-requires
-name-right-requires c κs = search (needs, field-long)
+name-right-requires c κs = search needs
 
 returns-3 : tie.Need-returns-3
 returns-3 c = search (needs, port-laws)
