@@ -31,10 +31,6 @@ pub u32-le32 : (x : ℕ) (s : List ℕ) → x < 4294967296 → u32At (le32 x ++ 
 unfolding u32At
 u32-le32 x s h = digits32 x h
 
-pub le32-inj : (x y : ℕ) → x < 4294967296 → y < 4294967296 → le32 x ≡ le32 y → x ≡ y
-unfolding u32At
-le32-inj x y hx hy e = sym (digits32 x hx) ∙ ap (λ (l : List ℕ). u32At l 0) e ∙ digits32 y hy
-
 -- a number that stands n bytes past a list of bytes
 module _ (pre s : List ℕ) (at n : ℕ) (e : at ≡ length pre + n) where
   past : (k : ℕ) → getD (pre ++ s) (at + k) 0 ≡ getD s (n + k) 0

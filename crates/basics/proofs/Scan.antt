@@ -40,9 +40,6 @@ module _ (f : ℕ → Bool) where
   pub all-next : (i : ℕ) (b : Bool) → all i f ≡ true → b ≡ f i → b ≡ true → all (i + 1) f ≡ true
   all-next i b h e q = all-more i h (sym e ∙ q)
 
-  pub all-not : (n i : ℕ) (b : Bool) → i < n → b ≡ f i → b ≡ false → all n f ≡ false
-  all-not n i b l e q = all-fails n i l (sym e ∙ q)
-
   pub all-done : (n i : ℕ) → all i f ≡ true → i ≤ n → n ≤ i → all n f ≡ true
   all-done n i h l u = let k : i ≡ n = omega arith in rw k at h
 

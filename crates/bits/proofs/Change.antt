@@ -35,19 +35,6 @@ module _ (N : ℕ) (m v m′ v′ : ℕ → Bool) (bm : Below N m) (bm′ : Belo
           let g : N ≤ i = omega arith in
           (bm i g ∙ sym (bm′ i g), w i (bm i g) ∙ sym (w′ i (bm′ i g)))
 
-pub equal-alike : (N : ℕ) (m v m′ v′ : ℕ → Bool) → Same m m′ → Same v v′ → Alike N m v m′ v′
-equal-alike N m v m′ v′ p q s b i = ap₂ (λ (x y : Bool). cond x y (s i)) (p i) (q i)
-
--- one change after another
-then-cond : (m v m′ v′ s : Bool) → cond m′ v′ (cond m v s) ≡ cond (m || m′) (cond m′ v′ v) s
-then-cond true v true v′ s = refl
-then-cond true v false v′ s = refl
-then-cond false v true v′ s = refl
-then-cond false v false v′ s = refl
-
-pub compose : (m v m′ v′ s : ℕ → Bool) (i : ℕ) → merge m′ v′ (merge m v s) i ≡ merge (λ k. m k || m′ k) (merge m′ v′ v) s i
-compose m v m′ v′ s i = then-cond (m i) (v i) (m′ i) (v′ i) (s i)
-
 -- words say the set
 pub words-same : (w : ℕ) (f g : ℕ → Bool) → Below (w * 32) f → Below (w * 32) g → wordsOf w f ≡ wordsOf w g → Same f g
 words-same w f g bf bg e i = by (decLt i (w * 32))

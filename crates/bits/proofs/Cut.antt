@@ -58,16 +58,6 @@ cut-is w n j m h e =
     (and-lt 32 w m h (omega (arith, number-lt 32 (λ b. allBelow n (j * 32 + b)))))
     (λ b l. test-and w m b ∙ ap (λ (t : Bool). test w b && t) (ap (λ (x : ℕ). test x b) e ∙ test-number 32 (λ b. allBelow n (j * 32 + b)) b l))
 
--- word j of the bits of a set below n, from word j of the set
-pub cut-of : (ws : List ℕ) (n j w r : ℕ) → w ≡ getD ws j 0 → r ≡ number 32 (λ b. test w b && allBelow n (j * 32 + b)) → r ≡ wordOf (cut n (has ws)) j
-cut-of ws n j w r ew er =
-    er
-    ∙ number-cong 32 (λ b. test w b && allBelow n (j * 32 + b)) (λ b. cut n (has ws) (j * 32 + b))
-    (λ b l. ap (λ (t : Bool). t && allBelow n (j * 32 + b)) (ap (λ (x : ℕ). test x b) ew ∙ sym (has-word ws j b l)))
-
-pub cut-below : (n : ℕ) (f : ℕ → Bool) → Below n (cut n f)
-cut-below n f i h = rw (le-ltb i n h) (and-false (f i))
-
 -- a word is what is left of it exactly when all its bits are kept
 module _ (w r : ℕ) (g : ℕ → Bool) (e : r ≡ number 32 (λ b. test w b && g b)) where
   pub kept-each : w ≡ r → (b : ℕ) → b < 32 → test w b ≡ true → g b ≡ true

@@ -56,11 +56,6 @@ eight-past s at h =
     (rw
     (gone at (omega arith), gone (at + 1) (omega arith), gone (at + 2) (omega arith), gone (at + 3) (omega arith), gone (at + 4) (omega arith), gone (at + 4 + 1) (omega arith), gone (at + 4 + 2) (omega arith), gone (at + 4 + 3) (omega arith)))
 
--- the same bytes are the same entry
-pub equal-same : (a b : List ℕ) → a ≡ b → sameEntry a b ≡ true
-unfolding sameEntry sameByte
-equal-same a b e = all-of (sameByte a b) 32 (λ j l. eq-eqb _ _ (ap (λ (x : List ℕ). getD x j 0) e))
-
 pub same-bytes : (a b : List ℕ) (j : ℕ) → sameEntry a b ≡ true → j < 32 → getD a j 0 ≡ getD b j 0
 unfolding sameEntry sameByte
 same-bytes a b j h l = eqb-true _ _ (all-each (sameByte a b) 32 j h l)

@@ -88,5 +88,3 @@ module _ (names name : List ℕ) where
 
   pub along-end : (t : Bool) (p : ℕ) → t ≡ noName name → t ≡ false → Along names name p → p ≡ 0 → notFound ≡ lookup names name
   along-end t p e z a q = name-gone names name t e z (λ k u. a .others k (omega (arith, q)) u)
-
-pub ruleset along-laws = (along-start, along-look, along-found, along-on, along-end)

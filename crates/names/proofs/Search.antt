@@ -80,8 +80,6 @@ module _ (names name : List ℕ) where
         let f : first (count names) (isEntry names name) ≡ count names = rw k at h in
         sym (rw (named, f, le-ltb (count names) (count names) (omega arith)))
 
-pub ruleset find-laws = (name-barred, none-start, same-start, none-more, name-at, name-none)
-
 -- what is found is an entry that equals the name
 module _ (names name : List ℕ) where
   pub lookup-found : lookup names name .found ≡ true

@@ -92,23 +92,6 @@ words-of-bytes ws s =
     ext-getD 0 (wordsIn (bytesOf ws)) ws len
     (λ j h. sym (word-in (bytesOf ws) j (omega (arith, length-bytesOf ws))) ∙ bytes-at ws s j (omega arith))
 
--- the bytes of the words in whole words' bytes are these
-module _ (s : List ℕ) (small : (i : ℕ) → getD s i 0 < 256) where
-  front : (j : ℕ) → j ≤ length s / 4 → bytesOf (take j (wordsIn s)) ≡ take (j * 4) s
-  unfolding bytesOf
-  front zero h = refl
-  front (suc j) h =
-      let up : j * 4 + 4 ≡ suc j * 4 = omega arith in
-      ap (λ (k : ℕ). bytesOf (take k (wordsIn s))) (sym (add-one j))
-      ∙ bytesOf-more (wordsIn s) j (omega (arith, length-wordsIn s))
-      ∙ ap₂ (λ (x y : List ℕ). x ++ y) (front j (omega arith)) (ap le32 (sym (word-in s j (omega arith))) ∙ sym (four-bytes s small (j * 4) (omega arith)))
-      ∙ sym (take-add (j * 4) 4 s) ∙ ap (λ (k : ℕ). take k s) up
-
-  pub bytes-of-words : length s % 4 ≡ 0 → bytesOf (wordsIn s) ≡ s
-  bytes-of-words e =
-      ap bytesOf (sym (take-all (length s / 4) (wordsIn s) (omega (arith, length-wordsIn s))))
-      ∙ front (length s / 4) (omega arith) ∙ take-all (length s / 4 * 4) s (omega arith)
-
 -- equal bytes are of equal words
 pub bytesOf-inj : (xs ys : List ℕ) → Small xs → Small ys → bytesOf xs ≡ bytesOf ys → xs ≡ ys
 bytesOf-inj xs ys sx sy e = sym (words-of-bytes xs sx) ∙ ap wordsIn e ∙ words-of-bytes ys sy
