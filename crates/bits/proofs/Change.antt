@@ -35,6 +35,9 @@ module _ (N : ℕ) (m v m′ v′ : ℕ → Bool) (bm : Below N m) (bm′ : Belo
           let g : N ≤ i = omega arith in
           (bm i g ∙ sym (bm′ i g), w i (bm i g) ∙ sym (w′ i (bm′ i g)))
 
+pub equal-alike : (N : ℕ) (m v m′ v′ : ℕ → Bool) → Same m m′ → Same v v′ → Alike N m v m′ v′
+equal-alike N m v m′ v′ p q s b i = ap₂ (λ (x y : Bool). cond x y (s i)) (p i) (q i)
+
 -- words say the set
 pub words-same : (w : ℕ) (f g : ℕ → Bool) → Below (w * 32) f → Below (w * 32) g → wordsOf w f ≡ wordsOf w g → Same f g
 words-same w f g bf bg e i = by (decLt i (w * 32))

@@ -48,6 +48,14 @@ has-word ws j b h =
     let r : (j * 32 + b) % 32 ≡ b = omega arith in
     ap₂ (λ (x y : ℕ). test (getD ws x 0) y) q r
 
+-- words are known by their bits
+pub words-ext : (ws : List ℕ) (f : ℕ → Bool) → ((j : ℕ) → j < length ws → getD ws j 0 < 2 ^ 32)
+    → ((j b : ℕ) → j < length ws → b < 32 → test (getD ws j 0) b ≡ f (j * 32 + b)) → ws ≡ wordsOf (length ws) f
+words-ext ws f small same =
+    ext-getD 0 ws (wordsOf (length ws) f) (sym (length-wordsOf (length ws) f))
+    (λ j h. number-ext 32 (getD ws j 0) (λ b. f (j * 32 + b)) (small j h) (λ b l. same j b h l)
+    ∙ sym (getD-wordsOf (length ws) f j h))
+
 -- fewer words
 pub take-wordsOf : (k w : ℕ) (f : ℕ → Bool) → k ≤ w → take k (wordsOf w f) ≡ wordsOf k f
 unfolding wordsOf
@@ -62,6 +70,21 @@ has-all w f b i =
     (λ (q : i < w * 32). has-wordsOf w f i q)
     (λ (q : w * 32 ≤ i). has-past (wordsOf w f) i (omega (arith, length-wordsOf w f)) ∙ sym (b i q))
     (lt-or-ge i (w * 32))
+
+-- one word replaced
+pub set-words : (ws : List ℕ) (f : ℕ → Bool) (q r : ℕ) → q < length ws → ((j : ℕ) → getD ws j 0 < 2 ^ 32)
+    → r ≡ number 32 (λ b. f (q * 32 + b)) → ((j b : ℕ) → j ≢ q → b < 32 → test (getD ws j 0) b ≡ f (j * 32 + b))
+    → set ws q r ≡ wordsOf (length ws) f
+set-words ws f q r h small e same =
+    ext-getD 0 (set ws q r) (wordsOf (length ws) f) (length-set ws q r ∙ sym (length-wordsOf (length ws) f))
+    (λ j l. at j (subst (λ (n : ℕ). j < n) (length-set ws q r) l) (ℕ-discrete j q) ∙ sym (getD-wordsOf (length ws) f j (subst (λ (n : ℕ). j < n) (length-set ws q r) l)))
+  where
+    at : (j : ℕ) → j < length ws → Dec (j ≡ q) → getD (set ws q r) j 0 ≡ number 32 (λ b. f (j * 32 + b))
+    at j l (yes p) =
+        ap (λ (k : ℕ). getD (set ws q r) k 0) p ∙ getD-set-same ws q r 0 h ∙ e
+        ∙ ap (λ (k : ℕ). number 32 (λ b. f (k * 32 + b))) (sym p)
+    at j l (no n) =
+        getD-set-other ws q j r 0 n ∙ number-ext 32 (getD ws j 0) (λ b. f (j * 32 + b)) (small j) (λ b k. same j b n k)
 
 -- one bit of a set
 module _ (ws : List ℕ) (i : ℕ) (v : Bool) where

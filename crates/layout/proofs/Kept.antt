@@ -43,6 +43,20 @@ module _ (ws ys : List ℕ) (at : ℕ) (h : at + length ys ≤ length ws) where
       ap (λ (n : ℕ). getD (take at ws ++ put (drop at ws) ys) n 0) e ∙ getD-append-add (take at ws) (put (drop at ws) ys) (k - at) 0
       ∙ getD-put (drop at ws) ys (k - at) (omega arith) ∙ getD-drop at ws (k - at) 0 ∙ ap (λ (n : ℕ). getD ws n 0) b
 
+  pub splice-other : (b w : ℕ) → b + w ≤ length ws → Apart at (length ys) b w → take w (drop b (splice at ws ys)) ≡ take w (drop b ws)
+  splice-other b w l apart =
+      ext-getD 0 (take w (drop b (splice at ws ys))) (take w (drop b ws)) (long (splice at ws ys) splice-length ∙ sym (long ws refl))
+      (λ j u. let v : j < w = let n = long (splice at ws ys) splice-length in omega arith in part (splice at ws ys) j v ∙ each j v ∙ sym (part ws j v))
+    where
+      long : (s : List ℕ) → length s ≡ length ws → length (take w (drop b s)) ≡ w
+      long s e = length-take-le w (drop b s) (rw (length-drop b s) (omega arith))
+
+      part : (s : List ℕ) (j : ℕ) → j < w → getD (take w (drop b s)) j 0 ≡ getD s (b + j) 0
+      part s j v = getD-take w (drop b s) j 0 v ∙ getD-drop b s j 0
+
+      each : (j : ℕ) → j < w → getD (splice at ws ys) (b + j) 0 ≡ getD ws (b + j) 0
+      each j v = ⊎-elim (λ (q : at + length ys ≤ b). splice-above (b + j) (omega arith)) (λ (q : b + w ≤ at). splice-below (b + j) (omega arith)) apart
+
 -- a new set in the settings
 module _ (settings : List ℕ) (ports : ℕ) (width : Sizes) (exact : length settings ≡ totalWords ports width) (position : ℕ) (h : position < ports) (set : Set)
     (new : List ℕ) (fits : length new ≡ sizeOf width set) where
