@@ -20,9 +20,10 @@ flagNames = replicate 96 0 ++ (108 ∷ 108 ∷ 100 ∷ 112 ∷ replicate 1180 0)
 unfoldable pub firstWords : List ℕ
 firstWords = 0 ∷ 0 ∷ 1 ∷ 2 ∷ []
 
--- the program's box, and the state that it starts with
+-- the program's box
 unfoldable pub programBox : Box
 programBox = boxOf portRoll debugNames flagNames
 
+-- the state that the program starts with
 unfoldable pub firstState : State
 firstState = stateOf firstWords

@@ -11,6 +11,7 @@ bit x i = x / 2 ^ i % 2
 abbrev pub test : ℕ → ℕ → Bool
 test x i = eqb (bit x i) 1
 
+-- a truth value as 0 or 1
 abbrev pub digit : Bool → ℕ
 digit true = 1
 digit false = 0

@@ -23,6 +23,7 @@ mixedAt parts =
     (cond (parts .bits .present && parts .mask .present) (At (parts .mask .start - 4))
     (cond (parts .nomask .present && parts .mask .present) (At (parts .mask .start - 4)) Unmixed))
 
+-- 18 where the forms are mixed, else what comes after
 abbrev pub onMixing : Mixing → Reading → Reading
 onMixing Unmixed rest = rest
 onMixing (At at) rest = refused (Mixed at)

@@ -29,6 +29,7 @@ bitByIndex s n index = cond (leb n (slotNumber s index)) (L.Refused (PastLength 
 abbrev pub onLookup : Lookup → ℕ → IdentityRead
 onLookup l at = cond (l .found) (L.Read (Number (l .bit))) (L.Refused (UnknownBit at))
 
+-- the bit that NAME means, by the list of names
 unfoldable pub bitByName : List ℕ → List ℕ → Slot → IdentityRead
 bitByName s names name = onLookup (lookup names (partOf s (name .start) (name .end))) (name .start - 4)
 
@@ -43,6 +44,7 @@ abbrev pub onIdentity : Identity → ℕ → Bool → BitRead
 onIdentity (Number number) at on = B.Bit number on
 onIdentity Neither at on = B.Refused (NoBit at)
 
+-- the refusal of an INDEX or a NAME, or the BIT that they identify
 abbrev pub onIdentityRead : IdentityRead → ℕ → Bool → BitRead
 onIdentityRead (L.Read identity) at on = onIdentity identity at on
 onIdentityRead (L.Refused r) at on = B.Refused r

@@ -38,6 +38,7 @@ refusedAtStop (At fault at) rest = Refused 22 (Offset at)
 unfoldable pub numberReading : List ℕ → ℕ → Slot → RequestRead
 numberReading contents at number = cond (not (number .present)) (Refused 22 (MissIn 1 at)) (Number (slotNumber contents number))
 
+-- what the header nest asks
 unfoldable pub nestReading : List ℕ → Slot → RequestRead
 nestReading request nest =
     refusedAtStop (walked (policy R.Number) (partOf request 0 (nest .end)) (nest .start) .stop)
@@ -48,6 +49,7 @@ nestReading request nest =
 unfoldable pub topReading : List ℕ → Slot → RequestRead
 topReading request nest = cond (not (nest .present)) (Refused 22 (MissTop 1)) (nestReading request nest)
 
+-- what the request asks by its generic header: its one command is 1
 unfoldable pub onGeneric : List ℕ → GenericHeaderRead → RequestRead
 onGeneric request G.Short = Refused 22 Nothing
 onGeneric request (G.Header h) =
@@ -55,6 +57,7 @@ onGeneric request (G.Header h) =
     (refusedAtStop (walked (policy R.Nest) request 20 .stop) (topReading request (getD (walked (policy R.Nest) request 20 .slots) 1 absent)))
     (Refused 95 Nothing)
 
+-- what a request asks
 unfoldable pub requestReading : List ℕ → RequestRead
 requestReading request = onGeneric request (genericHeaderAt request 16)
 
@@ -64,13 +67,16 @@ numberReply h number =
     messageHeaderBytes (record { length = 32; kind = h .kind; flags = 0; sequence = h .sequence; port = h .port })
     ++ (genericHeaderBytes (record { command = 1; version = 1; reserved = 0 }) ++ nest 1 (attr 1 (le32 number)))
 
+-- the reply, or the error message
 abbrev pub readAnswer : RequestRead → List ℕ → MessageHeader → List ℕ
 readAnswer (Number number) request h = numberReply h number
 readAnswer (Refused errno detail) request h = errorMessage request errno detail
 
+-- the answer to a request
 unfoldable pub answerBytes : List ℕ → MessageHeader → List ℕ
 answerBytes request h = readAnswer (requestReading request) request h
 
+-- nothing without a message header, else the answer
 abbrev pub headerAnswer : MessageHeaderRead → List ℕ → List ℕ
 headerAnswer M.Short request = []
 headerAnswer (M.Header h) request = answerBytes request h

@@ -30,5 +30,6 @@ planOutcome (P.Get target) form box state m request = unchanged (responseOf Done
 planOutcome (P.Set position nest) form box state m request =
     record { response = responseOf Done (request .next) (ackBytes m (request .header)); state = changedBy box state position (request .command .set) form }
 
+-- so of a decision
 unfoldable pub carriedOut : Box → State → List ℕ → Request → Decision → Outcome State
 carriedOut box state m request d = planOutcome (d .plan) (d .form) box state m request

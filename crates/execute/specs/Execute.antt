@@ -83,19 +83,21 @@ portOutcome box state m request bitset target =
     (setOutcome box state m request bitset (target .position))
     (unchanged (responseOf Done (request .next) (getBytes box state m request target)) state)
 
--- the header level, then GET or SET
+-- a refusal of the header level, or what is made of its target
 abbrev pub targetOutcome : TargetRead → State → List ℕ → Request → (Target → Outcome State) → Outcome State
 targetOutcome (A.Refused r) state m request f = unchanged (errorResponse m (request .next) r) state
 targetOutcome (A.Port target) state m request f = f target
 
+-- the port that the header names, then GET or SET
 unfoldable pub headerOutcome : Box → State → List ℕ → Request → TopParts → Outcome State
 headerOutcome box state m request parts =
     targetOutcome (targetOf m (parts .header) (box .roll)) state m request (portOutcome box state m request (parts .bitset))
 
--- the top level, then the header level
+-- a refusal of the top level, or what is made of its parts
 abbrev pub topOutcome : Top → State → List ℕ → Request → (TopParts → Outcome State) → Outcome State
 topOutcome (T.Refused r) state m request f = unchanged (errorResponse m (request .next) r) state
 topOutcome (T.Nests parts) state m request f = f parts
 
+-- what an admitted request comes to
 unfoldable pub requestOutcome : Box → State → List ℕ → Request → Outcome State
 requestOutcome box state m request = topOutcome (topOf m (request .command .change)) state m request (headerOutcome box state m request)

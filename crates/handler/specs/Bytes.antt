@@ -16,6 +16,7 @@ use Rattle.handler.specs.Call.{outcome}
 pub record Stored : Type 0 where
   pub settings : List ℕ
 
+-- the state, as it is lent
 abbrev pub storedOf : List ℕ → Stored
 storedOf settings = record { settings = settings }
 
@@ -23,6 +24,7 @@ storedOf settings = record { settings = settings }
 abbrev pub inWords : Stored → B.State
 inWords stored = record { words = wordsIn (stored .settings) }
 
+-- the words as bytes again
 abbrev pub asStored : B.State → Stored
 asStored state = record { settings = bytesOf (state .words) }
 

@@ -14,14 +14,16 @@ pub record Names : Type 0 where
   pub debug : List ℕ
   pub flags : List ℕ
 
+-- the names, as they are lent
 abbrev pub namesOf : List ℕ → List ℕ → Names
 namesOf debug flags = record { debug = debug; flags = flags }
 
--- what is the set's: its names, or its number
+-- the names of a set
 unfoldable pub listOf : Names → Set → List ℕ
 listOf names Debug = names .debug
 listOf names Flags = names .flags
 
+-- the number of a set
 unfoldable pub sizeOf : Sizes → Set → ℕ
 sizeOf sizes Debug = sizes .debug
 sizeOf sizes Flags = sizes .flags
@@ -30,10 +32,11 @@ sizeOf sizes Flags = sizes .flags
 unfoldable pub everySet : (Set → Bool) → Bool
 everySet f = f Debug && f Flags
 
--- a number of each list, and of each number
+-- a number of each list
 abbrev pub ofLists : (List ℕ → ℕ) → Names → Sizes
 ofLists f names = record { debug = f (names .debug); flags = f (names .flags) }
 
+-- a number of each number
 abbrev pub ofSizes : (ℕ → ℕ) → Sizes → Sizes
 ofSizes f sizes = record { debug = f (sizes .debug); flags = f (sizes .flags) }
 
@@ -41,10 +44,11 @@ ofSizes f sizes = record { debug = f (sizes .debug); flags = f (sizes .flags) }
 abbrev pub widthsOf : Sizes → Sizes
 widthsOf sizes = ofSizes wordsFor sizes
 
--- the words of one port, and the first of a set among them
+-- the words of one port
 unfoldable pub portWords : Sizes → ℕ
 portWords width = width .debug + width .flags
 
+-- the first word of a set among those of its port
 unfoldable pub firstOf : Sizes → Set → ℕ
 firstOf width Debug = 0
 firstOf width Flags = width .debug

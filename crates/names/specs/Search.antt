@@ -16,9 +16,11 @@ isEntry names name i = sameEntry (entryAt names i) name
 unfoldable pub noName : List ℕ → Bool
 noName name = isEmpty name || ltb 32 (length name)
 
+-- no entry equals the name
 abbrev pub notFound : Lookup
 notFound = record { found = false; bit = 0 }
 
+-- entry i equals it
 abbrev pub foundAt : ℕ → Lookup
 foundAt i = record { found = true; bit = i }
 

@@ -19,13 +19,15 @@ use Rattle.netlink.specs.declared.walk.Stop.{Stop}
 use Rattle.netlink.specs.declared.walk.Stop.the-variants.{Whole, At}
 use Rattle.netlink.specs.declared.walk.Walked.{Walked}
 
--- the slot of an attribute whose payload stands from start to end, and that of a type which no attribute has
+-- the slot of an attribute whose payload stands from start to end
 abbrev pub found : ℕ → ℕ → Slot
 found start end = record { present = true; start = start; end = end }
 
+-- the slot of a type which no attribute has
 abbrev pub absent : Slot
 absent = record { present = false; start = 0; end = 0 }
 
+-- no type has an attribute
 abbrev pub absentAll : List Slot
 absentAll = replicate 8 absent
 
@@ -55,6 +57,7 @@ eachType f = f 0 ∷ f 1 ∷ f 2 ∷ f 3 ∷ f 4 ∷ f 5 ∷ f 6 ∷ f 7 ∷ []
 abbrev pub stopped : Fault → ℕ → Walked
 stopped fault at = record { stop = At fault at; slots = absentAll }
 
+-- the slots of a parent that is right as a whole, or its first fault
 abbrev pub walkedTo : Stop → List Slot → Walked
 walkedTo Whole slots = record { stop = Whole; slots = slots }
 walkedTo (At fault at) slots = stopped fault at

@@ -27,9 +27,11 @@ pub record NormalAnswer : Type 0 where
   pub number : ℕ
   pub bytes : List ℕ
 
+-- a refusal: its number, and nothing written
 abbrev pub refusedBy : Refusal → NormalAnswer
 refusedBy r = record { number = numberOf r; bytes = [] }
 
+-- the number of a refusal, or 0 and the normal form
 abbrev pub readingAnswer : Reading → ℕ → NormalAnswer
 readingAnswer (refused r) n = refusedBy r
 readingAnswer (accepted b) n = record { number = 0; bytes = normalForm n b }

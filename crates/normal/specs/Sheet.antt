@@ -17,31 +17,39 @@ use Rattle.bitset.specs.Judge.{bitsetReading}
 use Rattle.bitset_write.specs.Form.{partsBytes}
 use Rattle.normal.specs.Normal.{normalForm}
 
--- the attributes of a bitset and of a BIT
+-- the attributes of a bitset and of a BIT, NOMASK (1) first
 abbrev pub NOMASK : List ℕ
 NOMASK = attr 1 []
 
+-- SIZE (2)
 abbrev pub SIZE : ℕ → List ℕ
 SIZE n = attr 2 (le32 n)
 
+-- BITS (3)
 abbrev pub BITS : List ℕ → List ℕ
 BITS bits = nest 3 bits
 
+-- VALUE (4)
 abbrev pub VALUE : List ℕ → List ℕ
 VALUE words = attr 4 (bytesOf words)
 
+-- MASK (5)
 abbrev pub MASK : List ℕ → List ℕ
 MASK words = attr 5 (bytesOf words)
 
+-- a BIT (1 in BITS)
 abbrev pub BIT : List ℕ → List ℕ
 BIT parts = nest 1 parts
 
+-- its INDEX (1)
 abbrev pub INDEX : ℕ → List ℕ
 INDEX i = attr 1 (le32 i)
 
+-- its NAME (2)
 abbrev pub NAME : List ℕ → List ℕ
 NAME name = attr 2 name
 
+-- its VALUE flag (3)
 abbrev pub ON : List ℕ
 ON = attr 3 []
 
@@ -59,10 +67,12 @@ pub data Expected : Type 0 where
   makes : List ℕ → Expected
   normal : (made value mask : List ℕ) → Expected
 
+-- a row of the sheet: the bitset's contents, and what is expected
 pub record SheetRow : Type 0 where
   pub contents : List ℕ
   pub expected : Expected
 
+-- the row of these
 abbrev pub sheetRow : List ℕ → Expected → SheetRow
 sheetRow contents expected = record { contents = contents; expected = expected }
 

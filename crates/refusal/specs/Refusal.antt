@@ -13,6 +13,7 @@ use Rattle.refusal.specs.declared.Refusal.{Refusal}
 use Rattle.refusal.specs.declared.Row.{Row}
 use Rattle.refusal.specs.declared.Refusal.the-variants.{Box, Page, Datagram, Length, Family, Short, Command, Dump, Permission, Broken, Unlisted, Payload, MissingTop, MissingIn, NoPort, HeaderFlag, UnknownPort, OtherName, Mixed, ShortBitmap, PastLength, UnknownBit, NoBit}
 
+-- a row of the table
 abbrev row : ℕ → ℕ → Detail → Row
 row number errno detail = record { number = number; errno = errno; detail = detail }
 

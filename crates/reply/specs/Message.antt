@@ -35,6 +35,7 @@ pub record Content : Type 0 where
   pub words : List ℕ
   pub bits : ℕ
 
+-- of these parts
 abbrev pub contentOf : ℕ → List ℕ → Bool → List ℕ → List ℕ → ℕ → Content
 contentOf index name compact names words bits =
     record { index = index; name = name; compact = compact; names = names; words = words; bits = bits }

@@ -40,6 +40,7 @@ pub record Outcome (S : Type 0) : Type 0 where
   pub response : Response
   pub state : S
 
+-- the response of these parts
 abbrev pub responseOf : Kind → ℕ → List ℕ → Response
 responseOf kind next bytes = record { kind = kind; next = next; bytes = bytes }
 

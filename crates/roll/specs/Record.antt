@@ -61,20 +61,23 @@ recordPorts endOfRoll = []
 recordPorts badRecord = []
 recordPorts (port p rest) = p ∷ recordPorts rest
 
--- the ports of a roll in order, and how many there are
+-- the ports of a roll in order
 unfoldable pub portsOf : List ℕ → List Port
 portsOf roll = recordPorts (records roll 0)
 
+-- how many ports a roll has
 unfoldable pub portCount : List ℕ → ℕ
 portCount roll = length (portsOf roll)
 
--- the index and the name of the port at a position, counted from 0
+-- the port at a position, counted from 0
 unfoldable pub portAt : List ℕ → ℕ → Port
 portAt roll k = getD (portsOf roll) k (record { index = 0; name = [] })
 
+-- the index of the port at a position
 unfoldable pub indexOf : List ℕ → ℕ → ℕ
 indexOf roll k = portAt roll k .index
 
+-- its name
 unfoldable pub nameOf : List ℕ → ℕ → List ℕ
 nameOf roll k = portAt roll k .name
 

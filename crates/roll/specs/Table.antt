@@ -7,17 +7,19 @@ use lib.Dec.{ltb}
 use Rattle.roll.specs.Name.{nameAt}
 use Rattle.roll.specs.Record.{portCount, portsListed, indexOf, nameOf}
 
--- the most that one takes, and what holds of every kind: none, or room for an index and a name
+-- the most bytes that a record takes
 abbrev pub mostBytes : ℕ
 mostBytes = 21
 
+-- none, or room for an index and a name
 abbrev pub SizeFits : ℕ → Type 0
 SizeFits size = (size ≤ mostBytes) × (min 1 size * 21 ≤ size)
 
--- the two halves of a word
+-- the low half of a word
 abbrev pub lowOf : ℕ → ℕ
 lowOf x = x % 4294967296
 
+-- the high half of a word
 abbrev pub highOf : ℕ → ℕ
 highOf x = x / 4294967296
 

@@ -14,10 +14,11 @@ indexMark x = x % 1024
 unfoldable pub nameMark : List ℕ → ℕ
 nameMark s = (u32At s 0 * 483130339 + u32At s 4 * 407823575 + u32At s 8 * 476453121 + u32At s 12 * 347328907) / 4194304 % 1024
 
--- the marks of the port at a position
+-- the mark of the index of the port at a position
 unfoldable pub markOfIndex : List ℕ → ℕ → ℕ
 markOfIndex roll k = indexMark (indexOf roll k)
 
+-- the mark of its name
 unfoldable pub markOfName : List ℕ → ℕ → ℕ
 markOfName roll k = nameMark (nameOf roll k)
 
