@@ -91,12 +91,12 @@ written-fits o P Q new r h e =
 pub written-part : (o : Outcome State) (P Q : List ℕ) (new : State) (r : Answer) → Performs o P Q new r → length Q ≡ length P → r .written ≡ length (take (r .written) Q)
 written-part o P Q new r h e = sym (length-take-le (r .written) Q (written-fits o P Q new r h e))
 
-module _ (d : List ℕ) (state : State) (at k : ℕ) (s : SoFar d state at k) (P Q : List ℕ) (new : State) (r : Answer) (did : Performs (call d state at) P Q new r) (b : Bool) (eb : b ≡ goesOn (r .kind)) where
+module _ (d : List ℕ) (state : State) (at k : ℕ) (s : SoFar d state at k) (P Q : List ℕ) (new : State) (r : Answer) (performed : Performs (call d state at) P Q new r) (b : Bool) (eb : b ≡ goesOn (r .kind)) where
   go : b ≡ goesOn (call d state at .response .kind)
-  go = eb ∙ ap (λ (x : Answer). goesOn (x .kind)) (did .response .result)
+  go = eb ∙ ap (λ (x : Answer). goesOn (x .kind)) (performed .response .result)
 
   next-is : r .next ≡ call d state at .response .next
-  next-is = ap (λ (x : Answer). x .next) (did .response .result)
+  next-is = ap (λ (x : Answer). x .next) (performed .response .result)
 
   from-here : answersFrom d state at ≡ onward b (call d state at) (answersFrom d)
   from-here = answers-step d state at ∙ ap (λ (x : Bool). onward x (call d state at) (answersFrom d)) (sym go)
@@ -126,7 +126,7 @@ module _ (d : List ℕ) (state : State) (at k : ℕ) (s : SoFar d state at k) (P
         record {
           more = omega (arith, s .count);
           here =
-              ap (take (r .written)) (did .response .page) ∙ take-put P (call d state at .response .bytes) (r .written) (sym (ap (λ (x : Answer). x .written) (did .response .result)))
+              ap (take (r .written)) (performed .response .page) ∙ take-put P (call d state at .response .bytes) (r .written) (sym (ap (λ (x : Answer). x .written) (performed .response .result)))
               ∙ sym (ap (λ (l : List (List ℕ)). getD l k []) here ∙ getD-at (s .before) (call d state at .response .bytes) rest [] k (s .count));
         }
 
@@ -138,7 +138,7 @@ module _ (d : List ℕ) (state : State) (at k : ℕ) (s : SoFar d state at k) (P
           count = length-append (s .before) (call d state at .response .bytes ∷ []) ∙ omega (arith, s .count, e);
           whole =
               here ∙ sym (append-assoc (s .before) (call d state at .response .bytes ∷ []) rest)
-              ∙ rw (did .state-is, next-is) refl;
+              ∙ rw (performed .state-is, next-is) refl;
         }
 
 pub ruleset run-laws = (none-yet, written-fits, written-part, run-stops, run-less, run-next, run-again)

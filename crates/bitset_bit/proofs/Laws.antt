@@ -59,17 +59,17 @@ module _ (s : List ℕ) (n : ℕ) (index : Slot) (i : ℕ) (e : i ≡ slotNumber
 pub ruleset index-laws = (index-past, index-in)
 
 module _ (s names : List ℕ) (name : Slot) (p : List ℕ) (ep : p ≡ partOf s (name .start) (name .end)) (l : Lookup) (el : l ≡ lookup names p) where
-  looked : bitByName s names name ≡ onLookup l (name .start - 4)
+  by-lookup : bitByName s names name ≡ onLookup l (name .start - 4)
   unfolding bitByName
-  looked = sym (ap (λ (x : Lookup). onLookup x (name .start - 4)) (el ∙ ap (lookup names) ep))
+  by-lookup = sym (ap (λ (x : Lookup). onLookup x (name .start - 4)) (el ∙ ap (lookup names) ep))
 
   pub name-found : l .found ≡ true → L.Read (Number (l .bit)) ≡ bitByName s names name
-  name-found h = sym (looked ∙ cond-true (l .found) (L.Read (Number (l .bit))) (L.Refused (UnknownBit (name .start - 4))) h)
+  name-found h = sym (by-lookup ∙ cond-true (l .found) (L.Read (Number (l .bit))) (L.Refused (UnknownBit (name .start - 4))) h)
 
   pub name-unknown : (at : ℕ) → at ≡ name .start - 4 → l .found ≡ false → L.Refused (UnknownBit at) ≡ bitByName s names name
   name-unknown at ea h =
       ap (λ (x : ℕ). L.Refused (UnknownBit x)) ea
-      ∙ sym (looked ∙ cond-false (l .found) (L.Read (Number (l .bit))) (L.Refused (UnknownBit (name .start - 4))) h)
+      ∙ sym (by-lookup ∙ cond-false (l .found) (L.Read (Number (l .bit))) (L.Refused (UnknownBit (name .start - 4))) h)
 
 pub ruleset name-laws = (name-found, name-unknown)
 

@@ -28,7 +28,7 @@ pub enum Identity {
     Neither,
 }
 
-// An INDEX or a NAME looked up.
+// What an INDEX or a NAME identifies.
 pub enum IdentityRead {
     Read(Identity),
     Refused(Refusal),

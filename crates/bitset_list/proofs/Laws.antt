@@ -165,33 +165,33 @@ pub ruleset bits-laws = (bits-start, bits-end, bits-broken, bits-less, bits-refu
 module _ (s names : List ℕ) (parts : BitsetParts) (c : List ℕ) (ec : c ≡ partOf s 0 (parts .bits .end))
     (p : List Rule) (ep : p ≡ bitsPolicy) (w : Walked) (ew : w ≡ walked p c (parts .bits .start)) where
   -- what the BITs of contents say
-  abbrev said : List ℕ → ListReading
-  said x = bitsReading x names (attributes x (parts .bits .start))
+  abbrev bitsRead : List ℕ → ListReading
+  bitsRead x = bitsReading x names (attributes x (parts .bits .start))
 
-  by-bits : listReading s names parts ≡ onStop (w .stop) refused (asBitset (parts .nomask .present) (said c))
+  by-bits : listReading s names parts ≡ onStop (w .stop) refused (asBitset (parts .nomask .present) (bitsRead c))
   unfolding listReading
   by-bits =
-      ap (λ (x : List ℕ). onStop (walked bitsPolicy x (parts .bits .start) .stop) refused (asBitset (parts .nomask .present) (said x))) (sym ec)
-      ∙ ap (λ (x : Walked). onStop (x .stop) refused (asBitset (parts .nomask .present) (said c)))
+      ap (λ (x : List ℕ). onStop (walked bitsPolicy x (parts .bits .start) .stop) refused (asBitset (parts .nomask .present) (bitsRead x))) (sym ec)
+      ∙ ap (λ (x : Walked). onStop (x .stop) refused (asBitset (parts .nomask .present) (bitsRead c)))
       (sym (ew ∙ ap (λ (x : List Rule). walked x c (parts .bits .start)) ep))
 
   pub list-fault : (f : Fault) (at : ℕ) (y : Refusal) (r : Judged) → w .stop ≡ S.At f at → y ≡ ofFault f at → r ≡ refusedAs y
       → r ≡ judgedAs (count names) (listReading s names parts)
   unfolding judgedAs
   list-fault f at y r q ey er =
-      er ∙ ap refusedAs ey ∙ sym (ap (judgedAs (count names)) (by-bits ∙ ap (λ (x : Stop). onStop x refused (asBitset (parts .nomask .present) (said c))) q))
+      er ∙ ap refusedAs ey ∙ sym (ap (judgedAs (count names)) (by-bits ∙ ap (λ (x : Stop). onStop x refused (asBitset (parts .nomask .present) (bitsRead c))) q))
 
-  module _ (q : w .stop ≡ S.Whole) (j : Judged) (ej : j ≡ listJudged (said c)) where
-    whole-list : listReading s names parts ≡ asBitset (parts .nomask .present) (said c)
-    whole-list = by-bits ∙ ap (λ (x : Stop). onStop x refused (asBitset (parts .nomask .present) (said c))) q
+  module _ (q : w .stop ≡ S.Whole) (j : Judged) (ej : j ≡ listJudged (bitsRead c)) where
+    whole-list : listReading s names parts ≡ asBitset (parts .nomask .present) (bitsRead c)
+    whole-list = by-bits ∙ ap (λ (x : Stop). onStop x refused (asBitset (parts .nomask .present) (bitsRead c))) q
 
     pub list-nomask : (n : ℕ) (r : Judged) → n ≡ count names → parts .nomask .present ≡ true → r ≡ underNomask n j
         → r ≡ judgedAs (count names) (listReading s names parts)
     unfolding underNomask judgedAs listJudged maskOf valueOf
     list-nomask n r en h er =
-        er ∙ ap (underNomask n) ej ∙ go (said c)
-        ∙ ap (λ (x : ℕ). judgedAs x (asBitset true (said c))) en
-        ∙ sym (ap (judgedAs (count names)) (whole-list ∙ ap (λ (t : Bool). asBitset t (said c)) h))
+        er ∙ ap (underNomask n) ej ∙ go (bitsRead c)
+        ∙ ap (λ (x : ℕ). judgedAs x (asBitset true (bitsRead c))) en
+        ∙ sym (ap (judgedAs (count names)) (whole-list ∙ ap (λ (t : Bool). asBitset t (bitsRead c)) h))
       where
         go : (x : ListReading) → underNomask n (listJudged x) ≡ judgedAs n (asBitset true x)
         go (listRefused r) = refl
@@ -200,8 +200,8 @@ module _ (s names : List ℕ) (parts : BitsetParts) (c : List ℕ) (ec : c ≡ p
     pub list-masked : parts .nomask .present ≡ false → j ≡ judgedAs (count names) (listReading s names parts)
     unfolding judgedAs listJudged maskOf valueOf
     list-masked h =
-        ej ∙ go (said c)
-        ∙ sym (ap (judgedAs (count names)) (whole-list ∙ ap (λ (t : Bool). asBitset t (said c)) h))
+        ej ∙ go (bitsRead c)
+        ∙ sym (ap (judgedAs (count names)) (whole-list ∙ ap (λ (t : Bool). asBitset t (bitsRead c)) h))
       where
         go : (x : ListReading) → listJudged x ≡ judgedAs (count names) (asBitset false x)
         go (listRefused r) = refl

@@ -29,9 +29,9 @@ use Rattle.bitset_moved.proofs.Walk.{Shift, there, place, number-moved,
 use Rattle.bitset_moved.proofs.Walk.Shift.{none, some}
 use Rattle.bitset_moved.proofs.Parts.{ShiftBit, bit-parts}
 
-abbrev movedLooked : ℕ → IdentityRead → IdentityRead
-movedLooked by (L.Read identity) = L.Read identity
-movedLooked by (L.Refused why) = L.Refused (moved by why)
+abbrev movedIdentity : ℕ → IdentityRead → IdentityRead
+movedIdentity by (L.Read identity) = L.Read identity
+movedIdentity by (L.Refused why) = L.Refused (moved by why)
 
 abbrev pub movedBit : ℕ → BitRead → BitRead
 movedBit by (B.Bit number on) = B.Bit number on
@@ -39,24 +39,24 @@ movedBit by (B.Refused why) = B.Refused (moved by why)
 
 -- a test that refuses, and one that finds
 past : (by : ℕ) (t : Bool) (why : Refusal) (x : Identity)
-    → cond t (L.Refused (moved by why)) (L.Read x) ≡ movedLooked by (cond t (L.Refused why) (L.Read x))
+    → cond t (L.Refused (moved by why)) (L.Read x) ≡ movedIdentity by (cond t (L.Refused why) (L.Read x))
 past by true why x = refl
 past by false why x = refl
 
 known : (by : ℕ) (t : Bool) (why : Refusal) (x : Identity)
-    → cond t (L.Read x) (L.Refused (moved by why)) ≡ movedLooked by (cond t (L.Read x) (L.Refused why))
+    → cond t (L.Read x) (L.Refused (moved by why)) ≡ movedIdentity by (cond t (L.Read x) (L.Refused why))
 known by true why x = refl
 known by false why x = refl
 
-looked-moved : (by : ℕ) (l : IdentityRead) (at : ℕ) (on : Bool) → onIdentityRead (movedLooked by l) (by + at) on ≡ movedBit by (onIdentityRead l at on)
-looked-moved by (L.Read (Number number)) at on = refl
-looked-moved by (L.Read Neither) at on = refl
-looked-moved by (L.Refused why) at on = refl
+identity-moved : (by : ℕ) (l : IdentityRead) (at : ℕ) (on : Bool) → onIdentityRead (movedIdentity by l) (by + at) on ≡ movedBit by (onIdentityRead l at on)
+identity-moved by (L.Read (Number number)) at on = refl
+identity-moved by (L.Read Neither) at on = refl
+identity-moved by (L.Refused why) at on = refl
 
 module _ (pre s names : List ℕ) where
   identified-moved : (on on′ : Slot) {index index′ name name′ : Slot} → Shift (length pre) (length s) index index′ → Shift (length pre) (length s) name name′
       → identified (pre ++ s) names (record { index = index′; name = name′; on = on′ })
-      ≡ movedLooked (length pre) (identified s names (record { index = index; name = name; on = on }))
+      ≡ movedIdentity (length pre) (identified s names (record { index = index; name = name; on = on }))
   unfolding identified bitByIndex bitByName
   identified-moved on on′ (some a e l u h) name =
       rw (number-moved pre s (some a e l u h), place (length pre) a l)
@@ -72,8 +72,8 @@ module _ (pre s names : List ℕ) where
   unfolding bitPartsReading
   parts-moved at {p} {q} shift =
       ap (λ (x : IdentityRead). onIdentityRead x (length pre + at) (q .on .present)) (identified-moved (p .on) (q .on) (shift .index) (shift .name))
-      ∙ ap (onIdentityRead (movedLooked (length pre) (identified s names p)) (length pre + at)) (there (shift .on))
-      ∙ looked-moved (length pre) (identified s names p) at (p .on .present)
+      ∙ ap (onIdentityRead (movedIdentity (length pre) (identified s names p)) (length pre + at)) (there (shift .on))
+      ∙ identity-moved (length pre) (identified s names p) at (p .on .present)
 
   pub bit-moved : (from : ℕ) → 4 ≤ from → bitReading (pre ++ s) names (length pre + from) ≡ movedBit (length pre) (bitReading s names from)
   unfolding bitReading

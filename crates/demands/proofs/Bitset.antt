@@ -91,16 +91,16 @@ module _ (s names : List ℕ) (rest : ListReading) where
   last = listKind rest
 
   module _ (at : ℕ) (on : Bool) where
-    abbrev looked : IdentityRead → Kind
-    looked l = listKind (onBit (onIdentityRead l at on) rest)
+    abbrev identityKind : IdentityRead → Kind
+    identityKind l = listKind (onBit (onIdentityRead l at on) rest)
 
     found-first : (t : Bool) (bit place : ℕ) (checks : List Check) → last ≡ firstKind last checks
-        → looked (cond t (L.Read (Number bit)) (L.Refused (UnknownBit place))) ≡ firstKind last (refuseIf (not t) (UnknownBit place) ∷ checks)
+        → identityKind (cond t (L.Read (Number bit)) (L.Refused (UnknownBit place))) ≡ firstKind last (refuseIf (not t) (UnknownBit place) ∷ checks)
     found-first true bit place checks e = pass last _ _ _ (bit-passes bit on rest ∙ e)
     found-first false bit place checks e = fault last _ _
 
     parts-first : (parts : BitParts) (t u : Bool)
-        → looked (cond t (bitByIndex s (count names) (parts .index)) (cond u (bitByName s names (parts .name)) (L.Read Neither)))
+        → identityKind (cond t (bitByIndex s (count names) (parts .index)) (cond u (bitByName s names (parts .name)) (L.Read Neither)))
         ≡ firstKind last
         (refuseIf (t && leb (count names) (slotNumber s (parts .index))) (PastLength (parts .index .start - 4))
         ∷ refuseIf (not t && (u && unknownName s names (parts .name))) (UnknownBit (parts .name .start - 4))
@@ -108,7 +108,7 @@ module _ (s names : List ℕ) (rest : ListReading) where
         ∷ [])
     unfolding bitByIndex bitByName unknownName
     parts-first parts true u =
-        step looked last _ _ _ _ _ refl (pass last _ _ _ (pass last _ _ _ (bit-passes (slotNumber s (parts .index)) on rest ∙ no-more last)))
+        step identityKind last _ _ _ _ _ refl (pass last _ _ _ (pass last _ _ _ (bit-passes (slotNumber s (parts .index)) on rest ∙ no-more last)))
     parts-first parts false true =
         let l = lookup names (partOf s (parts .name .start) (parts .name .end)) in
         pass last _ _ _ (found-first (l .found) (l .bit) (parts .name .start - 4) _ (pass last _ _ _ (no-more last)))

@@ -35,9 +35,9 @@ use Rattle.demands.proofs.Late.{message-number}
 use Rattle.demands.proofs.CallCase.{call-case}
 
 -- the bytes of a refusal, by its number
-quiet-bytes : (m : List ℕ) (why : Refusal) → numberOf why ≤ 4 → [] ≡ refusalBytes m why
+no-bytes-before-five : (m : List ℕ) (why : Refusal) → numberOf why ≤ 4 → [] ≡ refusalBytes m why
 unfolding refusalBytes
-quiet-bytes m why l = sym (rw (lt-ltb (numberOf why) 5 (omega arith)))
+no-bytes-before-five m why l = sym (rw (lt-ltb (numberOf why) 5 (omega arith)))
 
 error-bytes : (m : List ℕ) (why : Refusal) → 5 ≤ numberOf why → errorMessage m (errnoOf why) (detailOf why) ≡ refusalBytes m why
 unfolding refusalBytes
@@ -87,7 +87,7 @@ module _ (box : Box) (state : State) (call : Call) (datagram : List ℕ) (room :
         by (ended e) = absurd (end-not why (response e ∙ kind-of))
         by (notRead w l e) =
             let same = same-why w why (response e ∙ kind-of) in
-            (kept e, bytes e ∙ quiet-bytes m why (rw (← same) l))
+            (kept e, bytes e ∙ no-bytes-before-five m why (rw (← same) l))
         by (messageAnswered n right lo hi long first (messageSkipped e)) = absurd (skipped-not why (response e ∙ kind-of))
         by (messageAnswered n right lo hi long first (getDone d g e)) = absurd (done-not why (response e ∙ kind-of))
         by (messageAnswered n right lo hi long first (setDone d g b c e)) = absurd (done-not why (response e ∙ kind-of))

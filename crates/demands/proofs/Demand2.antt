@@ -124,9 +124,9 @@ module _ (box : Box) (state : State) (call : Call) (datagram : List ℕ) (room :
     fits : Fits (sizeOf (sizesIn box) (n .command .set)) b
     fits = rw (← lists-of count (box .names) (n .command .set)) at (accepted-fits _ _ (listOf (box .names) (n .command .set)) b carried)
 
-    did-set : {p : Outcome State} → p .state ≡ after box state call right (n .target .position) (here (box .roll) m n) (n .command .set) b fits
+    done-set : {p : Outcome State} → p .state ≡ after box state call right (n .target .position) (here (box .roll) m n) (n .command .set) b fits
         → p .response .bytes ≡ ackBytes m h → DoneSet box state call m h p
-    did-set ew eb =
+    done-set ew eb =
         record {
           named = n;
           is-set = change;
@@ -167,10 +167,10 @@ module _ (box : Box) (state : State) (call : Call) (datagram : List ℕ) (room :
     unfolding getBytes replyAndAck
     got-bytes next = refl
 
-    did-get : (next : ℕ) {p : Outcome State} → Small (state .words) → n .command .change ≡ false → p .state ≡ state
+    done-get : (next : ℕ) {p : Outcome State} → Small (state .words) → n .command .change ≡ false → p .state ≡ state
         → p .response .bytes ≡ getBytes box state m (requestOf h next (n .command)) (n .target) → DoneGet box state m h p
     unfolding contentIn
-    did-get next small change ew eb =
+    done-get next small change ew eb =
         let heading = headingOf h (n .command .reply) in
         let x = content .index in
         let name-of = content .name in
@@ -207,7 +207,7 @@ module _ (box : Box) (state : State) (call : Call) (datagram : List ℕ) (room :
       by (messageAnswered next right lo hi long first (messageSkipped e)) = absurd (let q = kind-is e ∙ kind-of in let z : _≡_ {A = ℕ} 0 1 = cc in omega arith)
       by (messageAnswered next right lo hi long first (messageRefused w e)) = absurd (let q = kind-is e ∙ kind-of in let z : _≡_ {A = ℕ} 0 1 = cc in omega arith)
       by (messageAnswered next right lo hi long first (getDone n g e)) = absurd (clash request (named-set (box .roll) m n ∙ g))
-      by (messageAnswered next right lo hi long first (setDone n g b c e)) = rw e (did-set right n g b c refl refl)
+      by (messageAnswered next right lo hi long first (setDone n g b c e)) = rw e (done-set right n g b c refl refl)
 
   pub read-back : Small (state .words) → o .response .kind ≡ Done → is-set ≡ false → DoneGet box state m h o
   read-back small kind-of request = by (call-case box state call datagram room)
@@ -217,7 +217,7 @@ module _ (box : Box) (state : State) (call : Call) (datagram : List ℕ) (room :
       by (notRead w l e) = absurd (let q = kind-is e ∙ kind-of in let z : _≡_ {A = ℕ} 0 1 = cc in omega arith)
       by (messageAnswered next right lo hi long first (messageSkipped e)) = absurd (let q = kind-is e ∙ kind-of in let z : _≡_ {A = ℕ} 0 1 = cc in omega arith)
       by (messageAnswered next right lo hi long first (messageRefused w e)) = absurd (let q = kind-is e ∙ kind-of in let z : _≡_ {A = ℕ} 0 1 = cc in omega arith)
-      by (messageAnswered next right lo hi long first (getDone n g e)) = rw e (did-get right n next small g refl refl)
+      by (messageAnswered next right lo hi long first (getDone n g e)) = rw e (done-get right n next small g refl refl)
       by (messageAnswered next right lo hi long first (setDone n g b c e)) = absurd (clash (named-set (box .roll) m n ∙ g) request)
 
   pub box-kept : boxRight box state call ≡ true → boxRight box (o .state) call ≡ true

@@ -1,4 +1,4 @@
--- Laws of keys: how one is spelt, eight bytes at a time.
+-- Laws of keys: how one is written, eight bytes at a time.
 use Prim.Native.Nat.{ℕ, _+_, _*_, _/_, _%_, _≤_, _<_}
 use mathlib.Core.Path.{_≡_, ap, _∙_}
 use mathlib.Core.Bool.{true}

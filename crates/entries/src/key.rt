@@ -20,7 +20,7 @@ fn copy_key(key: &mut [u8; 32], name: &[u8], at: usize)
     key[at + 7] = (x / 72057594037927936 % 256) as u8;
 }
 
-// The name spelt as an entry. A name longer than one is spelt as far as its 32nd byte.
+// The name written out as an entry. A name longer than one is written as far as its 32nd byte.
 pub fn key_of(name: &[u8]) -> [u8; 32]
     ensures { λ r. ⌜ KeyStarts (now (name .entry)) r 32 ⌝ }
 {

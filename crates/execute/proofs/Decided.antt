@@ -131,4 +131,4 @@ module _ (box : Box) (state : State) (fit : Fit box state) where
 -- the return of `execute`
 pub execute-performs : (box : Box) (state : State) (m : List ℕ) (request : Request) (d : Decision) (P Q : List ℕ) (new : State) (r : Answer)
     → Fit box state → d ≡ decided box m (request .command) → Performs (carriedOut box state m request d) P Q new r → Performs (requestOutcome box state m request) P Q new r
-execute-performs box state m request d P Q new r fit e did = rw (← carried-is box state fit m request, ← e) did
+execute-performs box state m request d P Q new r fit e performed = rw (← carried-is box state fit m request, ← e) performed

@@ -32,9 +32,9 @@ module _ (name : List ℕ) (b : ℕ) (e : b ≡ getD name 0 0) where
   no-long z = sym (rw (ne-eqb (getD name 0 0) 0 (λ q. z (e ∙ q))))
 
 module _ (names name : List ℕ) where
-  pub name-barred : (t : Bool) → t ≡ noName name → t ≡ true → notFound ≡ lookup names name
+  pub no-name-found : (t : Bool) → t ≡ noName name → t ≡ true → notFound ≡ lookup names name
   unfolding lookup
-  name-barred t e h = sym (rw (sym e ∙ h))
+  no-name-found t e h = sym (rw (sym e ∙ h))
 
   -- none of the entries before i is the name
   abbrev pub NoneBefore : ℕ → Type 0

@@ -1,6 +1,6 @@
 // What an attribute of each type must be, and whether one is: the netlink policy.
 ghost use mathlib.Core.Path.{_≡_};
-ghost use Prim.Native.Nat.{_+_, _≤_};
+ghost use Prim.Native.Nat.{_+_, _≤_, _<_};
 ghost use lib.ListN.{length};
 ghost use Rattle.basics.specs.Scan.{any};
 ghost use Rattle.netlink.specs.Policy.{nulAt, isNamePayload, plain, nested, ruleOf, judged};
@@ -44,16 +44,17 @@ pub fn some_nul(s: &[u8], at: usize, n: usize) -> bool
     some
 }
 
-// How many bytes before the first NUL are passed four at a time.
-fn nul_free(s: &[u8]) -> usize
+// How far the bytes before the first NUL are passed, n at a time.
+fn nul_free(s: &[u8], from: usize, n: usize) -> usize
+    requires { ⌜ (from ≤ length (now s)) × (0 < n) × NulFrom (now s) from ⌝ }
     ensures { λ r. ⌜ (r ≤ length (now (s .entry))) × NulFrom (now (s .entry)) r ⌝ }
 {
-    let mut i = 0;
-    while 4 <= s.len() - i {
-        if some_nul(s, i, 4) {
+    let mut i = from;
+    while n <= s.len() - i {
+        if some_nul(s, i, n) {
             return i;
         }
-        i += 4;
+        i += n;
     }
     i
 }
@@ -62,7 +63,8 @@ fn nul_free(s: &[u8]) -> usize
 pub fn nul_at(s: &[u8]) -> usize
     ensures { λ r. ⌜ r ≡ nulAt (now (s .entry)) ⌝ }
 {
-    let mut i = nul_free(s);
+    let eights = nul_free(s, 0, 8);
+    let mut i = nul_free(s, eights, 4);
     while i < s.len() {
         if s[i] == 0 {
             return i;

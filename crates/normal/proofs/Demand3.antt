@@ -1,10 +1,10 @@
 -- The theorems of demand 3, for every set length N and every name list that document 01 allows.
---     keeps-effect     the form has the effect of the bitset, on every starting set
---     forms-decide     two accepted bitsets change every starting set alike exactly when their normal forms are equal bytes
---     form-accepted    a normal form is itself accepted, and acts as the original
---     form-stable      normalising a normal form gives the same bytes
---     form-exact       what the normaliser writes: SIZE N, VALUE W words, MASK W words, of the mask and value that document 01 gives
---     refused-quiet    a refused bitset writes nothing, and its number is the first refusal in order
+--     keeps-effect       the form has the effect of the bitset, on every starting set
+--     forms-decide       two accepted bitsets change every starting set alike exactly when their normal forms are equal bytes
+--     form-accepted      a normal form is itself accepted, and acts as the original
+--     form-stable        normalising a normal form gives the same bytes
+--     form-exact         what the normaliser writes: SIZE N, VALUE W words, MASK W words, of the mask and value that document 01 gives
+--     refused-unwritten  a refused bitset writes nothing, and its number is the first refusal in order
 use Prim.Native.Nat.{ℕ, _+_, _*_, _≤_, _<_}
 use mathlib.Core.Path.{_≡_, refl, sym, ap, ap₂, _∙_}
 use mathlib.Core.List.{List, [], _++_}

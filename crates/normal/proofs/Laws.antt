@@ -30,8 +30,8 @@ pub refused-as : (y : Refusal) (k : ℕ) → k ≡ numberOf y → record { numbe
 refused-as y k e = ap (λ (x : ℕ). record { number = x; written = 0 }) e
 
 -- a refusal writes nothing
-quiet : (o : NormalAnswer) (y : Refusal) (P : List ℕ) (r : Normal) → r ≡ normalOf (refusedBy y) → o ≡ refusedBy y → Normalised o P P r
-quiet o y P r e q = rw q (record { result = e; page = sym (put-nil P) })
+unwritten : (o : NormalAnswer) (y : Refusal) (P : List ℕ) (r : Normal) → r ≡ normalOf (refusedBy y) → o ≡ refusedBy y → Normalised o P P r
+unwritten o y P r e q = rw q (record { result = e; page = sym (put-nil P) })
 
 -- a judged bitset that is refused, and one that is accepted
 reading-refused : (n : ℕ) (x : Reading) (y : Refusal) → judgedAs n x .judgement ≡ Refused y → x ≡ refused y
@@ -63,7 +63,7 @@ module _ (contents names P : List ℕ) (j : Judged) (ej : j ≡ judgedAs (count 
   pub put-refused : (y : Refusal) (r : Normal) → j .judgement ≡ Refused y → r ≡ normalOf (refusedBy y)
       → Normalised (readingAnswer (bitsetReading contents 0 names) (count names)) P P r
   put-refused y r q e =
-      quiet _ y P r e
+      unwritten _ y P r e
       (ap (λ (x : Reading). readingAnswer x (count names))
       (reading-refused (count names) (bitsetReading contents 0 names) y (ap (λ (x : Judged). x .judgement) (sym ej) ∙ q)))
 
@@ -76,7 +76,7 @@ module _ (contents names P : List ℕ) (j : Judged) (ej : j ≡ judgedAs (count 
 module _ (contents names P : List ℕ) (t : Bool) (et : t ≡ namesRight names) where
   pub normal-box : (r : Normal) → not t ≡ true → r ≡ normalOf (refusedBy Box) → Normalised (normalised contents names (length P)) P P r
   unfolding normalised
-  normal-box r z e = quiet _ Box P r e (rw (← et, z))
+  normal-box r z e = unwritten _ Box P r e (rw (← et, z))
 
   pub normal-few : not t ≡ false → count names ≤ 512
   normal-few z = right-means names (sym et ∙ not-false t z) .few
@@ -84,12 +84,12 @@ module _ (contents names P : List ℕ) (t : Bool) (et : t ≡ namesRight names) 
   module _ (right : not t ≡ false) where
     pub normal-page : (r : Normal) → length P < 144 → r ≡ normalOf (refusedBy Page) → Normalised (normalised contents names (length P)) P P r
     unfolding normalised
-    normal-page r l e = quiet _ Page P r e (rw (← et, right, lt-ltb _ _ l))
+    normal-page r l e = unwritten _ Page P r e (rw (← et, right, lt-ltb _ _ l))
 
     module _ (room : 144 ≤ length P) where
       pub normal-long : (r : Normal) → 32768 < length contents → r ≡ normalOf (refusedBy Datagram) → Normalised (normalised contents names (length P)) P P r
       unfolding normalised
-      normal-long r l e = quiet _ Datagram P r e (rw (← et, right, le-ltb _ _ room, lt-ltb _ _ l))
+      normal-long r l e = unwritten _ Datagram P r e (rw (← et, right, le-ltb _ _ room, lt-ltb _ _ l))
 
       pub normal-judged : (r : Normal) (Q : List ℕ) → length contents ≤ 32768 → Normalised (readingAnswer (bitsetReading contents 0 names) (count names)) P Q r
           → Normalised (normalised contents names (length P)) P Q r

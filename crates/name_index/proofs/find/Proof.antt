@@ -4,7 +4,7 @@ use mathlib.Core.Path.{refl}
 use native.Mathlib.Omega.{arith}
 use borrow.Author.Needs.{needs}
 use Rattle.entries.specs.Key.{KeyStarts}
-use Rattle.names.proofs.Search.{SameBefore, name-barred, same-start}
+use Rattle.names.proofs.Search.{SameBefore, no-name-found, same-start}
 use Rattle.name_index.proofs.Along.{Along, Looking, along-start, along-look, along-found, along-on, along-more, along-end}
 use Rattle.name_index.proofs.find.Statement.{statement}
 use Rattle.name_index.proofs.find.Tie as tie
@@ -25,7 +25,7 @@ no-name-requires : tie.Need-no-name-requires Inv-loop μ-loop Inv-entries μ-ent
 no-name-requires c κs = search needs
 
 returns : tie.Need-returns Inv-loop μ-loop Inv-entries μ-entries
-returns c = search (needs, name-barred)
+returns c = search (needs, no-name-found)
 
 key-of-requires : tie.Need-key-of-requires Inv-loop μ-loop Inv-entries μ-entries
 key-of-requires c κs = search needs

@@ -3,7 +3,7 @@ use Prim.Native.Nat.{_≤_, _<_, _-_}
 use mathlib.Core.Path.{_≡_}
 use native.Mathlib.Omega.{arith}
 use borrow.Author.Needs.{needs}
-use Rattle.names.proofs.Search.{NoneBefore, SameBefore, name-barred, none-start, same-start, same-more, none-more, name-at, name-none}
+use Rattle.names.proofs.Search.{NoneBefore, SameBefore, no-name-found, none-start, same-start, same-more, none-more, name-at, name-none}
 use Rattle.names.proofs.find_name.Statement.{statement}
 use Rattle.names.proofs.find_name.Tie as tie
 
@@ -23,7 +23,7 @@ no-name-requires : tie.Need-no-name-requires Inv-loop μ-loop Inv-entries μ-ent
 no-name-requires c κs = search needs
 
 returns : tie.Need-returns Inv-loop μ-loop Inv-entries μ-entries
-returns c = search (needs, name-barred)
+returns c = search (needs, no-name-found)
 
 entries-holds : tie.Need-entries-holds Inv-loop μ-loop Inv-entries μ-entries
 entries-holds c = search (needs, none-start)

@@ -54,8 +54,8 @@ module _ (a b : List ℕ) where
       rw
       (same-bytes h p (omega arith), same-bytes h (p + 1) (omega arith), same-bytes h (p + 2) (omega arith), same-bytes h (p + 3) (omega arith))
 
-  pub four-told : (p x y : ℕ) → x ≡ u32At a p → y ≡ u32At b p → eqb x y ≡ eqb (u32At a p) (u32At b p)
-  four-told p x y ex ey = rw (ex, ey)
+  pub four-compared : (p x y : ℕ) → x ≡ u32At a p → y ≡ u32At b p → eqb x y ≡ eqb (u32At a p) (u32At b p)
+  four-compared p x y ex ey = rw (ex, ey)
 
   pub four-differ : (p : ℕ) (t : Bool) → t ≡ eqb (u32At a p) (u32At b p) → not t ≡ true → p + 4 ≤ 16 → false ≡ sameName a b
   four-differ p t et n l = sym (false-of (sameName a b) (λ h. clash (eq-eqb _ _ (four-same p l h)) (sym et ∙ not-true t n)))

@@ -1,20 +1,23 @@
 use Prim.Native.Nat.{_≤_, _-_}
 use lib.ListN.{length}
 use native.Mathlib.Omega.{arith}
-use borrow.Author.Needs.{needs}
 use Rattle.netlink.specs.NulSearch.{NulFrom}
 use Rattle.netlink.proofs.policy.Laws.{nul-laws, nul-more}
+use borrow.Author.Needs.{needs}
 use Rattle.netlink.proofs.policy.nul_at.Statement.{statement}
 use Rattle.netlink.proofs.policy.nul_at.Tie as tie
 
 abbrev Inv-loop : tie.InvT-loop
-Inv-loop s i₀ i = (i ≤ length s) × NulFrom s i
+Inv-loop s eights i₀ i = (i ≤ length s) × NulFrom s i
 
 abbrev μ-loop : tie.MeasureT-loop
-μ-loop s i₀ i = length s - i
+μ-loop s eights i₀ i = length s - i
 
 nul-free-requires : tie.Need-nul-free-requires Inv-loop μ-loop
 nul-free-requires c κs = search (needs, nul-laws)
+
+nul-free-requires-2 : tie.Need-nul-free-requires-2 Inv-loop μ-loop
+nul-free-requires-2 c κs = search (needs, nul-laws)
 
 loop-holds : tie.Need-loop-holds Inv-loop μ-loop
 loop-holds c = search (needs, nul-laws)
@@ -44,6 +47,7 @@ nul-at-spec =
     Inv-loop
     μ-loop
     nul-free-requires
+    nul-free-requires-2
     loop-holds
     shared-slice-read-if1
     returns

@@ -1,17 +1,17 @@
 use Prim.Native.Nat.{_≤_, _-_}
 use lib.ListN.{length}
 use native.Mathlib.Omega.{arith}
-use borrow.Author.Needs.{needs}
 use Rattle.netlink.specs.NulSearch.{NulFrom}
 use Rattle.netlink.proofs.policy.Laws.{nul-start, nul-none}
+use borrow.Author.Needs.{needs}
 use Rattle.netlink.proofs.policy.nul_free.Statement.{statement}
 use Rattle.netlink.proofs.policy.nul_free.Tie as tie
 
 abbrev Inv-loop : tie.InvT-loop
-Inv-loop s i₀ i = (i ≤ length s) × NulFrom s i
+Inv-loop s from n i₀ i = (i ≤ length s) × NulFrom s i
 
 abbrev μ-loop : tie.MeasureT-loop
-μ-loop s i₀ i = length s - i
+μ-loop s from n i₀ i = length s - i
 
 loop-holds : tie.Need-loop-holds Inv-loop μ-loop
 loop-holds c = search (needs, nul-start)
