@@ -55,17 +55,6 @@ pub fn holds_name(field: &[u8], name: &[u8]) -> bool
     same_name(field, name)
 }
 
-// The same, of a name whose four bytes at 8 are known: those are compared first, and tell most fields of a box.
-pub fn holds_name_by(field: &[u8], name: &[u8], probe: u32) -> bool
-    requires { ⌜ probe ≡ u32At (now name) 8 ⌝ }
-    ensures { λ r. ⌜ r ≡ holdsName (now (field .entry)) (now (name .entry)) ⌝ }
-{
-    if u32_at(field, 8) != probe {
-        return false;
-    }
-    holds_name(field, name)
-}
-
 // Whether a NUL at j is followed by a NUL.
 fn nul_then_nul(field: &[u8], j: usize) -> bool
     requires { ⌜ j < 15 ⌝ }

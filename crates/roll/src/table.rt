@@ -3,11 +3,13 @@
 ghost use mathlib.Core.Path.{_≡_};
 ghost use Prim.Native.Nat.{_<_, _≤_};
 ghost use lib.ListN.{length, take};
+ghost use Rattle.basics.specs.Numbers.{u32At};
 ghost use Rattle.roll.specs.Record.{indexOf, nameOf};
 ghost use Rattle.roll.specs.Table.{lowOf, highOf, Tabled, TableRead};
 use crate::name::name_at;
 use crate::record::RecordRead;
 use crate::record::read_record;
+use numbers::four;
 use numbers::u32_at;
 
 // The most ports of a roll.
@@ -68,4 +70,14 @@ pub fn name_of<'r>(roll: &'r [u8], ports: &[u64], k: usize) -> &'r [u8]
 {
     let at = (ports[k] / 4294967296) as usize;
     name_at(roll, at)
+}
+
+// The four bytes at 8 of that name, in which the names of one box differ most.
+pub fn probe_of(roll: &[u8], ports: &[u64], k: usize) -> u32
+    requires { ⌜ Tabled (now roll) (now ports) ⌝ }
+    requires { ⌜ k < length (now ports) ⌝ }
+    ensures { λ r. ⌜ r ≡ u32At (nameOf (now (roll .entry)) k) 8 ⌝ }
+{
+    let at = (ports[k] / 4294967296) as usize;
+    four(roll, at + 8)
 }

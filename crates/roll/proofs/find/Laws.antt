@@ -6,14 +6,17 @@ use mathlib.Core.Bool.{Bool, true, false, cond}
 use lib.Dec.{ltb}
 use native.Mathlib.Omega.{arith}
 use borrow.Author.Tests.{eq-eqb, ne-eqb, eqb-true, lt-ltb, le-ltb, ltb-true}
+use Rattle.basics.specs.Numbers.{u32At}
 use Rattle.basics.specs.Scan.{first}
 use Rattle.basics.proofs.Scan.{first-none, first-more, first-at, first-is}
+use Rattle.basics.proofs.Truth.{false-of}
 use Rattle.roll.specs.declared.find.Found.{Found}
 use Rattle.roll.specs.declared.find.Found.the-variants.{At, Nothing}
 use lib.ListN.{length}
 use Rattle.roll.specs.Record.{portCount, indexOf, nameOf}
 use Rattle.roll.specs.Name.{holdsName}
 use Rattle.roll.specs.Table.{Tabled}
+use Rattle.roll.proofs.name.Laws.{four-same, named-same}
 use Rattle.roll.specs.Find.{hasIndex, hasName, findPort, foundByIndex, foundByName}
 
 -- the first k positions are passed
@@ -65,23 +68,32 @@ module _ (roll : List ℕ) (x : ℕ) where
 
 pub ruleset index-laws = (index-start, index-next, index-here, index-none)
 
+-- whether a port has a name
+module _ (roll name : List ℕ) (k : ℕ) where
+  pub probe-differs : (x y : ℕ) → x ≡ u32At (nameOf roll k) 8 → y ≡ u32At name 8 → (x ≡ y → ⊥) → false ≡ hasName roll name k
+  unfolding hasName
+  probe-differs x y ex ey n =
+      sym (false-of (holdsName (nameOf roll k) name) (λ h. n (ex ∙ four-same (nameOf roll k) name 8 (omega arith) (named-same (nameOf roll k) name h) ∙ sym ey)))
+
+  pub probe-holds : (s : List ℕ) (b : Bool) → s ≡ nameOf roll k → b ≡ holdsName s name → b ≡ hasName roll name k
+  unfolding hasName
+  probe-holds s b es eb = eb ∙ ap (λ (z : List ℕ). holdsName z name) es
+
+pub ruleset has-name-laws = (probe-differs, probe-holds)
+
 -- by name
 module _ (roll name : List ℕ) where
   pub name-start : Passed (hasName roll name) 0
   name-start = find-start (hasName roll name)
 
   module _ (k : ℕ) (h : Passed (hasName roll name) k) where
-    module _ (s : List ℕ) (b : Bool) (es : s ≡ nameOf roll k) (eb : b ≡ holdsName s name) where
-      named : b ≡ hasName roll name k
-      unfolding hasName
-      named = eb ∙ ap (λ (z : List ℕ). holdsName z name) es
-
+    module _ (b : Bool) (eb : b ≡ hasName roll name k) where
       pub name-next : b ≡ false → Passed (hasName roll name) (k + 1)
-      name-next q = first-more (hasName roll name) k h (sym named ∙ q)
+      name-next q = first-more (hasName roll name) k h (sym eb ∙ q)
 
       pub name-here : (t : List ℕ) → Tabled roll t → k < length t → b ≡ true → At k ≡ foundByName roll name
       unfolding foundByName
-      name-here t tab l q = find-here (hasName roll name) (portCount roll) k (rw (tab .count) at l) h (sym named ∙ q)
+      name-here t tab l q = find-here (hasName roll name) (portCount roll) k (rw (tab .count) at l) h (sym eb ∙ q)
 
     pub name-none : (t : List ℕ) → Tabled roll t → k ≤ length t → length t ≤ k → Nothing ≡ foundByName roll name
     unfolding foundByName

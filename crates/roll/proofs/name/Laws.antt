@@ -102,10 +102,6 @@ module _ (field name : List ℕ) where
   unfolding holdsName
   named-same h = both-true (leb (length name) 16) (sameName field name) h .1
 
-  pub name-probed : (x y : ℕ) → x ≡ u32At field 8 → y ≡ u32At name 8 → (x ≡ y → ⊥) → false ≡ holdsName field name
-  name-probed x y ex ey n =
-      sym (false-of (holdsName field name) (λ h. n (ex ∙ four-same field name 8 (omega arith) (named-same h) ∙ sym ey)))
-
 pub ruleset named-laws = (name-long, name-fits)
 
 -- the rule of a name

@@ -4,8 +4,8 @@ use mathlib.Core.Path.{_≡_, refl, sym, ap, _∙_}
 use mathlib.Core.List.{List, [], _∷_}
 use mathlib.Core.Bool.{Bool, true, false, _&&_, and-false}
 use mathlib.Core.Logic.{⊎-elim}
-use lib.ListN.{length, getD, set, take, length-set}
-use lib.Seq.{getD-set-same, getD-set-other, getD-take, length-take-le}
+use lib.ListN.{length, getD, set, take, drop, length-set}
+use lib.Seq.{getD-set-same, getD-set-other, getD-take, getD-drop, length-take-le}
 use lib.Dec.{leb, ltb}
 use native.Mathlib.Numerals.{add-one}
 use native.Mathlib.Omega.{arith}
@@ -13,7 +13,7 @@ use borrow.Author.Tests.{le-leb, lt-leb, lt-ltb, le-ltb, leb-true}
 use Rattle.basics.specs.Numbers.{u32At}
 use Rattle.basics.proofs.Order.{lt-or-ge}
 use Rattle.basics.proofs.Truth.{both-true}
-use Rattle.netlink_attributes.proofs.Laws.{part-in}
+use Rattle.netlink_attributes.proofs.Laws.{part-in, part-past}
 use lib.ListN.{length-take, length-drop}
 use Rattle.roll.specs.Name.{nameAt}
 use Rattle.roll.specs.Record.{Port, recordAt, Records, onRecord, recordsUpTo, records, allWhole, recordPorts, portsOf, portCount, portAt, indexOf, nameOf, portsListed}
@@ -200,3 +200,28 @@ module _ (roll : List ℕ) where
   -- so is the field that the code has of it
   pub field-long : (ports s : List ℕ) (k : ℕ) → Tabled roll ports → k < length ports → s ≡ nameOf roll k → length s ≡ 16
   field-long ports s k tab l e = ap length e ∙ name-long k (rw (tab .count) at l)
+
+-- where a table says that a port's name stands, the roll has its sixteen bytes
+module _ (roll ports : List ℕ) (k : ℕ) (tab : Tabled roll ports) (l : k < length ports) where
+  abbrev at : ℕ
+  at = highOf (getD ports k 0)
+
+  here-long : length (nameAt roll at) ≡ 16
+  here-long = ap length (tab .name k l) ∙ name-long roll k (rw (tab .count) at l)
+
+  pub name-inside : at + 16 ≤ length roll
+  unfolding nameAt
+  name-inside = ⊎-elim (λ (h : length roll < at + 16). absurd (let z = ap length (part-past roll at (at + 16) (omega arith) h) in let n = here-long in omega arith)) (λ (h : at + 16 ≤ length roll). h) (lt-or-ge (length roll) (at + 16))
+
+  pub probe-is : (x p : ℕ) → p ≡ at + 8 → x ≡ u32At roll p → x ≡ u32At (nameOf roll k) 8
+  unfolding u32At nameAt
+  probe-is x p ep ex =
+      let inside = name-inside in
+      let byte : (j : ℕ) → j < 16 → getD roll (at + j) 0 ≡ getD (nameOf roll k) j 0 =
+      λ j u. sym (ap (λ (s : List ℕ). getD s j 0) (sym (tab .name k l) ∙ sym (part-in roll at (at + 16) (omega arith) (omega arith))) ∙ getD-take (at + 16 - at) (drop at roll) j 0 (omega arith) ∙ getD-drop at roll j 0) in
+      let p9 : at + 8 + 1 ≡ at + 9 = omega arith in
+      let p10 : at + 8 + 2 ≡ at + 10 = omega arith in
+      let p11 : at + 8 + 3 ≡ at + 11 = omega arith in
+      ex ∙ rw (ep, p9, p10, p11, byte 8 (omega arith), byte 9 (omega arith), byte 10 (omega arith), byte 11 (omega arith))
+
+pub ruleset probe-laws = (name-inside, probe-is)

@@ -19,11 +19,8 @@ u32-at-requires c κs = search (needs, name-laws)
 loop-holds : tie.Need-loop-holds Inv-loop μ-loop
 loop-holds c = search (needs, name-laws)
 
-name-of-requires : tie.Need-name-of-requires Inv-loop μ-loop
-name-of-requires c κs = search (needs, name-laws)
-
-holds-name-by-requires : tie.Need-holds-name-by-requires Inv-loop μ-loop
-holds-name-by-requires c κs = search (needs, name-laws)
+has-name-requires : tie.Need-has-name-requires Inv-loop μ-loop
+has-name-requires c κs = search (needs, name-laws)
 
 returns : tie.Need-returns Inv-loop μ-loop
 returns c = search (needs, name-laws)
@@ -48,8 +45,7 @@ port-of-name-spec =
     μ-loop
     u32-at-requires
     loop-holds
-    name-of-requires
-    holds-name-by-requires
+    has-name-requires
     returns
     add-k
     loop-less
