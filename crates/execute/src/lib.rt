@@ -145,18 +145,8 @@ fn carry_out<'a>(
         Plan::Refused(why) => {
             return refuse(page, m, why, request.next);
         }
-        Plan::Get(target) => {
-            return get(
-                page,
-                settings,
-                roll,
-                ports,
-                debug,
-                flags,
-                m,
-                request,
-                target,
-            );
+        Plan::Get(port) => {
+            return get(page, settings, roll, ports, debug, flags, m, request, port);
         }
         Plan::Set {
             position,

@@ -7,7 +7,7 @@ ghost use Rattle.response.specs.Answer.{Performs};
 ghost use Rattle.response.specs.declared.Kind.the-variants.{Refused};
 ghost use Rattle.boxes.specs.Box.{boxOf, stateOf};
 ghost use Rattle.execute.specs.Fit.{Fit};
-ghost use Rattle.handler.specs.Call.{onAdmission, positionOutcome, outcome};
+ghost use Rattle.handler.specs.Call.{messageOutcome, positionOutcome, outcome};
 use admission::Admission;
 use admission::admit;
 use boxes::Call;
@@ -59,14 +59,14 @@ fn answer_message<'a>(
     m: &[u8],
     h: MessageHeader,
     next: usize,
-    admission: Admission,
+    call: Call,
 ) -> Answer
     requires { ⌜ (32768 ≤ length (now page)) × (16 ≤ length (now m)) ⌝ }
     requires { ⌜ Tabled (now roll) (now ports) ⌝ }
     requires { ⌜ Fit (boxOf (now roll) (now debug) (now flags)) (stateOf (now settings)) ⌝ }
-    ensures { λ r. ⌜ Performs (onAdmission admission (boxOf (now (roll .entry)) (now (debug .entry)) (now (flags .entry))) (stateOf (now (settings .entry))) (now (m .entry)) h next) (now (page .entry)) (now (page .exit)) (stateOf (now (settings .exit))) r ⌝ }
+    ensures { λ r. ⌜ Performs (messageOutcome (boxOf (now (roll .entry)) (now (debug .entry)) (now (flags .entry))) (stateOf (now (settings .entry))) call (now (m .entry)) h next) (now (page .entry)) (now (page .exit)) (stateOf (now (settings .exit))) r ⌝ }
 {
-    match admission {
+    match admit(m, h, call.family, call.admin == 1) {
         Admission::Skipped => {
             return no_bytes(Kind::Skipped, next);
         }
@@ -120,19 +120,7 @@ fn answer_at<'a>(
             next,
         } => {
             let m = payload(datagram, position, end);
-            let admission = admit(m, h, call.family, call.admin == 1);
-            return answer_message(
-                page,
-                settings,
-                roll,
-                ports,
-                debug,
-                flags,
-                m,
-                h,
-                next,
-                admission,
-            );
+            return answer_message(page, settings, roll, ports, debug, flags, m, h, next, call);
         }
     }
 }

@@ -44,17 +44,21 @@ pub no-bytes-performs : (o : Outcome State) (k : Kind) (next : ℕ) (P : List �
     → o ≡ unchanged (noBytes k next) state → Performs o P P state r
 no-bytes-performs o k next P state r e q = rw q (record { response = record { result = e; page = sym (put-nil P) }; state-is = refl })
 
-module _ (box : Box) (state : State) (m : List ℕ) (h : MessageHeader) (next : ℕ) (a : Admission) (P : List ℕ) (r : Answer) where
-  pub message-skipped : a ≡ A.Skipped → r ≡ record { kind = Skipped; next = next; written = 0 } → Performs (onAdmission a box state m h next) P P state r
-  message-skipped q er = no-bytes-performs _ Skipped next P state r er (rw q)
+module _ (box : Box) (state : State) (call : Call) (m : List ℕ) (h : MessageHeader) (next : ℕ) (a : Admission)
+    (e : a ≡ admitted m h (call .family) (eqb (call .admin) 1)) (P : List ℕ) (r : Answer) where
+  pub message-skipped : a ≡ A.Skipped → r ≡ record { kind = Skipped; next = next; written = 0 } → Performs (messageOutcome box state call m h next) P P state r
+  unfolding messageOutcome
+  message-skipped q er = no-bytes-performs _ Skipped next P state r er (rw (← e, q))
 
   module _ (Q : List ℕ) where
-    pub message-refused : (why : Refusal) → a ≡ A.Refused why → Responds (errorResponse m next why) P Q r → Performs (onAdmission a box state m h next) P Q state r
-    message-refused why q s = rw q (unchanged-performs (errorResponse m next why) P Q state r s)
+    pub message-refused : (why : Refusal) → a ≡ A.Refused why → Responds (errorResponse m next why) P Q r → Performs (messageOutcome box state call m h next) P Q state r
+    unfolding messageOutcome
+    message-refused why q s = rw (← e, q) (unchanged-performs (errorResponse m next why) P Q state r s)
 
     pub message-admitted : (c : Command) (new : State) → a ≡ A.Admitted c → Performs (requestOutcome box state m (requestOf h next c)) P Q new r
-        → Performs (onAdmission a box state m h next) P Q new r
-    message-admitted c new q d = rw q d
+        → Performs (messageOutcome box state call m h next) P Q new r
+    unfolding messageOutcome
+    message-admitted c new q d = rw (← e, q) d
 
 pub ruleset message-laws = (message-skipped, message-refused, message-admitted)
 
@@ -89,10 +93,9 @@ module _ (box : Box) (state : State) (call : Call) (datagram P : List ℕ) (x : 
     pub at-misstated : x ≡ Misstated → r ≡ record { kind = Refused R.Length; next = call .position; written = 0 } → Performs (positionOutcome box state call datagram) P P state r
     at-misstated q er = no-bytes-performs _ (Refused R.Length) (call .position) P state r er (by-message ∙ rw q)
 
-    pub at-message : (h : MessageHeader) (end next : ℕ) (m Q : List ℕ) (new : State) (a : Admission) → x ≡ Message h end next → m ≡ partOf datagram (call .position) end
-        → a ≡ admitted m h (call .family) (eqb (call .admin) 1) → Performs (onAdmission a box state m h next) P Q new r → Performs (positionOutcome box state call datagram) P Q new r
-    unfolding messageOutcome
-    at-message h end next m Q new a q em ea d = rw (by-message, q, ← em, ← ea) d
+    pub at-message : (h : MessageHeader) (end next : ℕ) (m Q : List ℕ) (new : State) → x ≡ Message h end next → m ≡ partOf datagram (call .position) end
+        → Performs (messageOutcome box state call m h next) P Q new r → Performs (positionOutcome box state call datagram) P Q new r
+    at-message h end next m Q new q em d = rw (by-message, q, ← em) d
 
 pub ruleset at-laws = (at-outside, at-end, at-cut, at-misstated, at-message)
 

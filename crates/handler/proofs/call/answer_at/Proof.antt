@@ -48,9 +48,6 @@ enum-known-h c = search needs
 payload-requires : tie.Need-payload-requires
 payload-requires c κs = search needs
 
-admit-requires : tie.Need-admit-requires
-admit-requires c κs = search needs
-
 answer-message-requires : tie.Need-answer-message-requires
 answer-message-requires c κs = ((search needs, search (needs, message-long)), (search needs, search needs))
 
@@ -82,7 +79,6 @@ answer-at-spec =
     returns-4
     enum-known-h
     payload-requires
-    admit-requires
     answer-message-requires
     same-length
     same-length-2

@@ -3,6 +3,9 @@ use borrow.Author.Needs.{needs}
 use Rattle.handler.proofs.call.answer_message.Statement.{statement}
 use Rattle.handler.proofs.call.answer_message.Tie as tie
 
+admit-requires : tie.Need-admit-requires
+admit-requires c κs = search needs
+
 enum-told : tie.Need-enum-told
 enum-told c = search needs
 
@@ -12,8 +15,8 @@ no-bytes-requires c κs = search needs
 returns : tie.Need-returns
 returns c = search (needs, message-laws)
 
-enum-known-admission : tie.Need-enum-known-admission
-enum-known-admission c = search needs
+enum-known-why : tie.Need-enum-known-why
+enum-known-why c = search needs
 
 refuse-requires : tie.Need-refuse-requires
 refuse-requires c κs = search needs
@@ -24,8 +27,8 @@ same-length c = search needs
 returns-2 : tie.Need-returns-2
 returns-2 c = search (needs, message-laws)
 
-enum-known-admission-2 : tie.Need-enum-known-admission-2
-enum-known-admission-2 c = search needs
+enum-known-command : tie.Need-enum-known-command
+enum-known-command c = search needs
 
 execute-requires : tie.Need-execute-requires
 execute-requires c κs = search needs
@@ -43,14 +46,15 @@ pub answer-message-spec : {M : Type 1} → statement M
 answer-message-spec =
     tie.close
     (tie.spec
+    admit-requires
     enum-told
     no-bytes-requires
     returns
-    enum-known-admission
+    enum-known-why
     refuse-requires
     same-length
     returns-2
-    enum-known-admission-2
+    enum-known-command
     execute-requires
     same-length-2
     same-length-3
