@@ -39,7 +39,7 @@ use Rattle.admission.specs.Commands.{commandOf}
 use Rattle.request.proofs.target.Place.{target-inside}
 use Rattle.response.specs.Answer.{Outcome, ackBytes}
 use Rattle.handler.specs.Call.{outcome}
-use Rattle.reply.specs.Message.{headingOf, Content}
+use Rattle.reply.specs.Message.{headingOf, Content, replyBytes}
 use Rattle.execute.specs.Execute.{requestOf, contentIn, replyAndAck, getBytes}
 use Rattle.response.specs.declared.Kind.the-variants.{Done}
 use Rattle.demands.specs.Answer.{Counted}
@@ -48,7 +48,7 @@ use Rattle.demands.specs.CallCase.{CallCase}
 use Rattle.demands.specs.CallCase.CallCase.{ended, notRead, messageAnswered}
 use Rattle.demands.specs.Message.{Named, Carries}
 use Rattle.demands.specs.CallCase.MessageCase.{messageSkipped, messageRefused, getDone, setDone}
-use Rattle.demands.specs.Done.{DoneSet, DoneGet, replyTo}
+use Rattle.demands.specs.Done.{DoneSet, DoneGet, askedContent, replyTo}
 use Rattle.demands.specs.Request.{isSet}
 use Rattle.demands.proofs.Count.{none-counted, error-counted, ack-counted, reply-counted}
 use Rattle.demands.proofs.CallCase.{call-case}
@@ -66,35 +66,35 @@ module _ (roll m : List ℕ) (n : Named roll m) where
 
 -- the stored set of a right box: its names, its words, its bits
 module _ (box : Box) (state : State) (call : Call) (right : boxRight box state call ≡ true) (position : ℕ) (inside : position < portsIn box)
-    (setDone : Set) where
+    (set : Set) where
   abbrev stored : List ℕ
-  stored = setOf box state position setDone
+  stored = setOf box state position set
 
   rules : Right box state call
   rules = box-means box state call right
 
-  names-right : namesRight (listOf (box .names) setDone) ≡ true
-  names-right = rules .names-right setDone
+  names-right : namesRight (listOf (box .names) set) ≡ true
+  names-right = rules .names-right set
 
-  stored-long : length stored ≡ wordsFor (sizeOf (sizesIn box) setDone)
+  stored-long : length stored ≡ wordsFor (sizeOf (sizesIn box) set)
   unfolding setOf
   stored-long =
-      set-length (portsIn box) (widthsIn box) position setDone inside (state .words) (rules .settings .exact)
-      ∙ sizes-of wordsFor (sizesIn box) setDone
+      set-length (portsIn box) (widthsIn box) position set inside (state .words) (rules .settings .exact)
+      ∙ sizes-of wordsFor (sizesIn box) set
 
-  stored-below : Below (sizeOf (sizesIn box) setDone) (has stored)
+  stored-below : Below (sizeOf (sizesIn box) set) (has stored)
   unfolding setOf
   stored-below =
-      none-below stored (sizeOf (sizesIn box) setDone)
-      (rules .settings .clear position inside setDone)
+      none-below stored (sizeOf (sizesIn box) set)
+      (rules .settings .clear position inside set)
 
   stored-small : Small (state .words) → Small stored
   unfolding setOf setAt
   stored-small small j l =
-      let at = setPlace (portsIn box) (widthsIn box) position setDone in
-      let w = sizeOf (widthsIn box) setDone in
-      let long : length stored ≡ w = set-length (portsIn box) (widthsIn box) position setDone inside (state .words) (rules .settings .exact) in
-      let room = place-inside (portsIn box) (widthsIn box) position setDone inside in
+      let at = setPlace (portsIn box) (widthsIn box) position set in
+      let w = sizeOf (widthsIn box) set in
+      let long : length stored ≡ w = set-length (portsIn box) (widthsIn box) position set inside (state .words) (rules .settings .exact) in
+      let room = place-inside (portsIn box) (widthsIn box) position set inside in
       let all = rules .settings .exact in
       let e : getD stored j 0 ≡ getD (state .words) (at + j) 0 = getD-take w (drop at (state .words)) j 0 (omega arith) ∙ getD-drop at (state .words) j 0 in
       rw e (small (at + j) (omega arith))
@@ -142,34 +142,47 @@ module _ (box : Box) (state : State) (call : Call) (datagram : List ℕ) (room :
   -- a GET
   module _ (right : boxRight box state call ≡ true) (n : Named (box .roll) m) where
     abbrev content : Content
-    content = contentIn box state (n .command .set) (n .target)
+    content = askedContent box state m n
+
+    size-is : sizeOf (sizesIn box) (n .command .set) ≡ content .bits
+    size-is = lists-of count (box .names) (n .command .set)
+
+    -- what is shown is what must be
+    content-is : contentIn box state (n .command .set) (n .target) ≡ content
+    unfolding contentIn
+    content-is =
+        ap
+        (λ (bits : ℕ). record {
+          index = content .index;
+          name = content .name;
+          compact = content .compact;
+          names = content .names;
+          words = content .words;
+          bits = bits;
+        })
+        size-is
 
     inside : n .target .position < portsIn box
     inside = here (box .roll) m n
 
     short : nulAt (content .name) < 16
-    unfolding contentIn
     short = port-short (box .roll) (n .target .position) (rules box state call right (n .target .position) inside (n .command .set) .roll-right) inside
 
     named : namesRight (content .names) ≡ true
-    unfolding contentIn
     named = names-right box state call right (n .target .position) inside (n .command .set)
 
     counted : count (content .names) ≡ content .bits
-    unfolding contentIn
-    counted = sym (lists-of count (box .names) (n .command .set))
+    counted = refl
 
     long : length (content .words) ≡ wordsFor (content .bits)
-    unfolding contentIn
-    long = stored-long box state call right (n .target .position) inside (n .command .set)
+    long = stored-long box state call right (n .target .position) inside (n .command .set) ∙ ap wordsFor size-is
 
     got-bytes : (next : ℕ) → getBytes box state m (requestOf h next (n .command)) (n .target) ≡ replyTo box state m h n ++ ackBytes m h
     unfolding getBytes replyAndAck
-    got-bytes next = refl
+    got-bytes next = ap (λ (c : Content). replyBytes (headingOf h (n .command .reply)) c ++ ackBytes m h) content-is
 
     done-get : (next : ℕ) {p : Outcome State} → Small (state .words) → n .command .change ≡ false → p .state ≡ state
         → p .response .bytes ≡ getBytes box state m (requestOf h next (n .command)) (n .target) → DoneGet box state m h p
-    unfolding contentIn
     done-get next small change ew eb =
         let heading = headingOf h (n .command .reply) in
         let x = content .index in
@@ -186,7 +199,7 @@ module _ (box : Box) (state : State) (call : Call) (datagram : List ℕ) (room :
           reads-back =
               reply-back heading x name-of (content .compact) (content .names) (content .words) (content .bits) named counted long
               (stored-small box state call right (n .target .position) inside (n .command .set) small)
-              (stored-below box state call right (n .target .position) inside (n .command .set));
+              (rw size-is at (stored-below box state call right (n .target .position) inside (n .command .set)));
         }
 
     get-counted : (next : ℕ) → 16 ≤ length m → Counted (getBytes box state m (requestOf h next (n .command)) (n .target))

@@ -1,12 +1,15 @@
 -- What a done message has brought about: demand 2, "An accepted bitset gives every masked bit its value and keeps the rest" and "Replies are the
 -- stated bytes, and read back give the stored set".
-use Prim.Native.Nat.{ℕ, _+_, _-_, _≤_, _<_}
+use Prim.Native.Nat.{ℕ, _+_, _-_, _%_, _≤_, _<_}
 use mathlib.Core.Path.{_≡_}
 use mathlib.Core.List.{List, _++_}
 use mathlib.Core.Bool.{true, false}
 use mathlib.Core.Logic.{_⊎_}
 use lib.ListN.{length, getD}
+use lib.Dec.{eqb}
 use Rattle.bits.specs.Set.{has}
+use Rattle.entries.specs.Entry.{count}
+use Rattle.roll.specs.Record.{indexOf, nameOf}
 use Rattle.bits.specs.Change.{Same}
 use Rattle.netlink_attributes.specs.Attributes.{attributes}
 use Rattle.netlink_attributes.specs.Attributes.Attributes.{done, attribute}
@@ -18,9 +21,8 @@ use Rattle.boxes.specs.Rule.{boxRight}
 use Rattle.layout.specs.Layout.{listOf}
 use Rattle.layout.specs.declared.Set.{Set}
 use Rattle.read_back.specs.Claims.{ReadsBack}
-use Rattle.reply.specs.Message.{headingOf, replyBytes}
+use Rattle.reply.specs.Message.{headingOf, Content, replyBytes}
 use Rattle.response.specs.Answer.{Outcome, ackBytes}
-use Rattle.execute.specs.Execute.{contentIn}
 use Rattle.demands.specs.Message.{Named, Carries}
 
 -- a done SET: the named set of the named port is what the bitset makes of it, every other set and every other word is as before, and the box
@@ -41,9 +43,21 @@ pub record DoneSet (box : Box) (state : State) (call : Call) (m : List ℕ) (h :
   pub right : boxRight box (o .state) call ≡ true
   pub bytes : o .response .bytes ≡ ackBytes m h
 
--- the reply to a GET, about the named set of the named port
+-- what the reply to a GET must be about: index and name of the named port, its named set, compact with header flag 1
+abbrev pub askedContent : (box : Box) → State → (m : List ℕ) → Named (box .roll) m → Content
+askedContent box state m n =
+    record {
+      index = indexOf (box .roll) (n .target .position);
+      name = nameOf (box .roll) (n .target .position);
+      compact = eqb (n .target .flags % 2) 1;
+      names = listOf (box .names) (n .command .set);
+      words = setOf box state (n .target .position) (n .command .set);
+      bits = count (listOf (box .names) (n .command .set));
+    }
+
+-- the reply to a GET
 abbrev pub replyTo : (box : Box) → State → (m : List ℕ) → MessageHeader → Named (box .roll) m → List ℕ
-replyTo box state m h n = replyBytes (headingOf h (n .command .reply)) (contentIn box state (n .command .set) (n .target))
+replyTo box state m h n = replyBytes (headingOf h (n .command .reply)) (askedContent box state m n)
 
 -- a done GET: the settings stay; the reply is written, then the ACK if asked; the reply's two attributes are the port's nest and the set's,
 -- and the set's contents, which our own reader accepts, make the stored set of every starting set
