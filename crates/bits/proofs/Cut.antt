@@ -15,10 +15,10 @@ use Rattle.basics.proofs.Order.{lt-or-ge}
 use Rattle.basics.proofs.Truth.{true-of, false-of, clash}
 use Rattle.basics.proofs.Scan.{all-of, all-each, any-none, any-not}
 use Rattle.bits.specs.Bit.{test, number}
-use Rattle.bits.specs.Set.{has, wordOf, allBelow, cut, clearFrom, noneFrom, past, somePast}
+use Rattle.bits.specs.Set.{has, wordOf, allBelow, clearFrom, noneFrom, past, somePast}
 use Rattle.bits.specs.Between.{isBetween, bitBetween}
 use Rattle.bits.specs.Change.{Below}
-use Rattle.bits.proofs.Bit.{number-lt, test-number, number-ext, number-cong, test-and, shl-one, test-ones, test-zero}
+use Rattle.bits.proofs.Bit.{number-lt, test-number, number-ext, test-and, shl-one, test-ones, test-zero}
 use Rattle.bits.proofs.Words.{has-word, has-past}
 
 -- word j of all bits below n: full, empty, or the one where n stands

@@ -8,7 +8,6 @@ use Rattle.netlink_attributes.specs.Attributes.{Attributes}
 use Rattle.netlink_attributes.specs.Attributes.Attributes.{done, broken, attribute}
 use Rattle.netlink_headers.specs.declared.headers.MessageHeader.{MessageHeader}
 use Rattle.netlink.specs.declared.policy.Fault.the-variants as W
-use Rattle.netlink.specs.declared.walk.Slot.{Slot}
 use Rattle.netlink.specs.declared.walk.Stop.{Stop}
 use Rattle.netlink.specs.declared.walk.Stop.the-variants.{Whole, At}
 use Rattle.bitset_form.specs.declared.parts.BitsetParts.{BitsetParts}

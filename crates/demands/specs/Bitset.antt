@@ -19,7 +19,7 @@ use Rattle.bitset_form.specs.Parts.{bitsetParts, bitParts}
 use Rattle.bitset_form.specs.declared.parts.BitsetParts.{BitsetParts}
 use Rattle.bitset_form.specs.declared.parts.BitParts.{BitParts}
 use Rattle.bitset_compact.specs.Compact.{bitmap}
-use Rattle.demands.specs.Check.{Check, refuseIf, walks}
+use Rattle.demands.specs.Check.{Check, refuseIf, walks, walkChecks}
 
 -- "18, in order: BITS with VALUE; BITS with MASK; NOMASK with MASK"
 unfoldable pub mixedChecks : BitsetParts → List Check
@@ -65,7 +65,7 @@ partChecks s names at parts =
 -- a BIT: walked whole, then judged
 unfoldable pub bitChecks : List ℕ → List ℕ → ℕ → List Check
 bitChecks s names from =
-    walks (walked bitPolicy s from .stop) ∷ partChecks s names (from - 4) (bitParts (walked bitPolicy s from .slots))
+    walkChecks (walked bitPolicy s from) (λ slots. partChecks s names (from - 4) (bitParts slots))
 
 -- each BIT in order
 unfoldable pub eachBit : List ℕ → List ℕ → Attributes → List Check
@@ -87,4 +87,4 @@ formChecks s nest names parts =
 -- the bitset whose contents are the bytes of s from a position on
 unfoldable pub bitsetChecks : List ℕ → ℕ → List ℕ → List Check
 bitsetChecks s from names =
-    walks (walked bitsetPolicy s from .stop) ∷ formChecks s (from - 4) names (bitsetParts (walked bitsetPolicy s from .slots))
+    walkChecks (walked bitsetPolicy s from) (λ slots. formChecks s (from - 4) names (bitsetParts slots))

@@ -1,11 +1,11 @@
 -- The search for a name (document 01, "A name is the entry that equals it .. an empty name matches none").
 use Prim.Native.Nat.{ℕ}
-use mathlib.Core.Bool.{Bool, true, false, _&&_, _||_, cond}
+use mathlib.Core.Bool.{Bool, true, false, _||_, cond}
 use mathlib.Core.List.{List}
 use lib.ListN.{length}
-use lib.Dec.{ltb, leb}
+use lib.Dec.{ltb}
 use Rattle.basics.specs.Scan.{first}
-use Rattle.entries.specs.Entry.{count, entryAt, sameEntry, isEmpty, entriesDistinct}
+use Rattle.entries.specs.Entry.{count, entryAt, sameEntry, isEmpty}
 use Rattle.names.specs.declared.Lookup.{Lookup}
 
 -- whether entry i equals the name; NULs may follow the name

@@ -5,7 +5,7 @@
 --     form-stable        normalising a normal form gives the same bytes
 --     form-exact         what the normaliser writes: SIZE N, VALUE W words, MASK W words, of the mask and value that document 01 gives
 --     refused-unwritten  a refused bitset writes nothing, and its number is the first refusal in order
-use Prim.Native.Nat.{ℕ, _+_, _*_, _≤_, _<_}
+use Prim.Native.Nat.{ℕ, _*_, _≤_, _<_}
 use mathlib.Core.Path.{_≡_, refl, sym, ap, ap₂, _∙_}
 use mathlib.Core.List.{List, [], _++_}
 use mathlib.Core.Bool.{Bool, true, false, _&&_}

@@ -69,6 +69,7 @@ pub record Responds (s : Response) (before after : List ℕ) (r : Answer) : Type
   pub result : r ≡ answerOf s
   pub page : after ≡ put before (s .bytes)
 
+-- the response is given, and the state after it is the outcome's
 pub record Performs {S : Type 0} (o : Outcome S) (before after : List ℕ) (state : S) (r : Answer) : Type 0 where
   pub response : Responds (o .response) before after r
   pub state-is : state ≡ o .state

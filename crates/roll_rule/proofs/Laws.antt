@@ -1,14 +1,14 @@
 -- Laws of the rule: how the loops over the ports decide it, and what a right roll gives.
 use Prim.Native.Nat.{ℕ, _+_, _≤_, _<_}
-use mathlib.Core.Path.{_≡_, refl, sym, ap, _∙_}
+use mathlib.Core.Path.{_≡_, sym, _∙_}
 use mathlib.Core.List.{List}
 use mathlib.Core.Bool.{Bool, true, false, _&&_, not}
 use native.Mathlib.Omega.{arith}
 use borrow.Author.Tests.{le-leb, lt-leb, lt-ltb, le-ltb, ltb-true, not-true, not-false}
 use Rattle.basics.specs.Scan.{all}
-use Rattle.basics.proofs.Scan.{all-none, all-more, all-fails, all-done, all-each}
+use Rattle.basics.proofs.Scan.{all-none, all-more, all-fails, all-done}
 use Rattle.basics.proofs.Truth.{both-true}
-use Rattle.roll.specs.Record.{records, allWhole, portCount, indexOf, nameOf, portsListed}
+use Rattle.roll.specs.Record.{portCount, indexOf, nameOf, portsListed}
 use Rattle.roll.specs.Name.{nameRight}
 use Rattle.roll.specs.Table.{Tabled, TableRead}
 use lib.ListN.{length}

@@ -1,5 +1,5 @@
 -- Laws of words and their bytes: each says what the other is.
-use Prim.Native.Nat.{ℕ, zero, suc, _+_, _*_, _/_, _%_, _^_, _≤_, _<_, suc-le-suc}
+use Prim.Native.Nat.{ℕ, zero, suc, _+_, _*_, _/_, _^_, _≤_, _<_, suc-le-suc}
 use mathlib.Core.Path.{_≡_, refl, sym, ap, ap₂, _∙_}
 use mathlib.Core.Bool.{Bool}
 use mathlib.Core.Logic.{⊎-elim}
@@ -8,10 +8,10 @@ use native.Mathlib.Nat.{zero-lt-suc}
 use native.Mathlib.Numerals.{add-one}
 use native.Mathlib.Omega.{arith}
 use lib.ListN.{length, take, getD, set, length-append, List·getD-append, List·getD-eq-default}
-use lib.Seq.{take-suc, take-add, take-all, getD-at, getD-append-add, ext-getD}
+use lib.Seq.{take-suc, getD-at, getD-append-add, ext-getD}
 use Rattle.basics.specs.Numbers.{le32, u32At}
 use Rattle.basics.specs.Put.{put}
-use Rattle.basics.proofs.Numbers.{digits32, four-bytes}
+use Rattle.basics.proofs.Numbers.{digits32}
 use Rattle.basics.proofs.Order.{lt-or-ge}
 use Rattle.basics.proofs.Put.{put-take}
 use Rattle.bits.specs.Set.{wordsOf}

@@ -33,7 +33,7 @@ use Rattle.admission.specs.declared.Admission.the-variants as A
 use Rattle.response.specs.Answer.{Outcome, noBytes, errorResponse, unchanged, Responds, Performs}
 use Rattle.execute.specs.Execute.{requestOf, requestOutcome}
 use Rattle.execute.specs.Fit.{Fit}
-use Rattle.handler.specs.Call.{onAdmission, messageOutcome, onMessage, positionOutcome, outcome}
+use Rattle.handler.specs.Call.{messageOutcome, onMessage, positionOutcome, outcome}
 use Rattle.response.specs.declared.Kind.{Kind}
 use Rattle.response.specs.declared.Kind.the-variants.{End, Skipped, Refused}
 use Rattle.response.specs.declared.Answer.{Answer}

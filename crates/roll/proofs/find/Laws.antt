@@ -10,7 +10,6 @@ use Rattle.basics.specs.Numbers.{u32At}
 use Rattle.basics.specs.Scan.{first}
 use Rattle.basics.proofs.Scan.{first-none, first-more, first-at, first-is}
 use Rattle.basics.proofs.Truth.{false-of}
-use Rattle.roll.specs.declared.find.Found.{Found}
 use Rattle.roll.specs.declared.find.Found.the-variants.{At, Nothing}
 use lib.ListN.{length}
 use Rattle.roll.specs.Record.{portCount, indexOf, nameOf}

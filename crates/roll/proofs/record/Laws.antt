@@ -16,7 +16,7 @@ use Rattle.roll.specs.declared.record.PortRecord.{PortRecord}
 use Rattle.roll.specs.declared.record.RecordRead.the-variants as R
 use Rattle.roll.specs.Record.{recordSize, recordAt, Records, onRecord, recordsUpTo, records}
 use Rattle.roll.specs.Table.{mostBytes, SizeFits}
-use Rattle.roll.specs.Record.Records.{endOfRoll, badRecord, port}
+use Rattle.roll.specs.Record.Records.{port}
 
 -- each kind
 module _ (kind : ℕ) where
