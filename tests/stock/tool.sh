@@ -3,7 +3,7 @@
 # Takes the installed tool, or unpacks Debian's package beside the other things that are built here.
 find_tool() {
     ethtool=$(PATH=$PATH:/usr/sbin:/sbin command -v ethtool) && return
-    (cd "$out" && { apt-get download ethtool libmnl0 || { apt-get update && apt-get download ethtool libmnl0; }; } &&
+    (cd "$out" && { apt-get download ethtool libmnl0 || { timeout 60 apt-get update && apt-get download ethtool libmnl0; }; } &&
         dpkg -x ethtool_*.deb package && dpkg -x libmnl0_*.deb package) >"$out/package.log" 2>&1
     ethtool=$(find "$out/package" -path '*/sbin/ethtool' 2>/dev/null)
     LD_LIBRARY_PATH=$(echo "$out"/package/usr/lib/*-linux-gnu)
