@@ -34,8 +34,7 @@ use Rattle.refusal.specs.declared.Refusal.the-variants.{PastLength, UnknownBit,
 use Rattle.bitset_form.specs.Policies.{bitPolicy}
 use Rattle.bitset_form.specs.Parts.{bitParts}
 use Rattle.bitset_form.specs.declared.parts.BitParts.{BitParts}
-use Rattle.bitset_bit.specs.Bit.{bitByIndex, onLookup, bitByName, identified, onIdentityRead, bitPartsReading, bitReading}
-use Rattle.bitset_bit.specs.Walked.{bitWalked}
+use Rattle.bitset_bit.specs.Bit.{bitByIndex, onLookup, bitByName, identified, onIdentityRead, bitPartsReading, bitWalked, onBitWalk, bitReading}
 use Rattle.refusal.specs.Refusal.{onStop, onWalk}
 use Rattle.bitset_form.specs.declared.Judgement.the-variants.{Refused}
 use Rattle.bitset_bit.specs.declared.Identity.{Identity}
@@ -229,25 +228,27 @@ pub ruleset bit-laws = (bit-start, bit-end, bit-broken, bit-less, bit-wrong, bit
 
 -- what is walked, then judged
 module _ (s names : List ℕ) (from : ℕ) (w : BitWalk) (e : w ≡ bitWalked s from) where
+  walked-as : (x : BitWalk) → w ≡ x → onBitWalk x (bitPartsReading s names (from - 4)) ≡ bitReading s names from
+  unfolding bitReading
+  walked-as x q = ap (λ (y : BitWalk). onBitWalk y (bitPartsReading s names (from - 4))) (sym q ∙ e)
+
   pub bit-refused : (y : Refusal) → w ≡ W.Refused y → B.Refused y ≡ bitReading s names from
-  unfolding bitWalked bitReading
-  bit-refused y q = go (walked bitPolicy s from .stop) (bitParts (walked bitPolicy s from .slots)) (sym q ∙ e)
-    where
-      go : (t : Stop) (parts : BitParts) → W.Refused y ≡ onStop t W.Refused (W.Parts parts)
-          → B.Refused y ≡ onStop t B.Refused (bitPartsReading s names (from - 4) parts)
-      go S.Whole parts q = absurd (let c : _≡_ {A = ℕ} 0 1 = cc in omega arith)
-      go (S.At f at) parts q = ap B.Refused cc
+  bit-refused y q = walked-as (W.Refused y) q
 
   pub bit-parts : (parts : BitParts) (p : ℕ) (y : BitRead) → w ≡ W.Parts parts → p ≡ from - 4 → y ≡ bitPartsReading s names p parts
       → y ≡ bitReading s names from
-  unfolding bitWalked bitReading
-  bit-parts parts p y q ep ey =
-      ey ∙ ap (λ (x : ℕ). bitPartsReading s names x parts) ep
-      ∙ go (walked bitPolicy s from .stop) (bitParts (walked bitPolicy s from .slots)) (sym q ∙ e)
-    where
-      go : (t : Stop) (found : BitParts) → W.Parts parts ≡ onStop t W.Refused (W.Parts found)
-          → bitPartsReading s names (from - 4) parts ≡ onStop t B.Refused (bitPartsReading s names (from - 4) found)
-      go S.Whole found q = cc
-      go (S.At f at) found q = absurd (let c : _≡_ {A = ℕ} 0 1 = cc in omega arith)
+  bit-parts parts p y q ep ey = ey ∙ ap (λ (x : ℕ). bitPartsReading s names x parts) ep ∙ walked-as (W.Parts parts) q
+
+-- a BIT's reading by its walk
+pub by-walk : (s names : List ℕ) (from : ℕ)
+    → bitReading s names from ≡ onWalk (walked bitPolicy s from) B.Refused (λ slots. bitPartsReading s names (from - 4) (bitParts slots))
+unfolding bitReading bitWalked
+by-walk s names from = go (walked bitPolicy s from .stop)
+  where
+    go : (t : Stop)
+        → onBitWalk (onStop t W.Refused (W.Parts (bitParts (walked bitPolicy s from .slots)))) (bitPartsReading s names (from - 4))
+        ≡ onStop t B.Refused (bitPartsReading s names (from - 4) (bitParts (walked bitPolicy s from .slots)))
+    go S.Whole = refl
+    go (S.At f at) = refl
 
 pub ruleset judge-bit-laws = (bit-refused, bit-parts)

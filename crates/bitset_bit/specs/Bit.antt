@@ -18,6 +18,8 @@ use Rattle.bitset_bit.specs.declared.Identity.{Identity}
 use Rattle.bitset_bit.specs.declared.Identity.the-variants.{Number, Neither}
 use Rattle.bitset_bit.specs.declared.IdentityRead.{IdentityRead}
 use Rattle.bitset_bit.specs.declared.IdentityRead.the-variants as L
+use Rattle.bitset_bit.specs.declared.BitWalk.{BitWalk}
+use Rattle.bitset_bit.specs.declared.BitWalk.the-variants as W
 use Rattle.bitset_bit.specs.declared.BitRead.{BitRead}
 use Rattle.bitset_bit.specs.declared.BitRead.the-variants as B
 
@@ -53,7 +55,15 @@ onIdentityRead (L.Refused r) at on = B.Refused r
 unfoldable pub bitPartsReading : List ℕ → List ℕ → ℕ → BitParts → BitRead
 bitPartsReading s names at parts = onIdentityRead (identified s names parts) at (parts .on .present)
 
--- the BIT whose contents are the bytes of s from a position on: walked whole, then judged
+-- the BIT whose contents are the bytes of s from a position on, walked whole: its first fault, or its parts
+unfoldable pub bitWalked : List ℕ → ℕ → BitWalk
+bitWalked s from = onWalk (walked bitPolicy s from) W.Refused (λ slots. W.Parts (bitParts slots))
+
+-- the refusal of a fault, or what the parts come to
+abbrev pub onBitWalk : BitWalk → (BitParts → BitRead) → BitRead
+onBitWalk (W.Refused r) rest = B.Refused r
+onBitWalk (W.Parts parts) rest = rest parts
+
+-- that BIT: walked whole, then judged
 unfoldable pub bitReading : List ℕ → List ℕ → ℕ → BitRead
-bitReading s names from =
-    onWalk (walked bitPolicy s from) B.Refused (λ slots. bitPartsReading s names (from - 4) (bitParts slots))
+bitReading s names from = onBitWalk (bitWalked s from) (bitPartsReading s names (from - 4))

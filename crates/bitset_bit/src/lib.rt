@@ -1,7 +1,6 @@
 // One BIT of a bit list: walked whole, then judged.
 ghost use mathlib.Core.Path.{_≡_};
-ghost use Rattle.bitset_bit.specs.Bit.{bitByIndex, bitByName, identified, bitPartsReading, bitReading};
-ghost use Rattle.bitset_bit.specs.Walked.{bitWalked};
+ghost use Rattle.bitset_bit.specs.Bit.{bitByIndex, bitByName, identified, bitPartsReading, bitWalked, bitReading};
 ghost use Rattle.netlink.specs.Policy.{ruleOf, judged};
 ghost use Rattle.bitset_form.specs.Policies.{bitPolicy};
 ghost use Rattle.entries.specs.Entry.{count};

@@ -1,6 +1,6 @@
 -- One BIT behind other bytes.
 use Prim.Native.Nat.{ℕ, _+_, _-_, _≤_}
-use mathlib.Core.Path.{_≡_, refl, ap, _∙_}
+use mathlib.Core.Path.{_≡_, refl, sym, ap, _∙_}
 use mathlib.Core.List.{List, _++_}
 use mathlib.Core.Bool.{Bool, true, false, cond}
 use lib.ListN.{length}
@@ -17,6 +17,7 @@ use Rattle.bitset_form.specs.Policies.{bitPolicy}
 use Rattle.bitset_form.specs.Parts.{bitParts}
 use Rattle.bitset_form.specs.declared.parts.BitParts.{BitParts}
 use Rattle.bitset_bit.specs.Bit.{bitByIndex, bitByName, identified, onIdentityRead, bitPartsReading, bitReading}
+use Rattle.bitset_bit.proofs.Laws.{by-walk}
 use Rattle.bitset_bit.specs.declared.Identity.{Identity}
 use Rattle.bitset_bit.specs.declared.Identity.the-variants.{Number, Neither}
 use Rattle.bitset_bit.specs.declared.IdentityRead.{IdentityRead}
@@ -76,12 +77,13 @@ module _ (pre s names : List ℕ) where
       ∙ identity-moved (length pre) (identified s names p) at (p .on .present)
 
   pub bit-moved : (from : ℕ) → 4 ≤ from → bitReading (pre ++ s) names (length pre + from) ≡ movedBit (length pre) (bitReading s names from)
-  unfolding bitReading
   bit-moved from l =
       let w = walked bitPolicy s from in
       let w′ = walked bitPolicy (pre ++ s) (length pre + from) in
-      on-stop (length pre) (movedBit (length pre)) B.Refused (λ r. refl) (w .stop) (w′ .stop)
+      by-walk (pre ++ s) names (length pre + from)
+      ∙ on-stop (length pre) (movedBit (length pre)) B.Refused (λ r. refl) (w .stop) (w′ .stop)
       (bitPartsReading s names (from - 4) (bitParts (w .slots)))
       (bitPartsReading (pre ++ s) names (length pre + from - 4) (bitParts (w′ .slots)))
       (stop-moved pre s bitPolicy from)
       (λ (whole : w .stop ≡ Whole). rw (place (length pre) from l) (parts-moved (from - 4) (bit-parts pre s from whole)))
+      ∙ sym (ap (movedBit (length pre)) (by-walk s names from))

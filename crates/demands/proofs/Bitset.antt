@@ -19,6 +19,7 @@ use Rattle.bitset_form.specs.Bitset.{Reading}
 use Rattle.bitset_form.specs.Bitset.Reading.{refused, accepted}
 use Rattle.bitset_compact.specs.Compact.{nomaskReading, maskedReading, compactReading}
 use Rattle.bitset_bit.specs.Bit.{bitByIndex, bitByName, identified, onIdentityRead, bitPartsReading, bitReading}
+use Rattle.bitset_bit.proofs.Laws.{by-walk}
 use Rattle.refusal.specs.Refusal.{onStop}
 use Rattle.bitset_list.specs.BitList.{ListReading, onBit, bitsReading, asBitset, listReading}
 use Rattle.bitset_list.specs.BitList.ListReading.{listRefused, listEntries}
@@ -115,10 +116,11 @@ module _ (s names : List ℕ) (rest : ListReading) where
     parts-first parts false false = pass last _ _ _ (pass last _ _ _ (fault last _ _))
 
   bit-first : (from : ℕ) → listKind (onBit (bitReading s names from) rest) ≡ firstKind last (bitChecks s names from)
-  unfolding bitReading bitPartsReading identified bitChecks partChecks
+  unfolding bitPartsReading identified bitChecks partChecks
   bit-first from =
       let parts = bitParts (walked bitPolicy s from .slots) in
-      walk-step (λ r. listKind (onBit r rest)) last (walked bitPolicy s from .stop)
+      ap (λ r. listKind (onBit r rest)) (by-walk s names from)
+      ∙ walk-step (λ r. listKind (onBit r rest)) last (walked bitPolicy s from .stop)
       (λ stop. onStop stop B.Refused (bitPartsReading s names (from - 4) parts)) _ (λ fault at. refl)
       (parts-first (from - 4) (parts .on .present) parts (parts .index .present) (parts .name .present))
 

@@ -117,7 +117,7 @@ module _ (box : Box) (state : State) (m : List ℕ) (h : MessageHeader) (next : 
           ∷ refuseIf false (R.UnknownPort (parts .name .start - 4))
           ∷ refuseIf (namedOtherwise m (parts .name) (box .roll) found) (R.OtherName (header .start - 4))
           ∷ rest)
-      unfolding noPort namedOtherwise
+      unfolding noPort namedOtherwise otherName
       index-first F.Nothing = refused-by _ ∙ fault Done _ _
       index-first (F.At k) =
           pass Done _ _ _ (pass Done _ _ _ (step targeted Done (otherName m (parts .name) (box .roll) k) _ _ _ _ (refused-by _) (port-first k)))

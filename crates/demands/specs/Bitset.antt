@@ -18,7 +18,6 @@ use Rattle.bitset_form.specs.Policies.{bitsetPolicy, bitsPolicy, bitPolicy}
 use Rattle.bitset_form.specs.Parts.{bitsetParts, bitParts}
 use Rattle.bitset_form.specs.declared.parts.BitsetParts.{BitsetParts}
 use Rattle.bitset_form.specs.declared.parts.BitParts.{BitParts}
-use Rattle.bitset_compact.specs.Compact.{bitmap}
 use Rattle.demands.specs.Check.{Check, refuseIf, walks, walkChecks}
 
 -- "18, in order: BITS with VALUE; BITS with MASK; NOMASK with MASK"
@@ -31,11 +30,11 @@ mixedChecks parts =
 
 -- a bitmap holds fewer words than SIZE/32 rounded up
 unfoldable pub tooShort : List ℕ → ℕ → Slot → Bool
-tooShort s size slot = ltb (length (bitmap s slot) / 4) (wordsFor size)
+tooShort s size slot = ltb (length (partOf s (slot .start) (slot .end)) / 4) (wordsFor size)
 
 -- "a bit i with N <= i < SIZE stands" in a bitmap
 unfoldable pub pastEnd : List ℕ → ℕ → ℕ → Slot → Bool
-pastEnd s n size slot = somePast (has (wordsIn (bitmap s slot))) n size
+pastEnd s n size slot = somePast (has (wordsIn (partOf s (slot .start) (slot .end)))) n size
 
 -- "SIZE, VALUE and, without NOMASK, MASK are required, missed in that order. VALUE, then MASK, hold at least SIZE/32 rounded up words. 20 if
 -- a bit i with N <= i < SIZE stands in MASK (in VALUE under NOMASK)"

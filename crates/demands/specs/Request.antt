@@ -12,6 +12,8 @@ use Rattle.netlink_headers.specs.declared.headers.MessageHeader.{MessageHeader}
 use Rattle.netlink.specs.declared.walk.Slot.{Slot}
 use Rattle.refusal.specs.declared.Refusal.the-variants as R
 use Rattle.roll.specs.Find.{foundByIndex, foundByName}
+use Rattle.roll.specs.Name.{holdsName}
+use Rattle.roll.specs.Record.{nameOf}
 use Rattle.roll.specs.declared.find.Found.{Found}
 use Rattle.roll.specs.declared.find.Found.the-variants as F
 use Rattle.layout.specs.Layout.{listOf}
@@ -22,7 +24,6 @@ use Rattle.layout.specs.declared.Set.the-variants.{Debug}
 use Rattle.admission.specs.Commands.{commandOf}
 use Rattle.request.specs.Policies.{topPolicy, headerPolicy}
 use Rattle.request.specs.Parts.{topParts, headerParts}
-use Rattle.request.specs.Port.{otherName}
 use Rattle.request.specs.declared.parts.TopParts.{TopParts}
 use Rattle.request.specs.declared.parts.HeaderParts.{HeaderParts}
 use Rattle.admission.specs.declared.commands.Command.{Command}
@@ -55,7 +56,7 @@ noPort (F.At position) = false
 -- a port is found, and the name that is given is not its name
 unfoldable pub namedOtherwise : List ℕ → Slot → List ℕ → Found → Bool
 namedOtherwise m name roll F.Nothing = false
-namedOtherwise m name roll (F.At position) = otherName m name roll position
+namedOtherwise m name roll (F.At position) = name .present && not (holdsName (nameOf roll position) (partOf m (name .start) (name .end)))
 
 -- "Type below 16 or REQUEST absent: skipped"
 unfoldable pub skipIf : MessageHeader → Check

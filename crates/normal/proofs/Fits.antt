@@ -1,6 +1,6 @@
 -- An accepted bitset speaks of no bit at or past N.
 use Prim.Native.Nat.{ℕ, _-_, _/_, _<_}
-use mathlib.Core.Path.{_≡_, refl}
+use mathlib.Core.Path.{_≡_, refl, sym, _∙_}
 use mathlib.Core.List.{List, [], _∷_}
 use mathlib.Core.Bool.{Bool, true, false, _&&_, not, cond}
 use lib.ListN.{length}
@@ -32,6 +32,7 @@ use Rattle.bitset_form.specs.Bitset.Bitset.{maskedBitmap, nomaskBitmap, maskedL
 use Rattle.bitset_form.specs.Bitset.Reading.{refused, accepted}
 use Rattle.bitset_compact.specs.Compact.{bitmap, nomaskReading, maskedReading, compactReading}
 use Rattle.bitset_bit.specs.Bit.{bitByIndex, onLookup, bitByName, identified, onIdentityRead, bitPartsReading, bitReading}
+use Rattle.bitset_bit.proofs.Laws.{by-walk}
 use Rattle.refusal.specs.Refusal.{onStop}
 use Rattle.bitset_list.specs.BitList.{ListReading, onBit, bitsReading, asBitset, listReading}
 use Rattle.bitset_list.specs.BitList.ListReading.{listRefused, listEntries}
@@ -140,8 +141,8 @@ identified-below s names parts k e = go (parts .index .present) (parts .name .pr
     go false false e = absurd (let z : _≡_ {A = ℕ} 0 1 = cc in omega arith)
 
 bit-below : (s names : List ℕ) (from k : ℕ) (on : Bool) → bitReading s names from ≡ B.Bit k on → k < count names
-unfolding bitReading bitPartsReading
-bit-below s names from k on e = go (walked bitPolicy s from .stop) (identified s names parts) refl e
+unfolding bitPartsReading
+bit-below s names from k on e = go (walked bitPolicy s from .stop) (identified s names parts) refl (sym (by-walk s names from) ∙ e)
   where
     parts : BitParts
     parts = bitParts (walked bitPolicy s from .slots)

@@ -26,5 +26,5 @@ use Rattle.normal.specs.Normal.{normalForm}
 use Rattle.normal.specs.Sheet.{sheetNames, sheet, holds}
 
 pub sheet-holds : holds sheet ≡ true
-unfolding sheetNames sheet u16At u32At all any first number has wordsOf somePast past table wordsIn bytesOf applied listMask listValue entryAt sameByte sameEntry isEntry noName lookup attributeAt partOf attributesUpTo attributes P.ruleOf P.nulAt P.isNamePayload P.plain P.nested P.judged firstFault lastOfType walked slotNumber attributeHeaderBytes padding attr nest effect maskOf valueOf bitsetParts bitParts nomaskReading maskedReading compactReading BT.bitByIndex BT.bitByName BT.identified BT.bitPartsReading BT.bitReading BL.bitsReading BL.listReading mixedAt bitsetPartsReading bitsetReading partsBytes formBytes normalForm
+unfolding sheetNames sheet u16At u32At all any first number has wordsOf somePast past table wordsIn bytesOf applied listMask listValue entryAt sameByte sameEntry isEntry noName lookup attributeAt partOf attributesUpTo attributes P.ruleOf P.nulAt P.isNamePayload P.plain P.nested P.judged firstFault lastOfType walked slotNumber attributeHeaderBytes padding attr nest effect maskOf valueOf bitsetParts bitParts nomaskReading maskedReading compactReading BT.bitByIndex BT.bitByName BT.identified BT.bitPartsReading BT.bitWalked BT.bitReading BL.bitsReading BL.listReading mixedAt bitsetPartsReading bitsetReading partsBytes formBytes normalForm
 sheet-holds = refl

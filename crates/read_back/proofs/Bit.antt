@@ -22,7 +22,7 @@ use Rattle.netlink_write.proofs.ReadBack.{attributes-end, name-back}
 use Rattle.netlink_write.proofs.attributes.Laws.{length-attr}
 use Rattle.bitset_form.specs.Policies.{bitPolicy}
 use Rattle.bitset_form.specs.Parts.{bitParts}
-use Rattle.bitset_bit.specs.Bit.{bitByIndex, identified, bitPartsReading, bitReading}
+use Rattle.bitset_bit.specs.Bit.{bitByIndex, identified, bitPartsReading, bitWalked, bitReading}
 use Rattle.bitset_bit.specs.declared.BitRead.the-variants.{Bit}
 use Rattle.netlink_write.proofs.attributes.Laws.{length-nameBytes}
 use Rattle.read_back.proofs.Places.{payload-at, attribute-at, walked-by}
@@ -55,7 +55,7 @@ module _ (s front names name : List ℕ) (i at : ℕ) (ea : at ≡ length front)
         → walked bitPolicy s at
         ≡ record { stop = Whole; slots = absent ∷ found (at + 4) (at + 8) ∷ x ∷ absent ∷ absent ∷ absent ∷ absent ∷ absent ∷ [] }
         → bitReading s names at ≡ Bit i false
-    unfolding bitReading bitParts bitPartsReading identified bitByIndex
+    unfolding bitReading bitWalked bitParts bitPartsReading identified bitByIndex
     says x w = rw (w, number-back, lt-leb (count names) i l)
 
   -- without a name
