@@ -1,10 +1,14 @@
-# make example: the library's job on a ready example. make test: every test. make install PREFIX=..: header, archive, pkg-config file.
-.PHONY: example test
+# make example: the library's job on a ready example. make test: every test. make bent: bends that a theorem refuses. make install PREFIX=..: header,
+# archive, pkg-config file.
+.PHONY: example test bent
 
 example:
 	@examples/run
 
 test:
 	@tests/run
+
+bent:
+	@tests/bent/run
 
 include install.mk
