@@ -7,15 +7,13 @@ use Prim.Native.Nat.{ℕ, _+_, _-_, _≤_, _<_}
 use mathlib.Core.Path.{_≡_, refl, sym, ap, _∙_}
 use mathlib.Core.List.{List, _++_}
 use mathlib.Core.Bool.{Bool, true, false}
-use lib.ListN.{length, drop, getD}
-use lib.Seq.{getD-take, getD-drop}
+use lib.ListN.{length}
 use native.Mathlib.Omega.{arith}
 use Rattle.basics.specs.Numbers.{byteAt}
 use Rattle.basics.proofs.Truth.{clash}
 use Rattle.bits.specs.Set.{has, wordsFor}
 use Rattle.bits.specs.Change.{Below}
 use Rattle.bits.proofs.Cut.{none-below}
-use Rattle.word_bytes.proofs.WordBytes.{Small}
 use Rattle.entries.specs.Entry.{count}
 use Rattle.names.specs.Rule.{namesRight}
 use Rattle.netlink_headers.specs.Headers.{messageHeader}
@@ -30,9 +28,9 @@ use Rattle.roll.specs.Record.{portCount}
 use Rattle.boxes.specs.Box.{Box, State, portsIn, sizesIn, widthsIn, setOf}
 use Rattle.boxes.specs.declared.Call.{Call}
 use Rattle.boxes.specs.Rule.{boxRight}
-use Rattle.layout.specs.Layout.{listOf, sizeOf, setPlace, setAt}
+use Rattle.layout.specs.Layout.{listOf, sizeOf}
 use Rattle.layout.specs.declared.Set.{Set}
-use Rattle.layout.proofs.Laws.{lists-of, sizes-of, place-inside, set-length}
+use Rattle.layout.proofs.Laws.{lists-of, sizes-of, set-length}
 use Rattle.boxes.proofs.rule.Meaning.{Right, box-means}
 use Rattle.read_back.proofs.Reply.{reply-attributes, reply-back}
 use Rattle.admission.specs.Commands.{commandOf}
@@ -87,17 +85,6 @@ module _ (box : Box) (state : State) (call : Call) (right : boxRight box state c
   stored-below =
       none-below stored (sizeOf (sizesIn box) set)
       (rules .settings .clear position inside set)
-
-  stored-small : Small (state .words) → Small stored
-  unfolding setOf setAt
-  stored-small small j l =
-      let at = setPlace (portsIn box) (widthsIn box) position set in
-      let w = sizeOf (widthsIn box) set in
-      let long : length stored ≡ w = set-length (portsIn box) (widthsIn box) position set inside (state .words) (rules .settings .exact) in
-      let room = place-inside (portsIn box) (widthsIn box) position set inside in
-      let all = rules .settings .exact in
-      let e : getD stored j 0 ≡ getD (state .words) (at + j) 0 = getD-take w (drop at (state .words)) j 0 (omega arith) ∙ getD-drop at (state .words) j 0 in
-      rw e (small (at + j) (omega arith))
 
 module _ (box : Box) (state : State) (call : Call) (datagram : List ℕ) (room : ℕ) where
   abbrev position : ℕ
@@ -181,9 +168,9 @@ module _ (box : Box) (state : State) (call : Call) (datagram : List ℕ) (room :
     unfolding getBytes replyAndAck
     got-bytes next = ap (λ (c : Content). replyBytes (headingOf h (n .command .reply)) c ++ ackBytes m h) content-is
 
-    done-get : (next : ℕ) {p : Outcome State} → Small (state .words) → n .command .change ≡ false → p .state ≡ state
+    done-get : (next : ℕ) {p : Outcome State} → n .command .change ≡ false → p .state ≡ state
         → p .response .bytes ≡ getBytes box state m (requestOf h next (n .command)) (n .target) → DoneGet box state m h p
-    done-get next small change ew eb =
+    done-get next change ew eb =
         let heading = headingOf h (n .command .reply) in
         let x = content .index in
         let name-of = content .name in
@@ -198,7 +185,6 @@ module _ (box : Box) (state : State) (call : Call) (datagram : List ℕ) (room :
           parts = rw at parts;
           reads-back =
               reply-back heading x name-of (content .compact) (content .names) (content .words) (content .bits) named counted long
-              (stored-small box state call right (n .target .position) inside (n .command .set) small)
               (rw size-is at (stored-below box state call right (n .target .position) inside (n .command .set)));
         }
 
@@ -222,15 +208,15 @@ module _ (box : Box) (state : State) (call : Call) (datagram : List ℕ) (room :
       by (messageAnswered next right lo hi long first (getDone n g e)) = absurd (clash request (named-set (box .roll) m n ∙ g))
       by (messageAnswered next right lo hi long first (setDone n g b c e)) = rw e (done-set right n g b c refl refl)
 
-  pub read-back : Small (state .words) → o .response .kind ≡ Done → is-set ≡ false → DoneGet box state m h o
-  read-back small kind-of request = by (call-case box state call datagram room)
+  pub read-back : o .response .kind ≡ Done → is-set ≡ false → DoneGet box state m h o
+  read-back kind-of request = by (call-case box state call datagram room)
     where
       by : CallCase box state call datagram o → DoneGet box state m h o
       by (ended e) = absurd (let q = kind-is e ∙ kind-of in let z : _≡_ {A = ℕ} 0 1 = cc in omega arith)
       by (notRead w l e) = absurd (let q = kind-is e ∙ kind-of in let z : _≡_ {A = ℕ} 0 1 = cc in omega arith)
       by (messageAnswered next right lo hi long first (messageSkipped e)) = absurd (let q = kind-is e ∙ kind-of in let z : _≡_ {A = ℕ} 0 1 = cc in omega arith)
       by (messageAnswered next right lo hi long first (messageRefused w e)) = absurd (let q = kind-is e ∙ kind-of in let z : _≡_ {A = ℕ} 0 1 = cc in omega arith)
-      by (messageAnswered next right lo hi long first (getDone n g e)) = rw e (done-get right n next small g refl refl)
+      by (messageAnswered next right lo hi long first (getDone n g e)) = rw e (done-get right n next g refl refl)
       by (messageAnswered next right lo hi long first (setDone n g b c e)) = absurd (clash (named-set (box .roll) m n ∙ g) request)
 
   pub box-kept : boxRight box state call ≡ true → boxRight box (o .state) call ≡ true
