@@ -41,7 +41,7 @@ use Rattle.reply.specs.Message.{headingOf, Content, replyBytes}
 use Rattle.execute.specs.Execute.{requestOf, contentIn, replyAndAck, getBytes}
 use Rattle.response.specs.declared.Kind.the-variants.{Done}
 use Rattle.demands.specs.Answer.{Counted}
-use Rattle.demands.specs.Call.{messageOf}
+use Rattle.demands.specs.Call.{messageOf, nextOf}
 use Rattle.demands.specs.CallCase.{CallCase}
 use Rattle.demands.specs.CallCase.CallCase.{ended, notRead, messageAnswered}
 use Rattle.demands.specs.Message.{Named, Carries}
@@ -203,10 +203,10 @@ module _ (box : Box) (state : State) (call : Call) (datagram : List ℕ) (room :
       by : CallCase box state call datagram o → DoneSet box state call m h o
       by (ended e) = absurd (let q = kind-is e ∙ kind-of in let z : _≡_ {A = ℕ} 0 1 = cc in omega arith)
       by (notRead w l e) = absurd (let q = kind-is e ∙ kind-of in let z : _≡_ {A = ℕ} 0 1 = cc in omega arith)
-      by (messageAnswered next right lo hi long first (messageSkipped e)) = absurd (let q = kind-is e ∙ kind-of in let z : _≡_ {A = ℕ} 0 1 = cc in omega arith)
-      by (messageAnswered next right lo hi long first (messageRefused w e)) = absurd (let q = kind-is e ∙ kind-of in let z : _≡_ {A = ℕ} 0 1 = cc in omega arith)
-      by (messageAnswered next right lo hi long first (getDone n g e)) = absurd (clash request (named-set (box .roll) m n ∙ g))
-      by (messageAnswered next right lo hi long first (setDone n g b c e)) = rw e (done-set right n g b c refl refl)
+      by (messageAnswered right lo hi long first (messageSkipped e)) = absurd (let q = kind-is e ∙ kind-of in let z : _≡_ {A = ℕ} 0 1 = cc in omega arith)
+      by (messageAnswered right lo hi long first (messageRefused w e)) = absurd (let q = kind-is e ∙ kind-of in let z : _≡_ {A = ℕ} 0 1 = cc in omega arith)
+      by (messageAnswered right lo hi long first (getDone n g e)) = absurd (clash request (named-set (box .roll) m n ∙ g))
+      by (messageAnswered right lo hi long first (setDone n g b c e)) = rw e (done-set right n g b c refl refl)
 
   pub read-back : o .response .kind ≡ Done → is-set ≡ false → DoneGet box state m h o
   read-back kind-of request = by (call-case box state call datagram room)
@@ -214,10 +214,10 @@ module _ (box : Box) (state : State) (call : Call) (datagram : List ℕ) (room :
       by : CallCase box state call datagram o → DoneGet box state m h o
       by (ended e) = absurd (let q = kind-is e ∙ kind-of in let z : _≡_ {A = ℕ} 0 1 = cc in omega arith)
       by (notRead w l e) = absurd (let q = kind-is e ∙ kind-of in let z : _≡_ {A = ℕ} 0 1 = cc in omega arith)
-      by (messageAnswered next right lo hi long first (messageSkipped e)) = absurd (let q = kind-is e ∙ kind-of in let z : _≡_ {A = ℕ} 0 1 = cc in omega arith)
-      by (messageAnswered next right lo hi long first (messageRefused w e)) = absurd (let q = kind-is e ∙ kind-of in let z : _≡_ {A = ℕ} 0 1 = cc in omega arith)
-      by (messageAnswered next right lo hi long first (getDone n g e)) = rw e (done-get right n next g refl refl)
-      by (messageAnswered next right lo hi long first (setDone n g b c e)) = absurd (clash (named-set (box .roll) m n ∙ g) request)
+      by (messageAnswered right lo hi long first (messageSkipped e)) = absurd (let q = kind-is e ∙ kind-of in let z : _≡_ {A = ℕ} 0 1 = cc in omega arith)
+      by (messageAnswered right lo hi long first (messageRefused w e)) = absurd (let q = kind-is e ∙ kind-of in let z : _≡_ {A = ℕ} 0 1 = cc in omega arith)
+      by (messageAnswered right lo hi long first (getDone n g e)) = rw e (done-get right n (nextOf datagram position) g refl refl)
+      by (messageAnswered right lo hi long first (setDone n g b c e)) = absurd (clash (named-set (box .roll) m n ∙ g) request)
 
   pub box-kept : boxRight box state call ≡ true → boxRight box (o .state) call ≡ true
   box-kept kept = by (call-case box state call datagram room)
@@ -228,10 +228,10 @@ module _ (box : Box) (state : State) (call : Call) (datagram : List ℕ) (room :
       by : CallCase box state call datagram o → boxRight box (o .state) call ≡ true
       by (ended e) = same e refl
       by (notRead w l e) = same e refl
-      by (messageAnswered next right lo hi long first (messageSkipped e)) = same e refl
-      by (messageAnswered next right lo hi long first (messageRefused w e)) = same e refl
-      by (messageAnswered next right lo hi long first (getDone n g e)) = same e refl
-      by (messageAnswered next right lo hi long first (setDone n g b c e)) =
+      by (messageAnswered right lo hi long first (messageSkipped e)) = same e refl
+      by (messageAnswered right lo hi long first (messageRefused w e)) = same e refl
+      by (messageAnswered right lo hi long first (getDone n g e)) = same e refl
+      by (messageAnswered right lo hi long first (setDone n g b c e)) =
           rw e (set-right box state call right (n .target .position) (here (box .roll) m n) (n .command .set) b (fits right n g b c))
 
   pub bytes-counted : Counted (o .response .bytes)
@@ -240,7 +240,7 @@ module _ (box : Box) (state : State) (call : Call) (datagram : List ℕ) (room :
       by : CallCase box state call datagram o → Counted (o .response .bytes)
       by (ended e) = rw (bytes-are e) none-counted
       by (notRead w l e) = rw (bytes-are e) none-counted
-      by (messageAnswered next right lo hi long first (messageSkipped e)) = rw (bytes-are e) none-counted
-      by (messageAnswered next right lo hi long first (messageRefused w e)) = rw (bytes-are e) (error-counted m long (errnoOf w) (detailOf w))
-      by (messageAnswered next right lo hi long first (getDone n g e)) = rw (bytes-are e) (get-counted right n next long)
-      by (messageAnswered next right lo hi long first (setDone n g b c e)) = rw (bytes-are e) (ack-counted m h long .0)
+      by (messageAnswered right lo hi long first (messageSkipped e)) = rw (bytes-are e) none-counted
+      by (messageAnswered right lo hi long first (messageRefused w e)) = rw (bytes-are e) (error-counted m long (errnoOf w) (detailOf w))
+      by (messageAnswered right lo hi long first (getDone n g e)) = rw (bytes-are e) (get-counted right n (nextOf datagram position) long)
+      by (messageAnswered right lo hi long first (setDone n g b c e)) = rw (bytes-are e) (ack-counted m h long .0)

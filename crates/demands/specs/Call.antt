@@ -1,5 +1,5 @@
 -- Document 01, "What a call says back": all checks of a call as one list, in their order.
-use Prim.Native.Nat.{ℕ, _+_}
+use Prim.Native.Nat.{ℕ, _+_, min}
 use mathlib.Core.List.{List, _∷_}
 use mathlib.Core.Bool.{_||_, not, cond}
 use lib.ListN.{length}
@@ -7,6 +7,7 @@ use lib.Dec.{eqb, ltb}
 use Rattle.basics.specs.Numbers.{u32At}
 use Rattle.netlink_attributes.specs.Attributes.{partOf}
 use Rattle.netlink_headers.specs.Headers.{messageHeader}
+use Rattle.netlink_headers.specs.Lengths.{roundUp4}
 use Rattle.refusal.specs.declared.Refusal.the-variants as R
 use Rattle.boxes.specs.Box.{Box, State}
 use Rattle.boxes.specs.declared.Call.{Call}
@@ -18,6 +19,10 @@ use Rattle.demands.specs.Request.{messageChecks}
 -- the message that stands at a position: as many bytes as its header states
 unfoldable pub messageOf : List ℕ → ℕ → List ℕ
 messageOf datagram position = partOf datagram position (position + u32At datagram position)
+
+-- "past the message's step, capped at the datagram's end"
+abbrev pub nextOf : List ℕ → ℕ → ℕ
+nextOf datagram position = min (position + roundUp4 (u32At datagram position)) (length datagram)
 
 -- "Position equal to the datagram's length: end"
 unfoldable pub endIf : List ℕ → ℕ → Check
