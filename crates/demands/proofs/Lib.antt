@@ -3,6 +3,7 @@ pub mod Bitset
 pub mod Request
 pub mod Exact
 pub mod Late
+pub mod Named
 pub mod Message
 pub mod CallCase
 pub mod Demand1
