@@ -6,10 +6,10 @@
 --     next-is          every other call goes on after the message's step, or at the datagram's end where that is nearer
 --     moves            so it moves on, by at least a header and not past the datagram's end
 --     run-ends         so a run over a datagram ends, wherever it starts
-use Prim.Native.Nat.{ℕ, zero, suc, _+_, _*_, _≤_, _<_}
+use Prim.Native.Nat.{ℕ, suc, _+_, _≤_}
 use mathlib.Core.Path.{_≡_, refl, sym, ap, _∙_}
 use mathlib.Core.List.{List, []}
-use mathlib.Core.Bool.{Bool, true, false, _||_}
+use mathlib.Core.Bool.{true, false}
 use mathlib.Core.Logic.{_⊎_, inl, inr}
 use lib.ListN.{length}
 use native.Mathlib.Omega.{arith}
@@ -30,10 +30,11 @@ use Rattle.demands.specs.Call.{messageOf, nextOf}
 use Rattle.demands.specs.CallCase.MessageCase.{messageSkipped, messageRefused, getDone, setDone}
 use Rattle.demands.specs.CallCase.{CallCase}
 use Rattle.demands.specs.CallCase.CallCase.{ended, notRead, messageAnswered}
-use Rattle.demands.specs.Run.{atPosition, endsWithin}
+use Rattle.demands.specs.Run.{endsWithin}
 use Rattle.demands.proofs.First.{first-refused}
 use Rattle.demands.proofs.Late.{message-number}
 use Rattle.demands.proofs.CallCase.{call-case}
+use Rattle.demands.proofs.Run.{moving-ends}
 
 -- the bytes of a refusal, by its number
 no-bytes-before-five : (m : List ℕ) (why : Refusal) → numberOf why ≤ 4 → [] ≡ refusalBytes m why
@@ -159,28 +160,7 @@ module _ (box : Box) (state : State) (call : Call) (datagram : List ℕ) (room :
     moves = let a = after in (omega arith, omega arith)
 
 -- calls one after the other
-module _ (box : Box) (datagram : List ℕ) (room : ℕ) where
-  abbrev made : State → Call → Outcome State
-  made state call = outcome box state call datagram room
-
-  abbrev run : ℕ → State → Call → Bool
-  run calls state call = endsWithin calls box state call datagram room
-
-  -- the first call, then the others where it moved on
-  first-call : (calls : ℕ) (state : State) (call : Call)
-      → (call .position + 16 ≤ made state call .response .next → made state call .response .next ≤ length datagram
-      → run calls (made state call .state) (atPosition call (made state call .response .next)) ≡ true)
-      → run (suc calls) state call ≡ true
-  unfolding endsWithin
-  first-call calls state call others = go (endsRun (made state call .response .kind)) refl
-    where
-      go : (t : Bool) → endsRun (made state call .response .kind) ≡ t → t || run calls (made state call .state) (atPosition call (made state call .response .next)) ≡ true
-      go true e = refl
-      go false e = let on = moves box state call datagram room e in others (on .0) (on .1)
-
-  ends-by : (calls : ℕ) (state : State) (call : Call) → call .position ≤ length datagram → length datagram < call .position + calls * 16 → run calls state call ≡ true
-  ends-by zero state call p l = absurd (omega arith)
-  ends-by (suc calls) state call p l = first-call calls state call (λ lo hi. ends-by calls _ (atPosition call _) hi (omega arith))
-
-  pub run-ends : (state : State) (call : Call) → endsWithin (suc (length datagram)) box state call datagram room ≡ true
-  run-ends state call = first-call (length datagram) state call (λ lo hi. ends-by (length datagram) _ (atPosition call _) hi (omega arith))
+pub run-ends : (box : Box) (datagram : List ℕ) (room : ℕ) (state : State) (call : Call)
+    → endsWithin (λ (s : State) (c : Call). outcome box s c datagram room) (suc (length datagram)) state call ≡ true
+run-ends box datagram room =
+    moving-ends (λ (s : State) (c : Call). outcome box s c datagram room) (length datagram) (λ s c going. moves box s c datagram room going)

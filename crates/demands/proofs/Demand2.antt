@@ -24,7 +24,7 @@ use Rattle.refusal.specs.Refusal.{errnoOf, detailOf}
 use Rattle.bitset_form.specs.Bitset.{Bitset}
 use Rattle.normal.specs.Fits.{Fits}
 use Rattle.normal.proofs.Fits.{accepted-fits}
-use Rattle.roll.specs.Record.{portCount}
+use Rattle.roll.specs.Record.{indexOf, nameOf}
 use Rattle.boxes.specs.Box.{Box, State, portsIn, sizesIn, widthsIn, setOf}
 use Rattle.boxes.specs.declared.Call.{Call}
 use Rattle.boxes.specs.Rule.{boxRight}
@@ -34,7 +34,6 @@ use Rattle.layout.proofs.Laws.{lists-of, sizes-of, set-length}
 use Rattle.boxes.proofs.rule.Meaning.{Right, box-means}
 use Rattle.read_back.proofs.Reply.{reply-attributes, reply-back}
 use Rattle.admission.specs.Commands.{commandOf}
-use Rattle.request.proofs.target.Place.{target-inside}
 use Rattle.response.specs.Answer.{Outcome, ackBytes}
 use Rattle.handler.specs.Call.{outcome}
 use Rattle.reply.specs.Message.{headingOf, Content, replyBytes}
@@ -53,11 +52,8 @@ use Rattle.demands.proofs.CallCase.{call-case}
 use Rattle.demands.proofs.Effect.{after, set-own, set-others, set-elsewhere, set-right}
 use Rattle.demands.proofs.Port.{port-short}
 
--- what is named is a port of the roll
+-- whether it is a SET is said by the command
 module _ (roll m : List ℕ) (n : Named roll m) where
-  here : n .target .position < portCount roll
-  here = target-inside roll m (n .parts .header) _ (n .target) refl (n .found)
-
   named-set : isSet (commandOf (byteAt m 16)) ≡ n .command .change
   unfolding isSet
   named-set = ap isSet (n .listed)
@@ -111,7 +107,7 @@ module _ (box : Box) (state : State) (call : Call) (datagram : List ℕ) (room :
     fits : Fits (sizeOf (sizesIn box) (n .command .set)) b
     fits = rw (← lists-of count (box .names) (n .command .set)) at (accepted-fits _ _ (listOf (box .names) (n .command .set)) b carried)
 
-    done-set : {p : Outcome State} → p .state ≡ after box state call right (n .target .position) (here (box .roll) m n) (n .command .set) b fits
+    done-set : {p : Outcome State} → p .state ≡ after box state call right (n .target .position) (n .port .inside) (n .command .set) b fits
         → p .response .bytes ≡ ackBytes m h → DoneSet box state call m h p
     done-set ew eb =
         record {
@@ -119,10 +115,10 @@ module _ (box : Box) (state : State) (call : Call) (datagram : List ℕ) (room :
           is-set = change;
           bits = b;
           carries = carried;
-          own = rw ew (set-own box state call right (n .target .position) (here (box .roll) m n) (n .command .set) b fits);
-          others = rw ew (set-others box state call right (n .target .position) (here (box .roll) m n) (n .command .set) b fits);
-          elsewhere = rw ew (set-elsewhere box state call right (n .target .position) (here (box .roll) m n) (n .command .set) b fits);
-          right = rw ew (set-right box state call right (n .target .position) (here (box .roll) m n) (n .command .set) b fits);
+          own = rw ew (set-own box state call right (n .target .position) (n .port .inside) (n .command .set) b fits);
+          others = rw ew (set-others box state call right (n .target .position) (n .port .inside) (n .command .set) b fits);
+          elsewhere = rw ew (set-elsewhere box state call right (n .target .position) (n .port .inside) (n .command .set) b fits);
+          right = rw ew (set-right box state call right (n .target .position) (n .port .inside) (n .command .set) b fits);
           bytes = eb;
         }
 
@@ -136,7 +132,7 @@ module _ (box : Box) (state : State) (call : Call) (datagram : List ℕ) (room :
 
     -- what is shown is what must be
     content-is : contentIn box state (n .command .set) (n .target) ≡ content
-    unfolding contentIn
+    unfolding contentIn indexOf nameOf
     content-is =
         ap
         (λ (bits : ℕ). record {
@@ -150,7 +146,7 @@ module _ (box : Box) (state : State) (call : Call) (datagram : List ℕ) (room :
         size-is
 
     inside : n .target .position < portsIn box
-    inside = here (box .roll) m n
+    inside = n .port .inside
 
     short : nulAt (content .name) < 16
     short = port-short (box .roll) (n .target .position) (rules box state call right (n .target .position) inside (n .command .set) .roll-right) inside
@@ -232,7 +228,7 @@ module _ (box : Box) (state : State) (call : Call) (datagram : List ℕ) (room :
       by (messageAnswered right lo hi long first (messageRefused w e)) = same e refl
       by (messageAnswered right lo hi long first (getDone n g e)) = same e refl
       by (messageAnswered right lo hi long first (setDone n g b c e)) =
-          rw e (set-right box state call right (n .target .position) (here (box .roll) m n) (n .command .set) b (fits right n g b c))
+          rw e (set-right box state call right (n .target .position) (n .port .inside) (n .command .set) b (fits right n g b c))
 
   pub bytes-counted : Counted (o .response .bytes)
   bytes-counted = by (call-case box state call datagram room)

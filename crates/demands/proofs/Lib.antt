@@ -6,6 +6,7 @@ pub mod Late
 pub mod Named
 pub mod Message
 pub mod CallCase
+pub mod Run
 pub mod Demand1
 pub mod Effect
 pub mod Port
