@@ -2,7 +2,8 @@
 --     effect           a done SET: the named set of the named port is what `effect` makes of it, every other word is as before
 --     read-back        a done GET: the settings stay, and the reply's bitset, read by our own reader, makes the stored set of every starting set
 --     box-kept         a right box stays right, whatever is asked
---     bytes-counted       what is written is whole messages, each as long as it states, and never more than 24,684 bytes
+--     small-kept       words of 32 bits stay words of 32 bits
+--     bytes-counted    what is written is whole messages, each as long as it states, and never more than 24,684 bytes
 use Prim.Native.Nat.{ℕ, _+_, _-_, _≤_, _<_}
 use mathlib.Core.Path.{_≡_, refl, sym, ap, _∙_}
 use mathlib.Core.List.{List, _++_}
@@ -14,6 +15,7 @@ use Rattle.basics.proofs.Truth.{clash}
 use Rattle.bits.specs.Set.{has, wordsFor}
 use Rattle.bits.specs.Change.{Below}
 use Rattle.bits.proofs.Cut.{none-below}
+use Rattle.word_bytes.proofs.WordBytes.{Small}
 use Rattle.entries.specs.Entry.{count}
 use Rattle.names.specs.Rule.{namesRight}
 use Rattle.netlink_headers.specs.Headers.{messageHeader}
@@ -49,7 +51,7 @@ use Rattle.demands.specs.Done.{DoneSet, DoneGet, askedContent, replyTo}
 use Rattle.demands.specs.Request.{isSet}
 use Rattle.demands.proofs.Count.{none-counted, error-counted, ack-counted, reply-counted}
 use Rattle.demands.proofs.CallCase.{call-case}
-use Rattle.demands.proofs.Effect.{after, set-own, set-others, set-elsewhere, set-right}
+use Rattle.demands.proofs.Effect.{after, set-own, set-others, set-elsewhere, set-small, set-right}
 use Rattle.demands.proofs.Port.{port-short}
 
 -- whether it is a SET is said by the command
@@ -229,6 +231,21 @@ module _ (box : Box) (state : State) (call : Call) (datagram : List ℕ) (room :
       by (messageAnswered right lo hi long first (getDone n g e)) = same e refl
       by (messageAnswered right lo hi long first (setDone n g b c e)) =
           rw e (set-right box state call right (n .target .position) (n .port .inside) (n .command .set) b (fits right n g b c))
+
+  pub small-kept : Small (state .words) → Small (o .state .words)
+  small-kept small = by (call-case box state call datagram room)
+    where
+      same : {p : Outcome State} → o ≡ p → p .state ≡ state → Small (o .state .words)
+      same e q = rw (ap (λ (x : Outcome State). x .state) e ∙ q) small
+
+      by : CallCase box state call datagram o → Small (o .state .words)
+      by (ended e) = same e refl
+      by (notRead w l e) = same e refl
+      by (messageAnswered right lo hi long first (messageSkipped e)) = same e refl
+      by (messageAnswered right lo hi long first (messageRefused w e)) = same e refl
+      by (messageAnswered right lo hi long first (getDone n g e)) = same e refl
+      by (messageAnswered right lo hi long first (setDone n g b c e)) =
+          rw e (set-small box state call right (n .target .position) (n .port .inside) (n .command .set) b (fits right n g b c) small)
 
   pub bytes-counted : Counted (o .response .bytes)
   bytes-counted = by (call-case box state call datagram room)

@@ -13,3 +13,5 @@ pub mod Port
 pub mod Count
 pub mod Demand2
 pub mod Normaliser
+pub mod StoredBox
+pub mod Stored

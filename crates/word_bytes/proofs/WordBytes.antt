@@ -99,7 +99,7 @@ bytes-at (w ∷ ws) (suc j) h =
     (bytes-at ws j (omega arith))
 
 -- the words in the bytes of words are their lowest 32 bits
-length-again : (ws : List ℕ) → length (wordsIn (bytesOf ws)) ≡ length ws
+pub length-again : (ws : List ℕ) → length (wordsIn (bytesOf ws)) ≡ length ws
 length-again ws = omega (arith, length-wordsIn (bytesOf ws), length-bytesOf ws)
 
 pub word-again : (ws : List ℕ) (j : ℕ) → getD (wordsIn (bytesOf ws)) j 0 ≡ getD ws j 0 % 4294967296
