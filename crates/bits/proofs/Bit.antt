@@ -8,7 +8,7 @@ use native.Mathlib.Omega.{arith}
 use lib.Dec.{eqb, ltb, leb·suc-zero, leb·suc-suc, eqb·zero-suc, eqb·suc-zero, eqb·suc-suc}
 use borrow.Author.Tests.{lt-ltb}
 use lib.Arith.{digits-div, digits-mod}
-use lib.Pow.{shr-shr, shl-exact, pow-pos}
+use lib.Pow.{shr-shr, shl-exact, pow-pos, field, mod-mod-pow}
 use lib.Bits.{bitAnd, bitOr, and-shr, or-shr, and-step, or-step}
 use Rattle.bits.specs.Bit.{bit, test, digit, number}
 
@@ -152,3 +152,12 @@ test-ones k i = ap (λ (y : ℕ). eqb y 1) (bit-ones k i) ∙ test-digit (ltb i 
 
 pub test-zero : (i : ℕ) → test 0 i ≡ false
 test-zero i = ap (λ (y : ℕ). eqb y 1) (zero-bit i)
+
+-- the bits below k are those of the number's lowest k bits
+pub test-low : (k x i : ℕ) → i < k → test (x % 2 ^ k) i ≡ test x i
+test-low k x i h =
+    let e : k - i ≡ (k - i - 1) + 1 = omega arith in
+    let f : k ≡ (k - i) + i = omega arith in
+    ap (λ (y : ℕ). eqb y 1)
+    (ap (λ (n : ℕ). x % 2 ^ n / 2 ^ i % 2) f ∙ ap (λ (y : ℕ). y % 2) (field x (k - i) i)
+    ∙ ap (λ (n : ℕ). x / 2 ^ i % 2 ^ n % 2) e ∙ mod-mod-pow (x / 2 ^ i) (k - i - 1) 1)

@@ -1,5 +1,5 @@
 -- Every call comes to the end, to a refusal by 1 to 4, or to a message that is answered.
-use Prim.Native.Nat.{ℕ, _+_, _-_, _≤_, min}
+use Prim.Native.Nat.{ℕ, _+_, _-_, _≤_}
 use mathlib.Core.Path.{_≡_, refl, sym, ap, _∙_}
 use mathlib.Core.List.{List}
 use mathlib.Core.Bool.{Bool, true, false, _||_, not, cond}
@@ -11,7 +11,6 @@ use borrow.Author.Tests.{ltb-false}
 use Rattle.basics.specs.Numbers.{u32At}
 use Rattle.netlink_attributes.specs.Attributes.{partOf}
 use Rattle.netlink_headers.specs.Headers.{messageHeader}
-use Rattle.netlink_headers.specs.Lengths.{roundUp4}
 use Rattle.netlink_headers.specs.Messages.{messageAt}
 use Rattle.netlink_headers.specs.declared.messages.MessageRead.the-variants.{Message, Misstated, Cut, AtEnd, Outside}
 use Rattle.netlink_attributes.proofs.Laws.{part-in}
@@ -20,7 +19,7 @@ use Rattle.boxes.specs.Box.{Box, State}
 use Rattle.boxes.specs.declared.Call.{Call}
 use Rattle.boxes.specs.Rule.{boxRight}
 use Rattle.handler.specs.Call.{refusedInPlace, onMessage, messageOutcome, positionOutcome, outcome}
-use Rattle.demands.specs.Call.{messageOf}
+use Rattle.demands.specs.Call.{messageOf, nextOf}
 use Rattle.demands.specs.CallCase.{CallCase}
 use Rattle.demands.specs.CallCase.CallCase.{ended, notRead, messageAnswered}
 use Rattle.demands.proofs.Request.{message-first}
@@ -34,7 +33,7 @@ module _ (box : Box) (state : State) (call : Call) (datagram : List ℕ) where
   stated = u32At datagram position
 
   abbrev next : ℕ
-  next = min (position + roundUp4 stated) (length datagram)
+  next = nextOf datagram position
 
   long : 16 ≤ stated → position + stated ≤ length datagram → 16 ≤ length (messageOf datagram position)
   unfolding messageOf
@@ -51,7 +50,7 @@ module _ (box : Box) (state : State) (call : Call) (datagram : List ℕ) where
   message right lo hi =
       let m = messageOf datagram position in
       let h = messageHeader datagram position in
-      messageAnswered next right (omega arith) (omega arith) (long lo hi)
+      messageAnswered right lo hi (long lo hi)
       (message-first box state m h next call) (message-case box state m h next call)
 
   -- the message at the position

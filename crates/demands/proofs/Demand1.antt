@@ -3,16 +3,18 @@
 --     refused-keeps    a refusal leaves the settings, and writes its error message (5 to 22) or nothing (1 to 4)
 --     skipped-keeps    so do the end and a skipped message, and they write nothing
 --     last-in-place    the end and 1 to 4 give the position back
---     moves            every other call moves on, by at least a header and not past the datagram's end
+--     next-is          every other call goes on after the message's step, or at the datagram's end where that is nearer
+--     moves            so it moves on, by at least a header and not past the datagram's end
 --     run-ends         so a run over a datagram ends, wherever it starts
-use Prim.Native.Nat.{ℕ, zero, suc, _+_, _*_, _≤_, _<_}
+use Prim.Native.Nat.{ℕ, suc, _+_, _≤_}
 use mathlib.Core.Path.{_≡_, refl, sym, ap, _∙_}
 use mathlib.Core.List.{List, []}
-use mathlib.Core.Bool.{Bool, true, false, _||_}
+use mathlib.Core.Bool.{true, false}
 use mathlib.Core.Logic.{_⊎_, inl, inr}
 use lib.ListN.{length}
 use native.Mathlib.Omega.{arith}
 use borrow.Author.Tests.{lt-ltb, le-ltb}
+use Rattle.basics.specs.Numbers.{u32At}
 use Rattle.basics.proofs.Truth.{clash}
 use Rattle.netlink_headers.specs.Headers.{messageHeader}
 use Rattle.netlink_error.specs.Error.{errorMessage}
@@ -22,17 +24,17 @@ use Rattle.boxes.specs.Box.{Box, State}
 use Rattle.boxes.specs.declared.Call.{Call}
 use Rattle.response.specs.Answer.{Outcome}
 use Rattle.handler.specs.Call.{outcome, endsRun}
-use Rattle.handler.proofs.call.Moves as M
 use Rattle.response.specs.declared.Kind.the-variants.{End, Skipped, Done, Refused}
 use Rattle.demands.specs.Answer.{refusalBytes}
-use Rattle.demands.specs.Call.{messageOf}
+use Rattle.demands.specs.Call.{messageOf, nextOf}
 use Rattle.demands.specs.CallCase.MessageCase.{messageSkipped, messageRefused, getDone, setDone}
 use Rattle.demands.specs.CallCase.{CallCase}
 use Rattle.demands.specs.CallCase.CallCase.{ended, notRead, messageAnswered}
-use Rattle.demands.specs.Run.{atPosition, endsWithin}
+use Rattle.demands.specs.Run.{endsWithin}
 use Rattle.demands.proofs.First.{first-refused}
 use Rattle.demands.proofs.Late.{message-number}
 use Rattle.demands.proofs.CallCase.{call-case}
+use Rattle.demands.proofs.Run.{moving-ends}
 
 -- the bytes of a refusal, by its number
 no-bytes-before-five : (m : List ℕ) (why : Refusal) → numberOf why ≤ 4 → [] ≡ refusalBytes m why
@@ -88,10 +90,10 @@ module _ (box : Box) (state : State) (call : Call) (datagram : List ℕ) (room :
         by (notRead w l e) =
             let same = same-why w why (response e ∙ kind-of) in
             (kept e, bytes e ∙ no-bytes-before-five m why (rw (← same) l))
-        by (messageAnswered n right lo hi long first (messageSkipped e)) = absurd (skipped-not why (response e ∙ kind-of))
-        by (messageAnswered n right lo hi long first (getDone d g e)) = absurd (done-not why (response e ∙ kind-of))
-        by (messageAnswered n right lo hi long first (setDone d g b c e)) = absurd (done-not why (response e ∙ kind-of))
-        by (messageAnswered n right lo hi long first (messageRefused w e)) =
+        by (messageAnswered right lo hi long first (messageSkipped e)) = absurd (skipped-not why (response e ∙ kind-of))
+        by (messageAnswered right lo hi long first (getDone d g e)) = absurd (done-not why (response e ∙ kind-of))
+        by (messageAnswered right lo hi long first (setDone d g b c e)) = absurd (done-not why (response e ∙ kind-of))
+        by (messageAnswered right lo hi long first (messageRefused w e)) =
             let same = same-why w why (response e ∙ kind-of) in
             let late = message-number box call m (messageHeader datagram position) why (first-refused why _ (sym first ∙ kind-of)) in
             (kept e, bytes e ∙ rw same (error-bytes m why late))
@@ -112,10 +114,10 @@ module _ (box : Box) (state : State) (call : Call) (datagram : List ℕ) (room :
           → (o .state ≡ state) × (o .response .bytes ≡ [])
       by (ended e) t = (kept e, bytes e)
       by (notRead w l e) t = absurd (not-refused w t (response e))
-      by (messageAnswered n right lo hi long first (messageSkipped e)) t = (kept e, bytes e)
-      by (messageAnswered n right lo hi long first (getDone d g e)) t = absurd (not-done t (response e))
-      by (messageAnswered n right lo hi long first (setDone d g b c e)) t = absurd (not-done t (response e))
-      by (messageAnswered n right lo hi long first (messageRefused w e)) t = absurd (not-refused w t (response e))
+      by (messageAnswered right lo hi long first (messageSkipped e)) t = (kept e, bytes e)
+      by (messageAnswered right lo hi long first (getDone d g e)) t = absurd (not-done t (response e))
+      by (messageAnswered right lo hi long first (setDone d g b c e)) t = absurd (not-done t (response e))
+      by (messageAnswered right lo hi long first (messageRefused w e)) t = absurd (not-refused w t (response e))
 
   -- the position
   over-clash : {p : Outcome State} → o ≡ p → endsRun (p .response .kind) ≡ false → endsRun (o .response .kind) ≡ true → ⊥
@@ -127,39 +129,38 @@ module _ (box : Box) (state : State) (call : Call) (datagram : List ℕ) (room :
       by : CallCase box state call datagram o → o .response .next ≡ position
       by (ended e) = next e
       by (notRead w l e) = next e
-      by (messageAnswered n right lo hi long first (messageSkipped e)) = absurd (over-clash e refl is)
-      by (messageAnswered n right lo hi long first (getDone d g e)) = absurd (over-clash e refl is)
-      by (messageAnswered n right lo hi long first (setDone d g b c e)) = absurd (over-clash e refl is)
-      by (messageAnswered n right lo hi long first (messageRefused w e)) =
+      by (messageAnswered right lo hi long first (messageSkipped e)) = absurd (over-clash e refl is)
+      by (messageAnswered right lo hi long first (getDone d g e)) = absurd (over-clash e refl is)
+      by (messageAnswered right lo hi long first (setDone d g b c e)) = absurd (over-clash e refl is)
+      by (messageAnswered right lo hi long first (messageRefused w e)) =
           let late = message-number box call m (messageHeader datagram position) w (first-refused w _ (sym first ∙ sym (response e))) in
           absurd (over-clash e (le-ltb (numberOf w) 5 late) is)
 
-  pub moves : endsRun (o .response .kind) ≡ false → (position + 16 ≤ o .response .next) × (o .response .next ≤ length datagram)
-  moves = M.moves box state call datagram room
+  -- a message stands whole in the datagram, and the next call goes on after it
+  module _ (going : endsRun (o .response .kind) ≡ false) where
+    stopped : {p : Outcome State} → o ≡ p → endsRun (p .response .kind) ≡ true → ⊥
+    stopped e t = clash (ap endsRun (sym (response e)) ∙ t) going
+
+    after : (o .response .next ≡ nextOf datagram position) × (16 ≤ u32At datagram position) × (position + u32At datagram position ≤ length datagram)
+    after = by (call-case box state call datagram room)
+      where
+        by : CallCase box state call datagram o
+            → (o .response .next ≡ nextOf datagram position) × (16 ≤ u32At datagram position) × (position + u32At datagram position ≤ length datagram)
+        by (ended e) = absurd (stopped e refl)
+        by (notRead w l e) = absurd (stopped e (lt-ltb (numberOf w) 5 (omega arith)))
+        by (messageAnswered right lo hi long first (messageSkipped e)) = (next e, lo, hi)
+        by (messageAnswered right lo hi long first (getDone d g e)) = (next e, lo, hi)
+        by (messageAnswered right lo hi long first (setDone d g b c e)) = (next e, lo, hi)
+        by (messageAnswered right lo hi long first (messageRefused w e)) = (next e, lo, hi)
+
+    pub next-is : o .response .next ≡ nextOf datagram position
+    next-is = after .0
+
+    pub moves : (position + 16 ≤ o .response .next) × (o .response .next ≤ length datagram)
+    moves = let a = after in (omega arith, omega arith)
 
 -- calls one after the other
-module _ (box : Box) (datagram : List ℕ) (room : ℕ) where
-  abbrev made : State → Call → Outcome State
-  made state call = outcome box state call datagram room
-
-  abbrev run : ℕ → State → Call → Bool
-  run calls state call = endsWithin calls box state call datagram room
-
-  -- the first call, then the others where it moved on
-  first-call : (calls : ℕ) (state : State) (call : Call)
-      → (call .position + 16 ≤ made state call .response .next → made state call .response .next ≤ length datagram
-      → run calls (made state call .state) (atPosition call (made state call .response .next)) ≡ true)
-      → run (suc calls) state call ≡ true
-  unfolding endsWithin
-  first-call calls state call others = go (endsRun (made state call .response .kind)) refl
-    where
-      go : (t : Bool) → endsRun (made state call .response .kind) ≡ t → t || run calls (made state call .state) (atPosition call (made state call .response .next)) ≡ true
-      go true e = refl
-      go false e = let on = moves box state call datagram room e in others (on .0) (on .1)
-
-  ends-by : (calls : ℕ) (state : State) (call : Call) → call .position ≤ length datagram → length datagram < call .position + calls * 16 → run calls state call ≡ true
-  ends-by zero state call p l = absurd (omega arith)
-  ends-by (suc calls) state call p l = first-call calls state call (λ lo hi. ends-by calls _ (atPosition call _) hi (omega arith))
-
-  pub run-ends : (state : State) (call : Call) → endsWithin (suc (length datagram)) box state call datagram room ≡ true
-  run-ends state call = first-call (length datagram) state call (λ lo hi. ends-by (length datagram) _ (atPosition call _) hi (omega arith))
+pub run-ends : (box : Box) (datagram : List ℕ) (room : ℕ) (state : State) (call : Call)
+    → endsWithin (λ (s : State) (c : Call). outcome box s c datagram room) (suc (length datagram)) state call ≡ true
+run-ends box datagram room =
+    moving-ends (λ (s : State) (c : Call). outcome box s c datagram room) (length datagram) (λ s c going. moves box s c datagram room going)

@@ -2,13 +2,13 @@
 --     effect           a done SET: the named set of the named port is what `effect` makes of it, every other word is as before
 --     read-back        a done GET: the settings stay, and the reply's bitset, read by our own reader, makes the stored set of every starting set
 --     box-kept         a right box stays right, whatever is asked
---     bytes-counted       what is written is whole messages, each as long as it states, and never more than 24,684 bytes
+--     small-kept       words of 32 bits stay words of 32 bits
+--     bytes-counted    what is written is whole messages, each as long as it states, and never more than 24,684 bytes
 use Prim.Native.Nat.{ℕ, _+_, _-_, _≤_, _<_}
 use mathlib.Core.Path.{_≡_, refl, sym, ap, _∙_}
 use mathlib.Core.List.{List, _++_}
 use mathlib.Core.Bool.{Bool, true, false}
-use lib.ListN.{length, drop, getD}
-use lib.Seq.{getD-take, getD-drop}
+use lib.ListN.{length}
 use native.Mathlib.Omega.{arith}
 use Rattle.basics.specs.Numbers.{byteAt}
 use Rattle.basics.proofs.Truth.{clash}
@@ -26,24 +26,23 @@ use Rattle.refusal.specs.Refusal.{errnoOf, detailOf}
 use Rattle.bitset_form.specs.Bitset.{Bitset}
 use Rattle.normal.specs.Fits.{Fits}
 use Rattle.normal.proofs.Fits.{accepted-fits}
-use Rattle.roll.specs.Record.{portCount}
+use Rattle.roll.specs.Record.{indexOf, nameOf}
 use Rattle.boxes.specs.Box.{Box, State, portsIn, sizesIn, widthsIn, setOf}
 use Rattle.boxes.specs.declared.Call.{Call}
 use Rattle.boxes.specs.Rule.{boxRight}
-use Rattle.layout.specs.Layout.{listOf, sizeOf, setPlace, setAt}
+use Rattle.layout.specs.Layout.{listOf, sizeOf}
 use Rattle.layout.specs.declared.Set.{Set}
-use Rattle.layout.proofs.Laws.{lists-of, sizes-of, place-inside, set-length}
+use Rattle.layout.proofs.Laws.{lists-of, sizes-of, set-length}
 use Rattle.boxes.proofs.rule.Meaning.{Right, box-means}
 use Rattle.read_back.proofs.Reply.{reply-attributes, reply-back}
 use Rattle.admission.specs.Commands.{commandOf}
-use Rattle.request.proofs.target.Place.{target-inside}
 use Rattle.response.specs.Answer.{Outcome, ackBytes}
 use Rattle.handler.specs.Call.{outcome}
 use Rattle.reply.specs.Message.{headingOf, Content, replyBytes}
 use Rattle.execute.specs.Execute.{requestOf, contentIn, replyAndAck, getBytes}
 use Rattle.response.specs.declared.Kind.the-variants.{Done}
 use Rattle.demands.specs.Answer.{Counted}
-use Rattle.demands.specs.Call.{messageOf}
+use Rattle.demands.specs.Call.{messageOf, nextOf}
 use Rattle.demands.specs.CallCase.{CallCase}
 use Rattle.demands.specs.CallCase.CallCase.{ended, notRead, messageAnswered}
 use Rattle.demands.specs.Message.{Named, Carries}
@@ -52,14 +51,11 @@ use Rattle.demands.specs.Done.{DoneSet, DoneGet, askedContent, replyTo}
 use Rattle.demands.specs.Request.{isSet}
 use Rattle.demands.proofs.Count.{none-counted, error-counted, ack-counted, reply-counted}
 use Rattle.demands.proofs.CallCase.{call-case}
-use Rattle.demands.proofs.Effect.{after, set-own, set-others, set-elsewhere, set-right}
+use Rattle.demands.proofs.Effect.{after, set-own, set-others, set-elsewhere, set-small, set-right}
 use Rattle.demands.proofs.Port.{port-short}
 
--- what is named is a port of the roll
+-- whether it is a SET is said by the command
 module _ (roll m : List ℕ) (n : Named roll m) where
-  here : n .target .position < portCount roll
-  here = target-inside roll m (n .parts .header) _ (n .target) refl (n .found)
-
   named-set : isSet (commandOf (byteAt m 16)) ≡ n .command .change
   unfolding isSet
   named-set = ap isSet (n .listed)
@@ -88,17 +84,6 @@ module _ (box : Box) (state : State) (call : Call) (right : boxRight box state c
       none-below stored (sizeOf (sizesIn box) set)
       (rules .settings .clear position inside set)
 
-  stored-small : Small (state .words) → Small stored
-  unfolding setOf setAt
-  stored-small small j l =
-      let at = setPlace (portsIn box) (widthsIn box) position set in
-      let w = sizeOf (widthsIn box) set in
-      let long : length stored ≡ w = set-length (portsIn box) (widthsIn box) position set inside (state .words) (rules .settings .exact) in
-      let room = place-inside (portsIn box) (widthsIn box) position set inside in
-      let all = rules .settings .exact in
-      let e : getD stored j 0 ≡ getD (state .words) (at + j) 0 = getD-take w (drop at (state .words)) j 0 (omega arith) ∙ getD-drop at (state .words) j 0 in
-      rw e (small (at + j) (omega arith))
-
 module _ (box : Box) (state : State) (call : Call) (datagram : List ℕ) (room : ℕ) where
   abbrev position : ℕ
   position = call .position
@@ -124,7 +109,7 @@ module _ (box : Box) (state : State) (call : Call) (datagram : List ℕ) (room :
     fits : Fits (sizeOf (sizesIn box) (n .command .set)) b
     fits = rw (← lists-of count (box .names) (n .command .set)) at (accepted-fits _ _ (listOf (box .names) (n .command .set)) b carried)
 
-    done-set : {p : Outcome State} → p .state ≡ after box state call right (n .target .position) (here (box .roll) m n) (n .command .set) b fits
+    done-set : {p : Outcome State} → p .state ≡ after box state call right (n .target .position) (n .port .inside) (n .command .set) b fits
         → p .response .bytes ≡ ackBytes m h → DoneSet box state call m h p
     done-set ew eb =
         record {
@@ -132,10 +117,10 @@ module _ (box : Box) (state : State) (call : Call) (datagram : List ℕ) (room :
           is-set = change;
           bits = b;
           carries = carried;
-          own = rw ew (set-own box state call right (n .target .position) (here (box .roll) m n) (n .command .set) b fits);
-          others = rw ew (set-others box state call right (n .target .position) (here (box .roll) m n) (n .command .set) b fits);
-          elsewhere = rw ew (set-elsewhere box state call right (n .target .position) (here (box .roll) m n) (n .command .set) b fits);
-          right = rw ew (set-right box state call right (n .target .position) (here (box .roll) m n) (n .command .set) b fits);
+          own = rw ew (set-own box state call right (n .target .position) (n .port .inside) (n .command .set) b fits);
+          others = rw ew (set-others box state call right (n .target .position) (n .port .inside) (n .command .set) b fits);
+          elsewhere = rw ew (set-elsewhere box state call right (n .target .position) (n .port .inside) (n .command .set) b fits);
+          right = rw ew (set-right box state call right (n .target .position) (n .port .inside) (n .command .set) b fits);
           bytes = eb;
         }
 
@@ -149,7 +134,7 @@ module _ (box : Box) (state : State) (call : Call) (datagram : List ℕ) (room :
 
     -- what is shown is what must be
     content-is : contentIn box state (n .command .set) (n .target) ≡ content
-    unfolding contentIn
+    unfolding contentIn indexOf nameOf
     content-is =
         ap
         (λ (bits : ℕ). record {
@@ -163,7 +148,7 @@ module _ (box : Box) (state : State) (call : Call) (datagram : List ℕ) (room :
         size-is
 
     inside : n .target .position < portsIn box
-    inside = here (box .roll) m n
+    inside = n .port .inside
 
     short : nulAt (content .name) < 16
     short = port-short (box .roll) (n .target .position) (rules box state call right (n .target .position) inside (n .command .set) .roll-right) inside
@@ -181,9 +166,9 @@ module _ (box : Box) (state : State) (call : Call) (datagram : List ℕ) (room :
     unfolding getBytes replyAndAck
     got-bytes next = ap (λ (c : Content). replyBytes (headingOf h (n .command .reply)) c ++ ackBytes m h) content-is
 
-    done-get : (next : ℕ) {p : Outcome State} → Small (state .words) → n .command .change ≡ false → p .state ≡ state
+    done-get : (next : ℕ) {p : Outcome State} → n .command .change ≡ false → p .state ≡ state
         → p .response .bytes ≡ getBytes box state m (requestOf h next (n .command)) (n .target) → DoneGet box state m h p
-    done-get next small change ew eb =
+    done-get next change ew eb =
         let heading = headingOf h (n .command .reply) in
         let x = content .index in
         let name-of = content .name in
@@ -198,7 +183,6 @@ module _ (box : Box) (state : State) (call : Call) (datagram : List ℕ) (room :
           parts = rw at parts;
           reads-back =
               reply-back heading x name-of (content .compact) (content .names) (content .words) (content .bits) named counted long
-              (stored-small box state call right (n .target .position) inside (n .command .set) small)
               (rw size-is at (stored-below box state call right (n .target .position) inside (n .command .set)));
         }
 
@@ -217,21 +201,21 @@ module _ (box : Box) (state : State) (call : Call) (datagram : List ℕ) (room :
       by : CallCase box state call datagram o → DoneSet box state call m h o
       by (ended e) = absurd (let q = kind-is e ∙ kind-of in let z : _≡_ {A = ℕ} 0 1 = cc in omega arith)
       by (notRead w l e) = absurd (let q = kind-is e ∙ kind-of in let z : _≡_ {A = ℕ} 0 1 = cc in omega arith)
-      by (messageAnswered next right lo hi long first (messageSkipped e)) = absurd (let q = kind-is e ∙ kind-of in let z : _≡_ {A = ℕ} 0 1 = cc in omega arith)
-      by (messageAnswered next right lo hi long first (messageRefused w e)) = absurd (let q = kind-is e ∙ kind-of in let z : _≡_ {A = ℕ} 0 1 = cc in omega arith)
-      by (messageAnswered next right lo hi long first (getDone n g e)) = absurd (clash request (named-set (box .roll) m n ∙ g))
-      by (messageAnswered next right lo hi long first (setDone n g b c e)) = rw e (done-set right n g b c refl refl)
+      by (messageAnswered right lo hi long first (messageSkipped e)) = absurd (let q = kind-is e ∙ kind-of in let z : _≡_ {A = ℕ} 0 1 = cc in omega arith)
+      by (messageAnswered right lo hi long first (messageRefused w e)) = absurd (let q = kind-is e ∙ kind-of in let z : _≡_ {A = ℕ} 0 1 = cc in omega arith)
+      by (messageAnswered right lo hi long first (getDone n g e)) = absurd (clash request (named-set (box .roll) m n ∙ g))
+      by (messageAnswered right lo hi long first (setDone n g b c e)) = rw e (done-set right n g b c refl refl)
 
-  pub read-back : Small (state .words) → o .response .kind ≡ Done → is-set ≡ false → DoneGet box state m h o
-  read-back small kind-of request = by (call-case box state call datagram room)
+  pub read-back : o .response .kind ≡ Done → is-set ≡ false → DoneGet box state m h o
+  read-back kind-of request = by (call-case box state call datagram room)
     where
       by : CallCase box state call datagram o → DoneGet box state m h o
       by (ended e) = absurd (let q = kind-is e ∙ kind-of in let z : _≡_ {A = ℕ} 0 1 = cc in omega arith)
       by (notRead w l e) = absurd (let q = kind-is e ∙ kind-of in let z : _≡_ {A = ℕ} 0 1 = cc in omega arith)
-      by (messageAnswered next right lo hi long first (messageSkipped e)) = absurd (let q = kind-is e ∙ kind-of in let z : _≡_ {A = ℕ} 0 1 = cc in omega arith)
-      by (messageAnswered next right lo hi long first (messageRefused w e)) = absurd (let q = kind-is e ∙ kind-of in let z : _≡_ {A = ℕ} 0 1 = cc in omega arith)
-      by (messageAnswered next right lo hi long first (getDone n g e)) = rw e (done-get right n next small g refl refl)
-      by (messageAnswered next right lo hi long first (setDone n g b c e)) = absurd (clash (named-set (box .roll) m n ∙ g) request)
+      by (messageAnswered right lo hi long first (messageSkipped e)) = absurd (let q = kind-is e ∙ kind-of in let z : _≡_ {A = ℕ} 0 1 = cc in omega arith)
+      by (messageAnswered right lo hi long first (messageRefused w e)) = absurd (let q = kind-is e ∙ kind-of in let z : _≡_ {A = ℕ} 0 1 = cc in omega arith)
+      by (messageAnswered right lo hi long first (getDone n g e)) = rw e (done-get right n (nextOf datagram position) g refl refl)
+      by (messageAnswered right lo hi long first (setDone n g b c e)) = absurd (clash (named-set (box .roll) m n ∙ g) request)
 
   pub box-kept : boxRight box state call ≡ true → boxRight box (o .state) call ≡ true
   box-kept kept = by (call-case box state call datagram room)
@@ -242,11 +226,26 @@ module _ (box : Box) (state : State) (call : Call) (datagram : List ℕ) (room :
       by : CallCase box state call datagram o → boxRight box (o .state) call ≡ true
       by (ended e) = same e refl
       by (notRead w l e) = same e refl
-      by (messageAnswered next right lo hi long first (messageSkipped e)) = same e refl
-      by (messageAnswered next right lo hi long first (messageRefused w e)) = same e refl
-      by (messageAnswered next right lo hi long first (getDone n g e)) = same e refl
-      by (messageAnswered next right lo hi long first (setDone n g b c e)) =
-          rw e (set-right box state call right (n .target .position) (here (box .roll) m n) (n .command .set) b (fits right n g b c))
+      by (messageAnswered right lo hi long first (messageSkipped e)) = same e refl
+      by (messageAnswered right lo hi long first (messageRefused w e)) = same e refl
+      by (messageAnswered right lo hi long first (getDone n g e)) = same e refl
+      by (messageAnswered right lo hi long first (setDone n g b c e)) =
+          rw e (set-right box state call right (n .target .position) (n .port .inside) (n .command .set) b (fits right n g b c))
+
+  pub small-kept : Small (state .words) → Small (o .state .words)
+  small-kept small = by (call-case box state call datagram room)
+    where
+      same : {p : Outcome State} → o ≡ p → p .state ≡ state → Small (o .state .words)
+      same e q = rw (ap (λ (x : Outcome State). x .state) e ∙ q) small
+
+      by : CallCase box state call datagram o → Small (o .state .words)
+      by (ended e) = same e refl
+      by (notRead w l e) = same e refl
+      by (messageAnswered right lo hi long first (messageSkipped e)) = same e refl
+      by (messageAnswered right lo hi long first (messageRefused w e)) = same e refl
+      by (messageAnswered right lo hi long first (getDone n g e)) = same e refl
+      by (messageAnswered right lo hi long first (setDone n g b c e)) =
+          rw e (set-small box state call right (n .target .position) (n .port .inside) (n .command .set) b (fits right n g b c) small)
 
   pub bytes-counted : Counted (o .response .bytes)
   bytes-counted = by (call-case box state call datagram room)
@@ -254,7 +253,7 @@ module _ (box : Box) (state : State) (call : Call) (datagram : List ℕ) (room :
       by : CallCase box state call datagram o → Counted (o .response .bytes)
       by (ended e) = rw (bytes-are e) none-counted
       by (notRead w l e) = rw (bytes-are e) none-counted
-      by (messageAnswered next right lo hi long first (messageSkipped e)) = rw (bytes-are e) none-counted
-      by (messageAnswered next right lo hi long first (messageRefused w e)) = rw (bytes-are e) (error-counted m long (errnoOf w) (detailOf w))
-      by (messageAnswered next right lo hi long first (getDone n g e)) = rw (bytes-are e) (get-counted right n next long)
-      by (messageAnswered next right lo hi long first (setDone n g b c e)) = rw (bytes-are e) (ack-counted m h long .0)
+      by (messageAnswered right lo hi long first (messageSkipped e)) = rw (bytes-are e) none-counted
+      by (messageAnswered right lo hi long first (messageRefused w e)) = rw (bytes-are e) (error-counted m long (errnoOf w) (detailOf w))
+      by (messageAnswered right lo hi long first (getDone n g e)) = rw (bytes-are e) (get-counted right n (nextOf datagram position) long)
+      by (messageAnswered right lo hi long first (setDone n g b c e)) = rw (bytes-are e) (ack-counted m h long .0)

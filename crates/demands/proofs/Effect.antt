@@ -1,25 +1,28 @@
 -- What a done SET makes of the settings.
-use Prim.Native.Nat.{ℕ, _+_, _*_, _≤_, _<_}
-use mathlib.Core.Path.{_≡_, ap, _∙_}
+use Prim.Native.Nat.{ℕ, _+_, _-_, _*_, _≤_, _<_}
+use mathlib.Core.Path.{_≡_, sym, ap, _∙_}
 use mathlib.Core.List.{List}
 use mathlib.Core.Bool.{Bool, true, cond}
-use mathlib.Core.Logic.{_⊎_, ⊎-elim}
-use lib.ListN.{length, getD}
+use mathlib.Core.Logic.{_⊎_, inl, inr, ⊎-elim}
+use lib.ListN.{length, drop, getD}
+use lib.Seq.{getD-take, getD-drop}
 use native.Mathlib.Omega.{arith}
+use Rattle.basics.proofs.Order.{lt-or-ge}
 use Rattle.bits.specs.Set.{has, wordsOf, wordsFor, noneFrom}
 use Rattle.bits.specs.Change.{Same, Below}
 use Rattle.bits.proofs.Words.{length-wordsOf, has-all}
 use Rattle.bits.proofs.Cut.{none-below, below-none}
+use Rattle.word_bytes.proofs.WordBytes.{Small, small-wordsOf}
 use Rattle.bitset_form.specs.Bitset.{Bitset, effect, valueOf}
 use Rattle.normal.specs.Fits.{Fits}
 use Rattle.normal.proofs.Effect.{form-keeps-effect, mask-below}
 use Rattle.boxes.specs.Box.{Box, State, portsIn, sizesIn, widthsIn, placeIn, widthIn, setOf}
 use Rattle.boxes.specs.declared.Call.{Call}
 use Rattle.boxes.specs.Rule.{boxRight}
-use Rattle.layout.specs.Layout.{sizeOf}
+use Rattle.layout.specs.Layout.{sizeOf, setAt}
 use Rattle.layout.specs.declared.Set.{Set}
 use Rattle.layout.proofs.Laws.{sizes-of, place-inside}
-use Rattle.layout.proofs.Kept.{splice-below, splice-above, change-own, change-other}
+use Rattle.layout.proofs.Kept.{splice-below, splice-above, change-length, change-own, change-other}
 use Rattle.boxes.proofs.rule.Meaning.{Right, box-means, box-keeps}
 use Rattle.boxes.proofs.settings.Laws as S
 use Rattle.boxes.proofs.settings.Change.{change-right}
@@ -91,6 +94,34 @@ module _ (box : Box) (state : State) (call : Call) (right : boxRight box state c
       let room : placeIn box position set + length new ≤ length (state .words) = let e = settings .exact in let l = new-long in omega arith in
       ⊎-elim (λ l. splice-below (state .words) new (placeIn box position set) room k l)
       (λ l. splice-above (state .words) new (placeIn box position set) room k (let e = new-long in omega arith))
+
+  -- the words after it: as many as before, and of 32 bits where they were
+  set-length : length (after .words) ≡ length (state .words)
+  unfolding placeIn withSet withEffect
+  set-length = change-length (state .words) (portsIn box) (widthsIn box) (settings .exact) position here set new new-long
+
+  own-word : (j : ℕ) → j < widthIn box set → getD (after .words) (placeIn box position set + j) 0 ≡ getD new j 0
+  unfolding setAt placeIn widthIn withSet withEffect
+  own-word j l =
+      let at = placeIn box position set in
+      sym (getD-take (widthIn box set) (drop at (after .words)) j 0 l ∙ getD-drop at (after .words) j 0)
+      ∙ ap (λ (ws : List ℕ). getD ws j 0)
+      (change-own (state .words) (portsIn box) (widthsIn box) (settings .exact) position here set new new-long)
+
+  pub set-small : Small (state .words) → Small (after .words)
+  set-small small k l =
+      let at = placeIn box position set in
+      let w = widthIn box set in
+      let kept : k < length (state .words) = let e = set-length in omega arith in
+      ⊎-elim
+      (λ (p : k < at). rw (set-elsewhere k (inl p)) (small k kept))
+      (λ (p : at ≤ k). ⊎-elim
+      (λ (q : k < at + w). let e : k ≡ at + (k - at) = omega arith in
+      rw (ap (λ (n : ℕ). getD (after .words) n 0) e ∙ own-word (k - at) (omega arith))
+      (small-wordsOf w (effect b (has held)) (k - at) (omega (arith, length-wordsOf w (effect b (has held))))))
+      (λ (q : at + w ≤ k). rw (set-elsewhere k (inr q)) (small k kept))
+      (lt-or-ge k (at + w)))
+      (lt-or-ge k at)
 
   pub set-right : boxRight box after call ≡ true
   unfolding placeIn withSet withEffect

@@ -39,7 +39,7 @@ module _ (box : Box) (state : State) (call : Call) (datagram : List ℕ) (room :
   answered = outcome box state call datagram room
 
   abbrev checks : List Check
-  checks = callChecks box state call datagram room
+  checks = callChecks (boxRight box state call) box call datagram room
 
   abbrev called : MessageRead → Outcome State
   called read =

@@ -3,8 +3,10 @@ pub mod Bitset
 pub mod Request
 pub mod Exact
 pub mod Late
+pub mod Named
 pub mod Message
 pub mod CallCase
+pub mod Run
 pub mod Demand1
 pub mod Effect
 pub mod Port
@@ -12,3 +14,5 @@ pub mod Count
 pub mod Demand2
 pub mod Normaliser
 pub mod Parts
+pub mod StoredBox
+pub mod Stored

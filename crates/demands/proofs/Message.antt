@@ -36,6 +36,7 @@ use Rattle.execute.specs.Execute.{requestOf, getBytes, readingOutcome, setOutco
 use Rattle.handler.specs.Call.{onAdmission, messageOutcome}
 use Rattle.demands.specs.Message.{Named}
 use Rattle.demands.specs.CallCase.{MessageCase}
+use Rattle.demands.proofs.Named.{header-gives}
 use Rattle.demands.specs.CallCase.MessageCase.{messageSkipped, messageRefused, getDone, setDone}
 
 -- a command that is admitted is listed
@@ -90,6 +91,7 @@ module _ (box : Box) (state : State) (m : List ℕ) (h : MessageHeader) (next : 
         go : (a : TargetRead) → targetOf m (parts .header) (box .roll) ≡ a → MessageCase box state m h next (targetOutcome a state m (requestOf h next command) (portOutcome box state m (requestOf h next command) (parts .bitset)))
         go (P.Refused why) e = messageRefused why refl
         go (P.Port target) e =
+            let given = header-gives (box .roll) m (parts .header) target e in
             port-outcome-case
             (record {
               command = command;
@@ -98,6 +100,10 @@ module _ (box : Box) (state : State) (m : List ℕ) (h : MessageHeader) (next : 
               nests = nests;
               target = target;
               found = e;
+              header = given .header;
+              read = given .read;
+              flags = given .flags;
+              port = given .port;
             })
 
     request-case : MessageCase box state m h next (requestOutcome box state m (requestOf h next command))

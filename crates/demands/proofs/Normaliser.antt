@@ -51,7 +51,7 @@ use Rattle.response.specs.declared.Kind.the-variants.{Done}
 use Rattle.execute.specs.declared.Request.{Request}
 use Rattle.execute.specs.Execute.{requestOf, getBytes, readingOutcome, setOutcome, portOutcome, targetOutcome, headerOutcome, topOutcome, requestOutcome}
 use Rattle.handler.specs.Call.{refusedInPlace, onAdmission, messageOutcome, positionOutcome, outcome, endsRun}
-use Rattle.demands.specs.Call.{messageOf}
+use Rattle.demands.specs.Call.{messageOf, nextOf}
 use Rattle.demands.specs.CallCase.{CallCase}
 use Rattle.demands.specs.CallCase.CallCase.{ended, notRead, messageAnswered}
 use Rattle.demands.specs.Message.{Named}
@@ -139,7 +139,7 @@ module _ (box : Box) (state : State) (call : Call) (datagram : List ℕ) (room :
         by : CallCase box state call datagram o → boxRight box state call ≡ true
         by (ended e) = absurd (clash (ap (λ (x : Outcome State). endsRun (x .response .kind)) e) going)
         by (notRead w l e) = absurd (clash (ap (λ (x : Outcome State). endsRun (x .response .kind)) e ∙ lt-ltb (numberOf w) 5 (omega arith)) going)
-        by (messageAnswered next right lo hi long first c) = right
+        by (messageAnswered right lo hi long first c) = right
 
     module _ (n : Named (box .roll) m) where
       abbrev reading : Reading
@@ -172,7 +172,7 @@ module _ (box : Box) (state : State) (call : Call) (datagram : List ℕ) (room :
             by : CallCase box state call datagram o → o .response .kind ≡ kindOf reading
             by (ended e) = absurd (clash (ap (λ (x : Outcome State). endsRun (x .response .kind)) e) going)
             by (notRead w l e) = absurd (clash (ap (λ (x : Outcome State). endsRun (x .response .kind)) e ∙ lt-ltb (numberOf w) 5 (omega arith)) going)
-            by (messageAnswered next right lo hi long first c) = first ∙ sym (message-first box state m h next call) ∙ set-kind next
+            by (messageAnswered right lo hi long first c) = first ∙ sym (message-first box state m h (nextOf datagram position) call) ∙ set-kind (nextOf datagram position)
 
         pub set-alike : (page : ℕ) → 144 ≤ page → AnsweredAlike box m n page (o .response .kind)
         set-alike page wide = go reading refl

@@ -11,13 +11,14 @@ use Rattle.response.specs.Answer.{Outcome, responseOf, noBytes, errorResponse, 
 use Rattle.execute.specs.Execute.{requestOf, withEffect, getBytes}
 use Rattle.response.specs.declared.Kind.the-variants.{Skipped, Done, End, Refused}
 use lib.ListN.{length}
+use Rattle.basics.specs.Numbers.{u32At}
 use Rattle.netlink_headers.specs.Headers.{messageHeader}
 use Rattle.refusal.specs.Refusal.{numberOf}
 use Rattle.boxes.specs.declared.Call.{Call}
 use Rattle.boxes.specs.Rule.{boxRight}
 use Rattle.demands.specs.Check.{firstKind}
 use Rattle.demands.specs.Request.{messageChecks}
-use Rattle.demands.specs.Call.{messageOf}
+use Rattle.demands.specs.Call.{messageOf, nextOf}
 use Rattle.demands.specs.Message.{Named, Carries}
 
 -- what a message comes to: nothing for a skipped one, an error message, a reply, or a change of one set of one port
@@ -31,12 +32,15 @@ pub data MessageCase (box : Box) (state : State) (m : List ℕ) (h : MessageHead
       → o ≡ record { response = responseOf Done next (ackBytes m h); state = withEffect box state (n .target .position) (n .command .set) b }
       → MessageCase box state m h next o
 
--- the end or a refusal by 1 to 4, which change nothing, say nothing and give the position back; or a message of a right box, which moves on
+-- the end or a refusal by 1 to 4, which change nothing, say nothing and give the position back; or a message of a right box, which stands whole in
+-- the datagram and after which the next call goes on
 pub data CallCase (box : Box) (state : State) (call : Call) (datagram : List ℕ) (o : Outcome State) : Type 0 where
   ended : o ≡ unchanged (noBytes End (call .position)) state → CallCase box state call datagram o
   notRead : (why : Refusal) → numberOf why ≤ 4 → o ≡ unchanged (noBytes (Refused why) (call .position)) state → CallCase box state call datagram o
-  messageAnswered : (next : ℕ) → boxRight box state call ≡ true → call .position + 16 ≤ next → next ≤ length datagram
+  messageAnswered : boxRight box state call ≡ true → 16 ≤ u32At datagram (call .position)
+      → call .position + u32At datagram (call .position) ≤ length datagram
       → 16 ≤ length (messageOf datagram (call .position))
       → o .response .kind ≡ firstKind Done (messageChecks box call (messageOf datagram (call .position)) (messageHeader datagram (call .position)))
-      → MessageCase box state (messageOf datagram (call .position)) (messageHeader datagram (call .position)) next o
+      → MessageCase box state (messageOf datagram (call .position)) (messageHeader datagram (call .position))
+      (nextOf datagram (call .position)) o
       → CallCase box state call datagram o

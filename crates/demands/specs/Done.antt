@@ -9,7 +9,7 @@ use lib.ListN.{length, getD}
 use lib.Dec.{eqb}
 use Rattle.bits.specs.Set.{has}
 use Rattle.entries.specs.Entry.{count}
-use Rattle.roll.specs.Record.{indexOf, nameOf}
+use Rattle.roll.specs.Record.{portAt}
 use Rattle.bits.specs.Change.{Same}
 use Rattle.netlink_attributes.specs.Attributes.{attributes}
 use Rattle.netlink_attributes.specs.Attributes.Attributes.{done, attribute}
@@ -47,8 +47,8 @@ pub record DoneSet (box : Box) (state : State) (call : Call) (m : List ℕ) (h :
 abbrev pub askedContent : (box : Box) → State → (m : List ℕ) → Named (box .roll) m → Content
 askedContent box state m n =
     record {
-      index = indexOf (box .roll) (n .target .position);
-      name = nameOf (box .roll) (n .target .position);
+      index = portAt (box .roll) (n .target .position) .index;
+      name = portAt (box .roll) (n .target .position) .name;
       compact = eqb (n .target .flags % 2) 1;
       names = listOf (box .names) (n .command .set);
       words = setOf box state (n .target .position) (n .command .set);

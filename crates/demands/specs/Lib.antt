@@ -9,3 +9,4 @@ pub mod Run
 pub mod Done
 pub mod Normaliser
 pub mod Parts
+pub mod Stored

@@ -1,14 +1,19 @@
 -- What a request names, and the bitset that it carries. Document 01, "What a call says back".
-use Prim.Native.Nat.{ℕ}
+use Prim.Native.Nat.{ℕ, _<_}
 use mathlib.Core.Path.{_≡_}
 use mathlib.Core.List.{List}
+use mathlib.Core.Bool.{true, _||_}
 use Rattle.basics.specs.Numbers.{byteAt}
 use Rattle.netlink_attributes.specs.Attributes.{partOf}
+use Rattle.netlink.specs.Walk.{slotNumber}
+use Rattle.roll.specs.Name.{holdsName}
+use Rattle.roll.specs.Record.{portCount, portAt}
 use Rattle.bitset_form.specs.Bitset.{Bitset}
 use Rattle.bitset_form.specs.Bitset.Reading.{accepted}
 use Rattle.bitset.specs.Judge.{bitsetReading}
 use Rattle.layout.specs.Layout.{listOf}
 use Rattle.boxes.specs.Box.{Box}
+use Rattle.request.specs.Header.{headerOf}
 use Rattle.request.specs.Target.{targetOf}
 use Rattle.admission.specs.Commands.{commandOf}
 use Rattle.request.specs.Top.{topOf}
@@ -17,9 +22,18 @@ use Rattle.request.specs.declared.target.Target.{Target}
 use Rattle.admission.specs.declared.commands.Command.{Command}
 use Rattle.admission.specs.declared.commands.CommandRead.the-variants.{Listed}
 use Rattle.request.specs.declared.parts.TopParts.{TopParts}
+use Rattle.request.specs.declared.parts.HeaderParts.{HeaderParts}
+use Rattle.request.specs.declared.header.Header.the-variants as H
 use Rattle.request.specs.declared.top.Top.the-variants.{Nests}
 
--- what the request m names: a listed command, its header nest and bitset, and the port of the roll that its header gives
+-- the record at a position of the roll is the one that the header's parts give: it has the index where one is given, and the name where one is given
+pub record IsPort (roll m : List ℕ) (header : HeaderParts) (position : ℕ) : Type 0 where
+  pub inside : position < portCount roll
+  pub given : header .index .present || header .name .present ≡ true
+  pub index : header .index .present ≡ true → portAt roll position .index ≡ slotNumber m (header .index)
+  pub name : header .name .present ≡ true → holdsName (portAt roll position .name) (partOf m (header .name .start) (header .name .end)) ≡ true
+
+-- what the request m names: a listed command, its header nest and bitset, the header's parts and flags, and the port of the roll that they give
 pub record Named (roll m : List ℕ) : Type 0 where
   pub command : Command
   pub listed : commandOf (byteAt m 16) ≡ Listed command
@@ -27,6 +41,10 @@ pub record Named (roll m : List ℕ) : Type 0 where
   pub nests : topOf m (command .change) ≡ Nests parts
   pub target : Target
   pub found : targetOf m (parts .header) roll ≡ A.Port target
+  pub header : HeaderParts
+  pub read : headerOf m (parts .header) ≡ H.Parts header (target .flags)
+  pub flags : target .flags ≡ slotNumber m (header .flags)
+  pub port : IsPort roll m header (target .position)
 
 -- the bitset that a SET carries, as document 01 reads it over the names of the set
 abbrev pub Carries : (box : Box) (m : List ℕ) → Named (box .roll) m → Bitset → Type 0

@@ -2,6 +2,7 @@
 use Prim.Native.Nat.{ℕ}
 use mathlib.Core.Path.{_≡_, ap, _∙_}
 use mathlib.Core.List.{List}
+use Rattle.word_bytes.specs.Bytes.{Bytes}
 use Rattle.normal.specs.Normal as N
 use Rattle.normal.specs.declared.Normal.{Normal}
 use Rattle.response.specs.Answer.{Outcome, Performs, kindNumber, refusalNumber}
@@ -13,11 +14,12 @@ pub normalise-returns : (o : N.NormalAnswer) (P Q : List ℕ) (x : Normal) → N
 normalise-returns o P Q x h =
     record { number = ap (λ (y : Normal). y .number) (h .result); count = ap (λ (y : Normal). y .written) (h .result); page = h .page }
 
-pub handle-returns : (o : Outcome Stored) (P Q : List ℕ) (stored : Stored) (x : Answer) (k f : ℕ) → Performs o P Q stored x → k ≡ kindNumber (x .kind) → f ≡ refusalNumber (x .kind)
-    → Handle o P Q stored k f (x .next) (x .written)
-handle-returns o P Q stored x k f a ek ef =
+pub handle-returns : (o : Outcome Stored) (lent stored : Stored) (P Q : List ℕ) (x : Answer) (k f : ℕ) → Bytes (lent .settings) → Performs o P Q stored x
+    → k ≡ kindNumber (x .kind) → f ≡ refusalNumber (x .kind) → Handle o lent stored P Q k f (x .next) (x .written)
+handle-returns o lent stored P Q x k f bytes a ek ef =
     let e = a .response .result in
     record {
+      bytes = bytes;
       kind = ek ∙ ap (λ (y : Answer). kindNumber (y .kind)) e;
       refusal = ef ∙ ap (λ (y : Answer). refusalNumber (y .kind)) e;
       next = ap (λ (y : Answer). y .next) e;

@@ -4,6 +4,7 @@ use mathlib.Core.Path.{_≡_}
 use mathlib.Core.List.{List}
 use lib.ListN.{length}
 use Rattle.basics.specs.Put.{put}
+use Rattle.word_bytes.specs.Bytes.{Bytes}
 use Rattle.normal.specs.Normal as N
 use Rattle.response.specs.Answer.{Outcome, kindNumber, refusalNumber}
 use Rattle.handler.specs.Bytes.{Stored}
@@ -14,8 +15,9 @@ pub record Normalise (o : N.NormalAnswer) (before after : List ℕ) (written r :
   pub count : written ≡ length (o .bytes)
   pub page : after ≡ put before (o .bytes)
 
--- ethnl_handle: kind, refusal number, next position and count behind their pointers
-pub record Handle (o : Outcome Stored) (before after : List ℕ) (stored : Stored) (k f n w : ℕ) : Type 0 where
+-- ethnl_handle: kind, refusal number, next position and count behind their pointers; the settings that are lent are bytes
+pub record Handle (o : Outcome Stored) (lent stored : Stored) (before after : List ℕ) (k f n w : ℕ) : Type 0 where
+  pub bytes : Bytes (lent .settings)
   pub kind : k ≡ kindNumber (o .response .kind)
   pub refusal : f ≡ refusalNumber (o .response .kind)
   pub next : n ≡ o .response .next

@@ -41,7 +41,7 @@ pub extern "C" fn ethnl_handle<'a>(
     next: &mut u64,
     written: &mut u64,
 )
-    ensures { λ _. ⌜ Handle (bytesOutcome (boxOf (now (roll .entry)) (now (debug .entry)) (now (flags .entry))) (storedOf (now (settings .entry))) (record { family = family; admin = admin; position = position }) (now (datagram .entry)) (length (now (page .entry)))) (now (page .entry)) (now (page .exit)) (storedOf (now (settings .exit))) (now (kind .exit)) (now (refusal .exit)) (now (next .exit)) (now (written .exit)) ⌝ }
+    ensures { λ _. ⌜ Handle (bytesOutcome (boxOf (now (roll .entry)) (now (debug .entry)) (now (flags .entry))) (storedOf (now (settings .entry))) (record { family = family; admin = admin; position = position }) (now (datagram .entry)) (length (now (page .entry)))) (storedOf (now (settings .entry))) (storedOf (now (settings .exit))) (now (page .entry)) (now (page .exit)) (now (kind .exit)) (now (refusal .exit)) (now (next .exit)) (now (written .exit)) ⌝ }
 {
     let call = Call {
         family,

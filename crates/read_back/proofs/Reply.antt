@@ -7,7 +7,6 @@ use lib.ListN.{length, length-append}
 use native.Mathlib.Omega.{arith}
 use Rattle.bits.specs.Set.{has, wordsFor}
 use Rattle.bits.specs.Change.{Below}
-use Rattle.word_bytes.proofs.WordBytes.{Small}
 use Rattle.entries.specs.Entry.{count}
 use Rattle.names.specs.Rule.{namesRight}
 use Rattle.names.proofs.Rules.{right-means}
@@ -80,12 +79,12 @@ module _ (h : Heading) (index : ℕ) (name : List ℕ) (compact : Bool) (names w
       ∙ ap (attribute 2 2 (24 + length (indexNest 1 index name)) (length reply)) (attributes-end reply (length reply) (omega arith)))
 
   -- the set
-  pub reply-back : Small words → Below n (has words)
+  pub reply-back : Below n (has words)
       → ReadsBack (replyBytes h (contentOf index name compact names words n)) (24 + length (indexNest 1 index name)) names (has words)
   unfolding reply contents
-  reply-back small below =
+  reply-back below =
       let pre = headers ++ indexNest 1 index name in
       let set = 20 + length (indexNest 1 index name) in
       let cut = cut-at reply pre [] contents 2 set set-in set-at (length reply) (omega (arith, total)) in
       let place = contents-at reply pre [] contents 2 set set-in set-at (24 + length (indexNest 1 index name)) (omega arith) in
-      rw (sym (part-all reply (length reply) refl) ∙ cut, place) (set-back (upTo pre 2 contents) names words n right en ew small below compact)
+      rw (sym (part-all reply (length reply) refl) ∙ cut, place) (set-back (upTo pre 2 contents) names words n right en ew below compact)

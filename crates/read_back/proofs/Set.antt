@@ -12,9 +12,9 @@ use Rattle.basics.proofs.Numbers.{u32-le32}
 use Rattle.basics.proofs.Order.{lt-or-ge}
 use Rattle.basics.proofs.Scan.{any-none}
 use Rattle.bits.specs.Set.{has, wordsFor, past, somePast}
-use Rattle.word_bytes.specs.Bytes.{bytesOf}
+use Rattle.word_bytes.specs.Bytes.{wordsIn, bytesOf}
 use Rattle.bits.specs.Change.{Below}
-use Rattle.word_bytes.proofs.WordBytes.{Small, length-bytesOf, words-of-bytes}
+use Rattle.word_bytes.proofs.WordBytes.{length-bytesOf, has-again}
 use Rattle.entries.specs.Entry.{count}
 use Rattle.names.specs.Rule.{namesRight}
 use Rattle.names.proofs.Rules.{right-means}
@@ -97,7 +97,7 @@ module _ (s pre post names : List ℕ) (n at : ℕ) (e : s ≡ pre ++ (openingBy
   by-walk w h = rw h
 
   -- compact: VALUE is behind it
-  module _ (words : List ℕ) (ep : post ≡ attr 4 (bytesOf words) ++ []) (ew : length words ≡ wordsFor n) (small : Small words) where
+  module _ (words : List ℕ) (ep : post ≡ attr 4 (bytesOf words) ++ []) (ew : length words ≡ wordsFor n) where
     value-in : s ≡ (pre ++ openingBytes n) ++ (attr 4 (bytesOf words) ++ [])
     value-in = post-in ∙ ap (λ (l : List ℕ). (pre ++ openingBytes n) ++ l) ep
 
@@ -126,11 +126,11 @@ module _ (s pre post names : List ℕ) (n at : ℕ) (e : s ≡ pre ++ (openingBy
     compact-walked =
         walked-by bitsetPolicy s at (opened (attribute 4 0 (at + 16) (length s) done)) compact-attributes (rw (nomask-back, size-back))
 
-    compact-back : bitsetReading s at names ≡ accepted (nomaskBitmap n (has words))
+    compact-back : bitsetReading s at names ≡ accepted (nomaskBitmap n (has (wordsIn (bytesOf words))))
     unfolding bitsetParts bitsetPartsReading mixedAt compactReading nomaskReading
     compact-back =
         by-walk _ compact-walked
-        ∙ rw (number-back, value-back, length-bytesOf words, en, le-ltb (length words * 4 / 4) (wordsFor n) (omega arith), words-of-bytes words small, none-between (has words) n)
+        ∙ rw (number-back, value-back, length-bytesOf words, en, le-ltb (length words * 4 / 4) (wordsFor n) (omega arith), none-between (has (wordsIn (bytesOf words))) n)
 
   -- verbose: BITS is behind it
   module _ (listed : ℕ → Bool) (ep : post ≡ nest 3 (bitsBytes names listed n) ++ []) (short : Short names n) where
@@ -171,7 +171,7 @@ module _ (s pre post names : List ℕ) (n at : ℕ) (e : s ≡ pre ++ (openingBy
 
 -- the contents of a set whose names are right, in either form
 module _ (pre names words : List ℕ) (n : ℕ) (right : namesRight names ≡ true) (en : count names ≡ n) (ew : length words ≡ wordsFor n)
-    (small : Small words) (below : Below n (has words)) where
+    (below : Below n (has words)) where
   few : n ≤ 512
   few = rw en at (right-means names right .few)
 
@@ -179,9 +179,9 @@ module _ (pre names words : List ℕ) (n : ℕ) (right : namesRight names ≡ tr
   unfolding compactBytes effect
   compact-reads =
       let value = attr 4 (bytesOf words) in (
-        nomaskBitmap n (has words),
-        compact-back (pre ++ compactBytes words n) pre value names n (length pre) refl refl few en words (sym (append-nil value)) ew small,
-        λ start i. ⊎-elim (λ (l : i < n). rw (lt-ltb i n l)) (λ (l : n ≤ i). rw (le-ltb i n l) (sym (below i l))) (lt-or-ge i n),
+        nomaskBitmap n (has (wordsIn (bytesOf words))),
+        compact-back (pre ++ compactBytes words n) pre value names n (length pre) refl refl few en words (sym (append-nil value)) ew,
+        λ start i. ⊎-elim (λ (l : i < n). rw (lt-ltb i n l) (has-again words i)) (λ (l : n ≤ i). rw (le-ltb i n l) (sym (below i l))) (lt-or-ge i n),
       )
 
   verbose-reads : ReadsBack (pre ++ verboseBytes names words n) (length pre) names (has words)

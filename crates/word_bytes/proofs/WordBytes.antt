@@ -1,22 +1,23 @@
 -- Laws of words and their bytes: each says what the other is.
-use Prim.Native.Nat.{ℕ, zero, suc, _+_, _*_, _/_, _^_, _≤_, _<_, suc-le-suc}
+use Prim.Native.Nat.{ℕ, zero, suc, _+_, _*_, _/_, _%_, _^_, _≤_, _<_}
 use mathlib.Core.Path.{_≡_, refl, sym, ap, ap₂, _∙_}
 use mathlib.Core.Bool.{Bool}
 use mathlib.Core.Logic.{⊎-elim}
 use mathlib.Core.List.{List, [], _∷_, _++_, append-assoc, append-nil}
-use native.Mathlib.Nat.{zero-lt-suc}
+use native.Mathlib.Nat.{div-div-eq-div-mul}
 use native.Mathlib.Numerals.{add-one}
 use native.Mathlib.Omega.{arith}
 use lib.ListN.{length, take, getD, set, length-append, List·getD-append, List·getD-eq-default}
 use lib.Seq.{take-suc, getD-at, getD-append-add, ext-getD}
 use Rattle.basics.specs.Numbers.{le32, u32At}
 use Rattle.basics.specs.Put.{put}
-use Rattle.basics.proofs.Numbers.{digits32}
 use Rattle.basics.proofs.Order.{lt-or-ge}
 use Rattle.basics.proofs.Put.{put-take}
-use Rattle.bits.specs.Set.{wordsOf}
+use Rattle.bits.specs.Bit.{test}
+use Rattle.bits.specs.Set.{has, wordsOf}
+use Rattle.bits.specs.Change.{Same}
 use Rattle.word_bytes.specs.Bytes.{table, wordsIn, bytesOf}
-use Rattle.bits.proofs.Bit.{number-lt}
+use Rattle.bits.proofs.Bit.{number-lt, test-low}
 use Rattle.bits.proofs.Words.{length-wordsOf, getD-wordsOf}
 
 length-table : (n : ℕ) (f : ℕ → ℕ) → length (table n f) ≡ n
@@ -74,23 +75,50 @@ small-wordsOf w f j h =
     let k : j < w = omega (arith, length-wordsOf w f) in
     omega (arith, getD-wordsOf w f j k, number-lt 32 (λ b. f (j * 32 + b)))
 
-bytes-at : (ws : List ℕ) → Small ws → (j : ℕ) → j < length ws → u32At (bytesOf ws) (j * 4) ≡ getD ws j 0
+-- a number's four bytes are those of its lowest 32 bits
+digits-low : (x : ℕ) → x % 256 + x / 256 % 256 * 256 + x / 65536 % 256 * 65536 + x / 16777216 % 256 * 16777216 ≡ x % 4294967296
+digits-low x =
+    let two : x / 256 / 256 ≡ x / 65536 = div-div-eq-div-mul x 256 256 in
+    let three : x / 65536 / 256 ≡ x / 16777216 = div-div-eq-div-mul x 65536 256 in
+    digits x (x / 256) (x / 65536) (x / 16777216) refl (sym two) (sym three)
+  where
+    digits : (x a b c : ℕ) → a ≡ x / 256 → b ≡ a / 256 → c ≡ b / 256
+        → x % 256 + a % 256 * 256 + b % 256 * 65536 + c % 256 * 16777216 ≡ x % 4294967296
+    digits x a b c p q r = omega arith
+
+-- the number at a word's place in the bytes of words
+pub bytes-at : (ws : List ℕ) (j : ℕ) → j < length ws → u32At (bytesOf ws) (j * 4) ≡ getD ws j 0 % 4294967296
 unfolding bytesOf u32At
-bytes-at [] s j h = absurd (omega arith)
-bytes-at (w ∷ ws) s zero h = digits32 w (s 0 (zero-lt-suc (length ws)))
-bytes-at (w ∷ ws) s (suc j) h =
+bytes-at [] j h = absurd (omega arith)
+bytes-at (w ∷ ws) zero h = digits-low w
+bytes-at (w ∷ ws) (suc j) h =
     let skip : (i n : ℕ) → i ≡ 4 + n → getD (le32 w ++ bytesOf ws) i 0 ≡ getD (bytesOf ws) n 0 =
     λ i n e. ap (λ (k : ℕ). getD (le32 w ++ bytesOf ws) k 0) e ∙ getD-append-add (le32 w) (bytesOf ws) n 0 in
     rw
     (skip (suc j * 4) (j * 4) (omega arith), skip (suc j * 4 + 1) (j * 4 + 1) (omega arith), skip (suc j * 4 + 2) (j * 4 + 2) (omega arith), skip (suc j * 4 + 3) (j * 4 + 3) (omega arith))
-    (bytes-at ws (λ i l. s (suc i) (suc-le-suc l)) j (omega arith))
+    (bytes-at ws j (omega arith))
 
--- the words in the bytes of words are these
+-- the words in the bytes of words are their lowest 32 bits
+pub length-again : (ws : List ℕ) → length (wordsIn (bytesOf ws)) ≡ length ws
+length-again ws = omega (arith, length-wordsIn (bytesOf ws), length-bytesOf ws)
+
+pub word-again : (ws : List ℕ) (j : ℕ) → getD (wordsIn (bytesOf ws)) j 0 ≡ getD ws j 0 % 4294967296
+word-again ws j =
+    ⊎-elim
+    (λ (l : j < length ws). sym (word-in (bytesOf ws) j (omega (arith, length-bytesOf ws))) ∙ bytes-at ws j l)
+    (λ (l : length ws ≤ j). sym (word-past (bytesOf ws) j (omega (arith, length-bytesOf ws))) ∙ ap (λ (x : ℕ). x % 4294967296) (sym (List·getD-eq-default ws 0 l)))
+    (lt-or-ge j (length ws))
+
+-- so they hold the same set
+pub has-again : (ws : List ℕ) → Same (has (wordsIn (bytesOf ws))) (has ws)
+unfolding has
+has-again ws i = ap (λ (x : ℕ). test x (i % 32)) (word-again ws (i / 32)) ∙ test-low 32 (getD ws (i / 32) 0) (i % 32) (omega arith)
+
+-- and are the same words where these have 32 bits
 pub words-of-bytes : (ws : List ℕ) → Small ws → wordsIn (bytesOf ws) ≡ ws
 words-of-bytes ws s =
-    let len : length (wordsIn (bytesOf ws)) ≡ length ws = omega (arith, length-wordsIn (bytesOf ws), length-bytesOf ws) in
-    ext-getD 0 (wordsIn (bytesOf ws)) ws len
-    (λ j h. sym (word-in (bytesOf ws) j (omega (arith, length-bytesOf ws))) ∙ bytes-at ws s j (omega arith))
+    ext-getD 0 (wordsIn (bytesOf ws)) ws (length-again ws)
+    (λ j h. let small = s j (omega (arith, length-again ws)) in word-again ws j ∙ (let e : getD ws j 0 % 4294967296 ≡ getD ws j 0 = omega arith in e))
 
 -- equal bytes are of equal words
 pub bytesOf-inj : (xs ys : List ℕ) → Small xs → Small ys → bytesOf xs ≡ bytesOf ys → xs ≡ ys

@@ -1,7 +1,7 @@
 -- Words as their little-endian bytes (document 01, "settings as the little-endian bytes of their words").
-use Prim.Native.Nat.{ℕ, zero, suc, _*_, _/_}
+use Prim.Native.Nat.{ℕ, zero, suc, _*_, _/_, _<_}
 use mathlib.Core.List.{List, [], _∷_, _++_}
-use lib.ListN.{length}
+use lib.ListN.{length, getD}
 use Rattle.basics.specs.Numbers.{le32, u32At}
 
 -- f 0, f 1, .. f (n - 1)
@@ -17,3 +17,7 @@ wordsIn s = table (length s / 4) (λ j. u32At s (j * 4))
 unfoldable pub bytesOf : List ℕ → List ℕ
 bytesOf [] = []
 bytesOf (w ∷ ws) = le32 w ++ bytesOf ws
+
+-- every number of the list is a byte, as in a buffer of C
+abbrev pub Bytes : List ℕ → Type 0
+Bytes s = (i : ℕ) → getD s i 0 < 256
