@@ -8,3 +8,4 @@ pub mod CallCase
 pub mod Run
 pub mod Done
 pub mod Normaliser
+pub mod Padding
