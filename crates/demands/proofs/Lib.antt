@@ -11,3 +11,4 @@ pub mod Port
 pub mod Count
 pub mod Demand2
 pub mod Normaliser
+pub mod PaddingAttributes
