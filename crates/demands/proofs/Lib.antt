@@ -12,3 +12,4 @@ pub mod Count
 pub mod Demand2
 pub mod Normaliser
 pub mod PaddingAttributes
+pub mod PaddingWalk
