@@ -13,3 +13,5 @@ pub mod Demand2
 pub mod Normaliser
 pub mod PaddingAttributes
 pub mod PaddingWalk
+pub mod PaddingBitset
+pub mod PaddingRequest
