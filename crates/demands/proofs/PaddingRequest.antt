@@ -109,3 +109,66 @@ module _ (s t : List ℕ) (size : length s ≡ length t) (roll : List ℕ) (a e 
           → onHeader (onStop x H.Refused f) (named t (found a e) roll) ≡ onHeader (onStop x H.Refused g) (named s (found a e) roll)
       go Whole f g q = q refl
       go (At fault at) f g q = refl
+
+-- the top level
+module _ (s t : List ℕ) (size : length s ≡ length t) (agree : TopAgrees s t) where
+  abbrev top : Payloads
+  top kind start end =
+      NestOf 1 kind (PlainAgrees (partOf s 0 end) (partOf t 0 end) start)
+      (NestOf 2 kind (BitsetAgrees (partOf s 0 end) (partOf t 0 end) start) (SameBytes s t start end))
+
+  -- a bitset is a nest in a SET; in a GET it is not listed
+  bitset-judged : (change : Bool) (x y : List ℕ) → JudgedAlike (ruleOf (topPolicy change) 2) x y
+  unfolding ruleOf topPolicy
+  bitset-judged true x y = nest-judged x y
+  bitset-judged false x y = unlisted-judged x y
+
+  top-judged : (change : Bool) (kind start end : ℕ) → top kind start end → JudgedAlike (ruleOf (topPolicy change) kind) (partOf t start end) (partOf s start end)
+  unfolding ruleOf topPolicy
+  top-judged change kind start end q =
+      let x = partOf t start end in
+      let y = partOf s start end in
+      nest-or (topPolicy change) 1 kind x y (nest-judged x y)
+      (λ r. nest-or (topPolicy change) 2 kind x y (bitset-judged change x y) (λ same. same-judged s t (ruleOf (topPolicy change) kind) start end same) r) q
+
+  pub top-same : (change : Bool) → topOf t change ≡ topOf s change
+  unfolding topOf
+  top-same change = rw (walked-same s t size top (topPolicy change) (top-judged change) 20 agree)
+
+  -- the nests that are found: a header stands there, and both agree
+  module _ (change : Bool) (parts : TopParts) where
+    pub nests-agree : topOf s change ≡ T.Nests parts → SlotAgrees s t top 1 (parts .header) × (parts .header .present ≡ true) × SlotAgrees s t top 2 (parts .bitset)
+    unfolding topOf nestsOf topParts
+    nests-agree = go (walked (topPolicy change) s 20 .stop) refl
+      where
+        is-it : (present lacks : Bool) (p : TopParts) → p .header .present ≡ present
+            → cond (not present) (T.Refused (R.MissingTop 1)) (cond lacks (T.Refused (R.MissingTop 2)) (T.Nests p)) ≡ T.Nests parts
+            → (p ≡ parts) × (p .header .present ≡ true)
+        is-it false lacks p f e = absurd (let z : _≡_ {A = ℕ} 0 1 = cc in omega arith)
+        is-it true true p f e = absurd (let z : _≡_ {A = ℕ} 0 1 = cc in omega arith)
+        is-it true false p f e = (cc, f)
+
+        go : (x : Stop) → walked (topPolicy change) s 20 .stop ≡ x
+            → onStop x T.Refused (nestsOf change (topParts (walked (topPolicy change) s 20 .slots))) ≡ T.Nests parts
+            → SlotAgrees s t top 1 (parts .header) × (parts .header .present ≡ true) × SlotAgrees s t top 2 (parts .bitset)
+        go (At fault at) w e = absurd (let z : _≡_ {A = ℕ} 0 1 = cc in omega arith)
+        go Whole w e =
+            let p = topParts (walked (topPolicy change) s 20 .slots) in
+            let slot = slot-agrees s t size top (topPolicy change) 20 agree w in
+            let is = is-it (p .header .present) (change && not (p .bitset .present)) p refl e in
+            let same = is .0 in
+            (
+              rw (ap (λ (q : TopParts). q .header) same) at (slot 1 (omega arith)),
+              rw (ap (λ (q : TopParts). q .header) same) at (is .1),
+              rw (ap (λ (q : TopParts). q .bitset) same) at (slot 2 (omega arith)),
+            )
+
+  -- so the header names the same port, and the bitset reads the same
+  pub named-same : (roll : List ℕ) {slot : Slot} → SlotAgrees s t top 1 slot → slot .present ≡ true → targetOf t slot roll ≡ targetOf s slot roll
+  named-same roll none e = absurd (let z : _≡_ {A = ℕ} 0 1 = cc in omega arith)
+  named-same roll (some a e l u q) p = target-same s t size roll a e u (q .0 refl)
+
+  pub reading-same : (names : List ℕ) {slot : Slot} → SlotAgrees s t top 2 slot
+      → bitsetReading (partOf t 0 (slot .end)) (slot .start) names ≡ bitsetReading (partOf s 0 (slot .end)) (slot .start) names
+  reading-same names none = rw (part-none s, part-none t)
+  reading-same names (some a e l u q) = bitset-same (partOf s 0 e) (partOf t 0 e) (cut-long s t size e u) names a (q .1 (λ k. omega arith) .0 refl)
