@@ -15,3 +15,4 @@ pub mod PaddingAttributes
 pub mod PaddingWalk
 pub mod PaddingBitset
 pub mod PaddingRequest
+pub mod PaddingMessage

@@ -1,32 +1,23 @@
--- The header and the top level of two messages that agree but for paddings, and what an admitted request comes to.
---     target-same        the header nest names the same port, or is refused alike
---     top-same           the top level
---     error-same, ack-same    the error message and the ACK quote the 16 header bytes, which are the same
---     request-same       the request
-use Prim.Native.Nat.{ℕ, _-_, _≤_, _<_, min}
+-- The header nest and the top level of two messages that agree but for paddings.
+--     target-same        a header nest names the same port with the same flags, or is refused alike
+--     top-same           the top level has the same nests, or is refused alike
+--     nests-agree        the nests that are found agree
+--     named-same, reading-same    so the header names the same port, and the bitset reads the same
+use Prim.Native.Nat.{ℕ, _-_, _≤_}
 use mathlib.Core.Path.{_≡_, refl, sym, ap, _∙_}
 use mathlib.Core.List.{List}
 use mathlib.Core.Bool.{Bool, true, false, _&&_, _||_, not, cond}
-use mathlib.Core.Logic.{⊎-elim}
-use lib.ListN.{length, getD, take}
-use lib.Seq.{getD-take, take-take, take-all}
+use lib.ListN.{length}
 use lib.Dec.{ltb}
 use native.Mathlib.Omega.{arith}
-use Rattle.basics.specs.Numbers.{byteAt, u32At}
-use Rattle.basics.proofs.Order.{lt-or-ge}
-use Rattle.netlink_attributes.specs.Attributes.{partOf, attributes}
-use Rattle.netlink_attributes.proofs.Laws.{part-in}
-use Rattle.netlink_headers.specs.declared.headers.MessageHeader.{MessageHeader}
+use Rattle.netlink_attributes.specs.Attributes.{partOf}
 use Rattle.netlink.specs.Policy.{ruleOf}
-use Rattle.netlink.specs.Walk.{absent, found, walked, slotNumber}
+use Rattle.netlink.specs.Walk.{found, walked, slotNumber}
 use Rattle.netlink.specs.declared.walk.Slot.{Slot}
 use Rattle.netlink.specs.declared.walk.Stop.{Stop}
 use Rattle.netlink.specs.declared.walk.Stop.the-variants.{Whole, At}
 use Rattle.netlink.specs.declared.walk.Walked.{Walked}
-use Rattle.netlink_error.specs.Error.{errorHeader, errorStart, errorMessage}
-use Rattle.netlink_error.specs.declared.Detail.{Detail}
-use Rattle.refusal.specs.Refusal.{onStop, onWalk, ofFault}
-use Rattle.refusal.specs.declared.Refusal.{Refusal}
+use Rattle.refusal.specs.Refusal.{onStop, onWalk}
 use Rattle.refusal.specs.declared.Refusal.the-variants as R
 use Rattle.bitset.specs.Judge.{bitsetReading}
 use Rattle.request.specs.Policies.{topPolicy, headerPolicy}
@@ -41,11 +32,10 @@ use Rattle.request.specs.declared.header.Header.{Header}
 use Rattle.request.specs.declared.header.Header.the-variants as H
 use Rattle.request.specs.declared.port.PortRead.{PortRead}
 use Rattle.request.specs.declared.target.TargetRead.{TargetRead}
-use Rattle.request.specs.declared.top.Top.{Top}
 use Rattle.request.specs.declared.top.Top.the-variants as T
-use Rattle.demands.specs.Padding.{SameBytes, Payloads, EachAgrees, NestOf, PlainAgrees, BitsetAgrees, TopAgrees, MessagesAgree}
+use Rattle.demands.specs.Padding.{SameBytes, Payloads, NestOf, PlainAgrees, BitsetAgrees, TopAgrees}
 use Rattle.demands.proofs.PaddingAttributes.{part-none, part-of-part, cut-long, part-long}
-use Rattle.demands.proofs.PaddingWalk.{on-whole, JudgedAlike, nest-judged, unlisted-judged, nest-or, same-judged, SlotAgrees, plain-slot, plain-number, walked-same, slot-agrees}
+use Rattle.demands.proofs.PaddingWalk.{JudgedAlike, nest-judged, unlisted-judged, nest-or, same-judged, SlotAgrees, plain-number, walked-same, slot-agrees}
 use Rattle.demands.proofs.PaddingWalk.SlotAgrees.{none, some}
 use Rattle.demands.proofs.PaddingBitset.{bitset-same}
 
@@ -110,20 +100,21 @@ module _ (s t : List ℕ) (size : length s ≡ length t) (roll : List ℕ) (a e 
       go Whole f g q = q refl
       go (At fault at) f g q = refl
 
+-- how the payloads of the top level agree
+abbrev pub topPayloads : List ℕ → List ℕ → Payloads
+topPayloads s t kind start end =
+    NestOf 1 kind (PlainAgrees (partOf s 0 end) (partOf t 0 end) start)
+    (NestOf 2 kind (BitsetAgrees (partOf s 0 end) (partOf t 0 end) start) (SameBytes s t start end))
+
 -- the top level
 module _ (s t : List ℕ) (size : length s ≡ length t) (agree : TopAgrees s t) where
-  abbrev top : Payloads
-  top kind start end =
-      NestOf 1 kind (PlainAgrees (partOf s 0 end) (partOf t 0 end) start)
-      (NestOf 2 kind (BitsetAgrees (partOf s 0 end) (partOf t 0 end) start) (SameBytes s t start end))
-
   -- a bitset is a nest in a SET; in a GET it is not listed
   bitset-judged : (change : Bool) (x y : List ℕ) → JudgedAlike (ruleOf (topPolicy change) 2) x y
   unfolding ruleOf topPolicy
   bitset-judged true x y = nest-judged x y
   bitset-judged false x y = unlisted-judged x y
 
-  top-judged : (change : Bool) (kind start end : ℕ) → top kind start end → JudgedAlike (ruleOf (topPolicy change) kind) (partOf t start end) (partOf s start end)
+  top-judged : (change : Bool) (kind start end : ℕ) → topPayloads s t kind start end → JudgedAlike (ruleOf (topPolicy change) kind) (partOf t start end) (partOf s start end)
   unfolding ruleOf topPolicy
   top-judged change kind start end q =
       let x = partOf t start end in
@@ -133,11 +124,11 @@ module _ (s t : List ℕ) (size : length s ≡ length t) (agree : TopAgrees s t)
 
   pub top-same : (change : Bool) → topOf t change ≡ topOf s change
   unfolding topOf
-  top-same change = rw (walked-same s t size top (topPolicy change) (top-judged change) 20 agree)
+  top-same change = rw (walked-same s t size (topPayloads s t) (topPolicy change) (top-judged change) 20 agree)
 
   -- the nests that are found: a header stands there, and both agree
   module _ (change : Bool) (parts : TopParts) where
-    pub nests-agree : topOf s change ≡ T.Nests parts → SlotAgrees s t top 1 (parts .header) × (parts .header .present ≡ true) × SlotAgrees s t top 2 (parts .bitset)
+    pub nests-agree : topOf s change ≡ T.Nests parts → SlotAgrees s t (topPayloads s t) 1 (parts .header) × (parts .header .present ≡ true) × SlotAgrees s t (topPayloads s t) 2 (parts .bitset)
     unfolding topOf nestsOf topParts
     nests-agree = go (walked (topPolicy change) s 20 .stop) refl
       where
@@ -150,11 +141,11 @@ module _ (s t : List ℕ) (size : length s ≡ length t) (agree : TopAgrees s t)
 
         go : (x : Stop) → walked (topPolicy change) s 20 .stop ≡ x
             → onStop x T.Refused (nestsOf change (topParts (walked (topPolicy change) s 20 .slots))) ≡ T.Nests parts
-            → SlotAgrees s t top 1 (parts .header) × (parts .header .present ≡ true) × SlotAgrees s t top 2 (parts .bitset)
+            → SlotAgrees s t (topPayloads s t) 1 (parts .header) × (parts .header .present ≡ true) × SlotAgrees s t (topPayloads s t) 2 (parts .bitset)
         go (At fault at) w e = absurd (let z : _≡_ {A = ℕ} 0 1 = cc in omega arith)
         go Whole w e =
             let p = topParts (walked (topPolicy change) s 20 .slots) in
-            let slot = slot-agrees s t size top (topPolicy change) 20 agree w in
+            let slot = slot-agrees s t size (topPayloads s t) (topPolicy change) 20 agree w in
             let is = is-it (p .header .present) (change && not (p .bitset .present)) p refl e in
             let same = is .0 in
             (
@@ -164,11 +155,11 @@ module _ (s t : List ℕ) (size : length s ≡ length t) (agree : TopAgrees s t)
             )
 
   -- so the header names the same port, and the bitset reads the same
-  pub named-same : (roll : List ℕ) {slot : Slot} → SlotAgrees s t top 1 slot → slot .present ≡ true → targetOf t slot roll ≡ targetOf s slot roll
+  pub named-same : (roll : List ℕ) {slot : Slot} → SlotAgrees s t (topPayloads s t) 1 slot → slot .present ≡ true → targetOf t slot roll ≡ targetOf s slot roll
   named-same roll none e = absurd (let z : _≡_ {A = ℕ} 0 1 = cc in omega arith)
   named-same roll (some a e l u q) p = target-same s t size roll a e u (q .0 refl)
 
-  pub reading-same : (names : List ℕ) {slot : Slot} → SlotAgrees s t top 2 slot
+  pub reading-same : (names : List ℕ) {slot : Slot} → SlotAgrees s t (topPayloads s t) 2 slot
       → bitsetReading (partOf t 0 (slot .end)) (slot .start) names ≡ bitsetReading (partOf s 0 (slot .end)) (slot .start) names
   reading-same names none = rw (part-none s, part-none t)
   reading-same names (some a e l u q) = bitset-same (partOf s 0 e) (partOf t 0 e) (cut-long s t size e u) names a (q .1 (λ k. omega arith) .0 refl)
