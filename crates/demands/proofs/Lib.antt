@@ -16,3 +16,4 @@ pub mod PaddingWalk
 pub mod PaddingBitset
 pub mod PaddingRequest
 pub mod PaddingMessage
+pub mod Padding

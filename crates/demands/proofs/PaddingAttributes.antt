@@ -5,7 +5,7 @@ use Prim.Native.Nat.{ℕ, zero, suc, _+_, _-_, _≤_, _<_, min}
 use mathlib.Core.Path.{_≡_, refl, sym, ap, _∙_}
 use mathlib.Core.List.{List, []}
 use mathlib.Core.Logic.{⊎-elim}
-use lib.ListN.{length, getD, take, drop, length-take, length-drop}
+use lib.ListN.{length, getD, drop, length-take, length-drop}
 use lib.Seq.{getD-take, getD-drop, ext-getD}
 use native.Mathlib.Omega.{arith}
 use borrow.Author.Tests.{lt-ltb}
@@ -65,7 +65,12 @@ module _ (s t : List ℕ) (size : length s ≡ length t) where
     pub u32-same : (i : ℕ) → a ≤ i → i + 4 ≤ e → u32At t i ≡ u32At s i
     unfolding u32At
     u32-same i h l =
-        rw (byte-same i h (omega arith), byte-same (i + 1) (omega arith) (omega arith), byte-same (i + 2) (omega arith) (omega arith), byte-same (i + 3) (omega arith) (omega arith))
+        rw (
+          byte-same i h (omega arith),
+          byte-same (i + 1) (omega arith) (omega arith),
+          byte-same (i + 2) (omega arith) (omega arith),
+          byte-same (i + 3) (omega arith) (omega arith),
+        )
 
   module _ (payloads : Payloads) where
     abbrev Each : Attributes → Type 0
@@ -91,8 +96,8 @@ module _ (s t : List ℕ) (size : length s ≡ length t) where
         ⊎-elim
         (λ (f : length s < at + 4). rw (← size, lt-ltb _ _ f))
         (λ (f : at + 4 ≤ length s).
-        let same = header-same at (attributeAt s at) (bounded s at) f q in
-        rw (← size, u16-same at (at + 4) (omega arith) f same at (omega arith) (omega arith), u16-same at (at + 4) (omega arith) f same (at + 2) (omega arith) (omega arith)))
+        let u16 = u16-same at (at + 4) (omega arith) f (header-same at (attributeAt s at) (bounded s at) f q) in
+        rw (← size, u16 at (omega arith) (omega arith), u16 (at + 2) (omega arith) (omega arith)))
         (lt-or-ge (length s) (at + 4))
 
     -- as far as what follows agrees

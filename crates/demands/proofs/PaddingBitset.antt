@@ -3,7 +3,7 @@
 --     list-same          a bit list: BITS walked whole, then each BIT
 --     compact-same       a compact bitset
 --     bitset-same        the bitset
-use Prim.Native.Nat.{ℕ, zero, suc, _-_, _≤_}
+use Prim.Native.Nat.{ℕ, zero, suc, _-_}
 use mathlib.Core.Path.{_≡_, refl, sym, ap, _∙_}
 use mathlib.Core.List.{List}
 use mathlib.Core.Bool.{Bool}
@@ -15,13 +15,12 @@ use Rattle.netlink_attributes.specs.Attributes.Attributes.{done, broken, attrib
 use Rattle.netlink_attributes.specs.Claims.{Apart}
 use Rattle.netlink_attributes.proofs.Apart.{apart}
 use Rattle.netlink.specs.Policy.{ruleOf, judged}
-use Rattle.netlink.specs.Walk.{absent, found, walked, firstFault, slotNumber}
+use Rattle.netlink.specs.Walk.{walked}
 use Rattle.netlink.specs.Claims.{Passed}
-use Rattle.netlink.specs.Claims.Passed.{here, next}
+use Rattle.netlink.specs.Claims.Passed.{next}
 use Rattle.netlink.specs.declared.policy.Verdict.the-variants.{Right}
 use Rattle.netlink.specs.declared.walk.Slot.{Slot}
-use Rattle.netlink.specs.declared.walk.Stop.{Stop}
-use Rattle.netlink.specs.declared.walk.Stop.the-variants.{Whole, At}
+use Rattle.netlink.specs.declared.walk.Stop.the-variants.{Whole}
 use Rattle.netlink.specs.declared.walk.Walked.{Walked}
 use Rattle.netlink.proofs.walk.Meaning.{whole-passed, stop-is}
 use Rattle.refusal.specs.Refusal.{onStop, onWalk}
@@ -35,7 +34,7 @@ use Rattle.bitset_bit.specs.Bit.{bitByIndex, bitByName, identified, bitPartsRea
 use Rattle.bitset_bit.specs.declared.BitRead.{BitRead}
 use Rattle.bitset_bit.specs.declared.BitRead.the-variants as B
 use Rattle.bitset_bit.proofs.Laws.{by-walk}
-use Rattle.bitset_list.specs.BitList.{onBit, bitsReading, asBitset, listReading}
+use Rattle.bitset_list.specs.BitList.{bitsReading, asBitset, listReading}
 use Rattle.bitset_compact.specs.Compact.{nomaskReading, maskedReading, compactReading}
 use Rattle.bitset.specs.Judge.{bitsetPartsReading, bitsetReading}
 use Rattle.demands.specs.Padding.{SameBytes, Payloads, EachAgrees, NestOf, PlainAgrees, BitsAgree, BitsetAgrees}
@@ -60,10 +59,11 @@ module _ (s t : List ℕ) (size : length s ≡ length t) (names : List ℕ) (fro
   unfolding bitParts
   bit-same =
       let w = walked bitPolicy s from in
+      let read : List ℕ → List Slot → BitRead = λ m slots. bitPartsReading m names (from - 4) (bitParts slots) in
       by-walk t names from
-      ∙ ap (λ (x : Walked). onWalk x B.Refused (λ slots. bitPartsReading t names (from - 4) (bitParts slots)))
+      ∙ ap (λ (x : Walked). onWalk x B.Refused (read t))
       (walked-same s t size plain bitPolicy (λ kind start end q. same-judged s t (ruleOf bitPolicy kind) start end q) from agree)
-      ∙ on-whole w B.Refused (λ slots. bitPartsReading t names (from - 4) (bitParts slots)) (λ slots. bitPartsReading s names (from - 4) (bitParts slots))
+      ∙ on-whole w B.Refused (read t) (read s)
       (λ (whole : w .stop ≡ Whole).
       let slot = slot-agrees s t size plain bitPolicy from agree whole in
       bit-parts-same (from - 4) (bitParts (w .slots)) (slot 1 (omega arith)) (slot 2 (omega arith)))
@@ -103,14 +103,17 @@ module _ (s t : List ℕ) (size : length s ≡ length t) (names : List ℕ) wher
   bits-same at done a p q = refl
   bits-same at (broken b) a p q = refl
   bits-same at (attribute k b start end rest) a (next right p) q =
-      rw (bit-same (partOf s 0 end) (partOf t 0 end) (cut-long s t size end (a .3)) names start (q .1 .0 (bits-kind k b (partOf s start end) right)),
-      bits-same (a .5 .0) rest (a .5 .3) p (q .2))
+      rw (
+        bit-same (partOf s 0 end) (partOf t 0 end) (cut-long s t size end (a .3)) names start (q .1 .0 (bits-kind k b (partOf s start end) right)),
+        bits-same (a .5 .0) rest (a .5 .3) p (q .2),
+      )
 
   list-at-same : (nomask : Bool) (from : ℕ) → BitsAgree s t from → listAt names nomask t from ≡ listAt names nomask s from
   list-at-same nomask from agree =
       let w = walked bitsPolicy s from in
-      ap (λ (x : Walked). onStop (x .stop) refused (asBitset nomask (bitsReading t names (attributes t from)))) (walked-same s t size bits bitsPolicy bits-judged from agree)
-      ∙ on-whole w refused (λ slots. asBitset nomask (bitsReading t names (attributes t from))) (λ slots. asBitset nomask (bitsReading s names (attributes s from)))
+      let read : List ℕ → Reading = λ m. asBitset nomask (bitsReading m names (attributes m from)) in
+      ap (λ (x : Walked). onStop (x .stop) refused (read t)) (walked-same s t size bits bitsPolicy bits-judged from agree)
+      ∙ on-whole w refused (λ slots. read t) (λ slots. read s)
       (λ (whole : w .stop ≡ Whole).
       let passed = whole-passed bitsPolicy s (attributes s from) (sym (stop-is bitsPolicy s from) ∙ whole) in
       ap (λ (xs : Attributes). asBitset nomask (bitsReading t names xs)) (attributes-same s t size bits from agree)
@@ -152,8 +155,9 @@ module _ (s t : List ℕ) (size : length s ≡ length t) (names : List ℕ) wher
   unfolding bitsetReading bitsetPartsReading bitsetParts
   bitset-same from agree =
       let w = walked bitsetPolicy s from in
-      ap (λ (x : Walked). onWalk x refused (λ slots. bitsetPartsReading t (from - 4) names (bitsetParts slots))) (walked-same s t size nested bitsetPolicy bitset-judged from agree)
-      ∙ on-whole w refused (λ slots. bitsetPartsReading t (from - 4) names (bitsetParts slots)) (λ slots. bitsetPartsReading s (from - 4) names (bitsetParts slots))
+      let read : List ℕ → List Slot → Reading = λ m slots. bitsetPartsReading m (from - 4) names (bitsetParts slots) in
+      ap (λ (x : Walked). onWalk x refused (read t)) (walked-same s t size nested bitsetPolicy bitset-judged from agree)
+      ∙ on-whole w refused (read t) (read s)
       (λ (whole : w .stop ≡ Whole).
       let slot = slot-agrees s t size nested bitsetPolicy from agree whole in
       let p = bitsetParts (w .slots) in

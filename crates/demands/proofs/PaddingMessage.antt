@@ -5,7 +5,6 @@
 use Prim.Native.Nat.{ℕ, _+_, _-_, _≤_, _<_, min}
 use mathlib.Core.Path.{_≡_, refl, sym, ap, _∙_}
 use mathlib.Core.List.{List}
-use mathlib.Core.Bool.{Bool, true, false}
 use mathlib.Core.Logic.{⊎-elim}
 use lib.ListN.{length, getD, take}
 use lib.Seq.{getD-take, take-take, take-all}
@@ -39,7 +38,7 @@ use Rattle.request.specs.declared.target.TargetRead.{TargetRead}
 use Rattle.request.specs.declared.target.TargetRead.the-variants as G
 use Rattle.request.specs.declared.top.Top.{Top}
 use Rattle.request.specs.declared.top.Top.the-variants as T
-use Rattle.response.specs.Answer.{Outcome, ackBytes, errorResponse, unchanged}
+use Rattle.response.specs.Answer.{ackBytes, errorResponse, unchanged}
 use Rattle.execute.specs.declared.Request.{Request}
 use Rattle.execute.specs.Execute.{requestOf, replyAndAck, getBytes, readingOutcome, setOutcome, portOutcome, targetOutcome, headerOutcome, topOutcome, requestOutcome}
 use Rattle.handler.specs.Call.{onAdmission, messageOutcome}
@@ -110,7 +109,8 @@ module _ (s t : List ℕ) (agree : MessagesAgree s t) where
     unfolding getBytes replyAndAck
     get-same target = rw (ack-same (request .header))
 
-    header-same : (parts : TopParts) → topOf s (request .command .change) ≡ T.Nests parts → headerOutcome box state t request parts ≡ headerOutcome box state s request parts
+    header-same : (parts : TopParts) → topOf s (request .command .change) ≡ T.Nests parts
+        → headerOutcome box state t request parts ≡ headerOutcome box state s request parts
     unfolding headerOutcome portOutcome
     header-same parts e =
         let nests = nests-agree s t (agree .size) (agree .attributes-agree) (request .command .change) parts e in
@@ -119,14 +119,16 @@ module _ (s t : List ℕ) (agree : MessagesAgree s t) where
         ∙ go (nests .2) (targetOf s (parts .header) (box .roll))
       where
         go : SlotAgrees s t (topPayloads s t) 2 (parts .bitset) → (x : TargetRead)
-            → targetOutcome x state t request (portOutcome box state t request (parts .bitset)) ≡ targetOutcome x state s request (portOutcome box state s request (parts .bitset))
+            → targetOutcome x state t request (portOutcome box state t request (parts .bitset))
+            ≡ targetOutcome x state s request (portOutcome box state s request (parts .bitset))
         go a (G.Refused why) = refusal-same state (request .next) why
         go a (G.Port target) = rw (set-same (parts .bitset) (target .position) a, get-same target)
 
     pub request-same : requestOutcome box state t request ≡ requestOutcome box state s request
     unfolding requestOutcome
     request-same =
-        ap (λ (x : Top). topOutcome x state t request (headerOutcome box state t request)) (top-same s t (agree .size) (agree .attributes-agree) (request .command .change))
+        ap (λ (x : Top). topOutcome x state t request (headerOutcome box state t request))
+        (top-same s t (agree .size) (agree .attributes-agree) (request .command .change))
         ∙ go (topOf s (request .command .change)) refl
       where
         go : (x : Top) → topOf s (request .command .change) ≡ x

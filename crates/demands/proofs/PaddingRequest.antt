@@ -58,9 +58,12 @@ module _ (s t roll : List ℕ) (header : Slot) (p : HeaderParts)
       rw (plain-number s t (p .flags) flags)
       (go (not (p .index .present || p .name .present)) (ltb 3 (slotNumber s (p .flags))))
     where
+      number : ℕ
+      number = slotNumber s (p .flags)
+
       go : (a b : Bool)
-          → onHeader (cond a (H.Refused (R.NoPort nest)) (cond b (H.Refused (R.HeaderFlag (p .flags .start - 4))) (H.Parts p (slotNumber s (p .flags))))) (named t header roll)
-          ≡ onHeader (cond a (H.Refused (R.NoPort nest)) (cond b (H.Refused (R.HeaderFlag (p .flags .start - 4))) (H.Parts p (slotNumber s (p .flags))))) (named s header roll)
+          → onHeader (cond a (H.Refused (R.NoPort nest)) (cond b (H.Refused (R.HeaderFlag (p .flags .start - 4))) (H.Parts p number))) (named t header roll)
+          ≡ onHeader (cond a (H.Refused (R.NoPort nest)) (cond b (H.Refused (R.HeaderFlag (p .flags .start - 4))) (H.Parts p number))) (named s header roll)
       go true b = refl
       go false true = refl
       go false false = ap (λ (x : PortRead). withFlags x (slotNumber s (p .flags))) port-same
@@ -93,7 +96,8 @@ module _ (s t : List ℕ) (size : length s ≡ length t) (roll : List ℕ) (a e 
       ∙ go (w .stop) (partsOf t (a - 4) (headerParts (w .slots))) (partsOf s (a - 4) (headerParts (w .slots)))
       (λ (whole : w .stop ≡ Whole).
       let slot = slot-agrees c d (cut-long s t size e inside) plain headerPolicy a agree whole in
-      parts-same s t roll (found a e) (headerParts (w .slots)) (in-message (slot 1 (omega arith))) (in-message (slot 2 (omega arith))) (in-message (slot 3 (omega arith))) (a - 4))
+      parts-same s t roll (found a e) (headerParts (w .slots))
+      (in-message (slot 1 (omega arith))) (in-message (slot 2 (omega arith))) (in-message (slot 3 (omega arith))) (a - 4))
     where
       go : (x : Stop) (f g : Header) → (x ≡ Whole → onHeader f (named t (found a e) roll) ≡ onHeader g (named s (found a e) roll))
           → onHeader (onStop x H.Refused f) (named t (found a e) roll) ≡ onHeader (onStop x H.Refused g) (named s (found a e) roll)
@@ -114,7 +118,8 @@ module _ (s t : List ℕ) (size : length s ≡ length t) (agree : TopAgrees s t)
   bitset-judged true x y = nest-judged x y
   bitset-judged false x y = unlisted-judged x y
 
-  top-judged : (change : Bool) (kind start end : ℕ) → topPayloads s t kind start end → JudgedAlike (ruleOf (topPolicy change) kind) (partOf t start end) (partOf s start end)
+  top-judged : (change : Bool) (kind start end : ℕ) → topPayloads s t kind start end
+      → JudgedAlike (ruleOf (topPolicy change) kind) (partOf t start end) (partOf s start end)
   unfolding ruleOf topPolicy
   top-judged change kind start end q =
       let x = partOf t start end in
@@ -128,7 +133,8 @@ module _ (s t : List ℕ) (size : length s ≡ length t) (agree : TopAgrees s t)
 
   -- the nests that are found: a header stands there, and both agree
   module _ (change : Bool) (parts : TopParts) where
-    pub nests-agree : topOf s change ≡ T.Nests parts → SlotAgrees s t (topPayloads s t) 1 (parts .header) × (parts .header .present ≡ true) × SlotAgrees s t (topPayloads s t) 2 (parts .bitset)
+    pub nests-agree : topOf s change ≡ T.Nests parts
+        → SlotAgrees s t (topPayloads s t) 1 (parts .header) × (parts .header .present ≡ true) × SlotAgrees s t (topPayloads s t) 2 (parts .bitset)
     unfolding topOf nestsOf topParts
     nests-agree = go (walked (topPolicy change) s 20 .stop) refl
       where
@@ -147,8 +153,7 @@ module _ (s t : List ℕ) (size : length s ≡ length t) (agree : TopAgrees s t)
             let p = topParts (walked (topPolicy change) s 20 .slots) in
             let slot = slot-agrees s t size (topPayloads s t) (topPolicy change) 20 agree w in
             let is = is-it (p .header .present) (change && not (p .bitset .present)) p refl e in
-            let same = is .0 in
-            (
+            let same = is .0 in (
               rw (ap (λ (q : TopParts). q .header) same) at (slot 1 (omega arith)),
               rw (ap (λ (q : TopParts). q .header) same) at (is .1),
               rw (ap (λ (q : TopParts). q .bitset) same) at (slot 2 (omega arith)),
