@@ -16,3 +16,9 @@ pub mod Normaliser
 pub mod Parts
 pub mod StoredBox
 pub mod Stored
+pub mod PaddingAttributes
+pub mod PaddingWalk
+pub mod PaddingBitset
+pub mod PaddingRequest
+pub mod PaddingMessage
+pub mod Padding

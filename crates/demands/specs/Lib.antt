@@ -10,3 +10,4 @@ pub mod Done
 pub mod Normaliser
 pub mod Parts
 pub mod Stored
+pub mod Padding
