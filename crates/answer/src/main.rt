@@ -1,13 +1,16 @@
 // The program of document 01: standard input is one datagram, the answers go to standard output.
 ghost use mathlib.Core.Path.{_≡_};
-ghost use lib.ListN.{length};
+ghost use lib.ListN.{length, take, replicate};
+ghost use Rattle.io.specs.Counts.{Counts};
 ghost use Rattle.response.specs.Answer.{Performs};
 ghost use Rattle.boxes.specs.Box.{boxOf, stateOf};
 ghost use Rattle.answer.specs.Box.{programBox, firstState};
 ghost use Rattle.answer.specs.Run.{call, goesOn, answers};
 
+mod input;
 mod output;
 
+use crate::input::Filled;
 use crate::output::Written;
 use boxes::Call;
 use handler::call::handle;
@@ -93,9 +96,19 @@ fn answer_datagram(datagram: &[u8], page: &mut [u8; 32768]) -> Written
     answer_all(roll, &debug, &flags, &mut settings, datagram, page)
 }
 
+// The same for the bytes that a read put at the front of the input. Where it filled the input, the datagram may be cut: nothing is written.
+fn answer_input(input: &[u8], filled: Filled, page: &mut [u8; 32768]) -> Written
+    requires { ⌜ (length (now input) ≡ 32769) × Counts (filled .count) (now input) × (now page ≡ replicate 32768 0) ⌝ }
+    ensures { λ r. ⌜ r .count ≡ length (answers (take (filled .count) (now (input .entry)))) ⌝ }
+    ensures { λ r. ⌜ (filled .count ≡ length (now (input .entry)) → r .count ≡ 0) ⌝ }
+{
+    let n = filled.count();
+    answer_datagram(&input[..n], page)
+}
+
 fn main() {
-    let mut datagram = [0u8; INPUT];
+    let mut input = [0u8; INPUT];
     let mut page = [0u8; PAGE];
-    let n = io::read_full(0, &mut datagram);
-    answer_datagram(&datagram[..n], &mut page);
+    let filled = Filled::read(&mut input);
+    answer_input(&input, filled, &mut page);
 }

@@ -20,17 +20,18 @@ use Rattle.netlink_attributes.specs.Attributes.{partOf}
 use Rattle.netlink_attributes.proofs.Laws.{part-in}
 use Rattle.refusal.specs.Refusal.{numberOf}
 use Rattle.refusal.specs.declared.Refusal.{Refusal}
+use Rattle.refusal.proofs.Table.{number-above}
 use Rattle.refusal.specs.declared.Refusal.the-variants.{Box, Page, Datagram, Length, Family, Short, Command, Dump, Permission, Broken, Unlisted, Payload, MissingTop, MissingIn, NoPort, HeaderFlag, UnknownPort, OtherName, Mixed, ShortBitmap, PastLength, UnknownBit, NoBit}
 use Rattle.bitset_form.specs.Bitset.{Bitset, Reading}
 use Rattle.bitset_form.specs.Bitset.Reading.{refused, accepted}
 use Rattle.bitset.specs.Judge.{bitsetReading}
 use Rattle.normal.specs.Normal.{NormalAnswer, normalForm, readingAnswer, normalised}
 use Rattle.normal.specs.Claims.{ActAlike}
-use Rattle.normal.proofs.Demand3.{forms-decide}
+use Rattle.normal.proofs.Accepted.{readings-decide}
 use Rattle.bitset_moved.specs.Moved.{moved, movedReading}
 use Rattle.bitset_moved.proofs.Bitset.{reading-moved}
 
--- a number says nothing of a place, and none is 0
+-- a number says nothing of a place
 pub number-kept : (by : ℕ) (why : Refusal) → numberOf (moved by why) ≡ numberOf why
 number-kept by Box = refl
 number-kept by Page = refl
@@ -55,31 +56,6 @@ number-kept by (ShortBitmap at) = refl
 number-kept by (PastLength at) = refl
 number-kept by (UnknownBit at) = refl
 number-kept by (NoBit at) = refl
-
-number-above : (why : Refusal) → 0 < numberOf why
-number-above Box = omega arith
-number-above Page = omega arith
-number-above Datagram = omega arith
-number-above Length = omega arith
-number-above Family = omega arith
-number-above Short = omega arith
-number-above Command = omega arith
-number-above Dump = omega arith
-number-above Permission = omega arith
-number-above (Broken at) = omega arith
-number-above (Unlisted at) = omega arith
-number-above (Payload at) = omega arith
-number-above (MissingTop kind) = omega arith
-number-above (MissingIn kind nest) = omega arith
-number-above (NoPort at) = omega arith
-number-above (HeaderFlag at) = omega arith
-number-above (UnknownPort at) = omega arith
-number-above (OtherName at) = omega arith
-number-above (Mixed at) = omega arith
-number-above (ShortBitmap at) = omega arith
-number-above (PastLength at) = omega arith
-number-above (UnknownBit at) = omega arith
-number-above (NoBit at) = omega arith
 
 -- so the normaliser's answer is the same wherever the contents stand
 answer-kept : (by n : ℕ) (x : Reading) → readingAnswer (movedReading by x) n ≡ readingAnswer x n
@@ -156,7 +132,7 @@ module _ (names : List ℕ) (right : namesRight names ≡ true) (room : ℕ) (pa
   pub alike-exactly : (ActAlike (count names) b c → normalised (partOf m start end) names room .bytes ≡ normalised (partOf m′ start′ end′) names room .bytes)
       × (normalised (partOf m start end) names room .bytes ≡ normalised (partOf m′ start′ end′) names room .bytes → ActAlike (count names) b c)
   alike-exactly =
-      let decide = forms-decide names right (partOf m start end) (partOf m′ start′ end′) b c (accepted-alone m names start end order inside b ok) (accepted-alone m′ names start′ end′ order′ inside′ c ok′) in
+      let decide = readings-decide names right (partOf m start end) (partOf m′ start′ end′) b c (accepted-alone m names start end order inside b ok) (accepted-alone m′ names start′ end′ order′ inside′ c ok′) in
       let first : normalised (partOf m start end) names room .bytes ≡ normalForm (count names) b =
       ap (λ (o : NormalAnswer). o .bytes) (both-accept m names start end order inside right room page short b ok) in
       let second : normalised (partOf m′ start′ end′) names room .bytes ≡ normalForm (count names) c =

@@ -2,6 +2,8 @@ pub mod First
 pub mod Bitset
 pub mod Request
 pub mod Exact
+pub mod Rows
+pub mod NormalChecks
 pub mod Late
 pub mod Named
 pub mod Message

@@ -1,5 +1,6 @@
 pub mod Check
 pub mod Bitset
+pub mod NormalChecks
 pub mod Request
 pub mod Call
 pub mod Answer

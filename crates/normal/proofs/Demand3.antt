@@ -1,131 +1,140 @@
--- The theorems of demand 3, for every set length N and every name list that document 01 allows.
---     keeps-effect       the form has the effect of the bitset, on every starting set
---     forms-decide       two accepted bitsets change every starting set alike exactly when their normal forms are equal bytes
---     form-accepted      a normal form is itself accepted, and acts as the original
---     form-stable        normalising a normal form gives the same bytes
---     form-exact         what the normaliser writes: SIZE N, VALUE W words, MASK W words, of the mask and value that document 01 gives
---     refused-unwritten  a refused bitset writes nothing, and its number is the first refusal in order
-use Prim.Native.Nat.{ℕ, _*_, _≤_, _<_}
-use mathlib.Core.Path.{_≡_, refl, sym, ap, ap₂, _∙_}
-use mathlib.Core.List.{List, [], _++_}
-use mathlib.Core.Bool.{Bool, true, false, _&&_}
-use lib.ListN.{length, length-append}
+-- The theorems of demand 3, for every set length N, every name list that document 01 allows and every contents, of what the normaliser answers.
+--     accepted-exactly   it answers 0 exactly where the list is right, the page has 144 bytes and the contents, at most 32,768 bytes, read as a bitset
+--     accepted-writes    and then it writes the normal form of that bitset
+--     form-exact         what it writes: SIZE N, VALUE W words, MASK W words, of the mask and the value that document 01 gives
+--     form-accepted      what it writes is itself accepted
+--     form-stable        and normalising it gives the same bytes
+--     keeps-effect       what it writes makes of every starting set what the original makes of it
+--     forms-decide       two accepted contents change every starting set alike exactly when the same bytes are written of both
+--     refused-unwritten  what is not answered by 0 writes nothing
+--     refused-reading    a bitset that is refused in its reading is answered by that refusal's number
+use Prim.Native.Nat.{ℕ, _≤_, _<_}
+use mathlib.Core.Path.{_≡_, refl, sym, ap, _∙_}
+use mathlib.Core.List.{List, []}
+use mathlib.Core.Bool.{Bool, true, false, not, cond}
+use lib.ListN.{length}
 use lib.Dec.{ltb}
 use native.Mathlib.Omega.{arith}
-use borrow.Author.Tests.{le-ltb, ltb-false}
-use Rattle.basics.specs.Numbers.{le32}
-use Rattle.bits.specs.Set.{has, wordsOf, wordsFor}
-use Rattle.word_bytes.specs.Bytes.{bytesOf}
-use Rattle.bits.specs.Change.{Same, Below, merge}
-use Rattle.bits.proofs.Words.{length-wordsOf, has-wordsOf, wordsOf-cong}
-use Rattle.word_bytes.proofs.WordBytes.{length-bytesOf}
+use borrow.Author.Tests.{le-ltb, ltb-false, not-false}
 use Rattle.entries.specs.Entry.{count}
 use Rattle.names.specs.Rule.{namesRight}
-use Rattle.names.proofs.Rules.{right-means}
-use Rattle.netlink_write.specs.Attributes.{attr}
-use Rattle.netlink_write.proofs.attributes.Laws.{length-attr}
 use Rattle.refusal.specs.Refusal.{numberOf}
 use Rattle.refusal.specs.declared.Refusal.{Refusal}
-use Rattle.bitset_form.specs.Bitset.{Bitset, effect, maskOf, valueOf}
-use Rattle.bitset_form.specs.Bitset.Bitset.{maskedBitmap}
+use Rattle.refusal.specs.declared.Refusal.the-variants.{Box, Page, Datagram}
+use Rattle.refusal.proofs.Table.{number-above}
+use Rattle.bitset_form.specs.Bitset.{Bitset, Reading, effect}
 use Rattle.bitset_form.specs.Bitset.Reading.{refused, accepted}
 use Rattle.bitset.specs.Judge.{bitsetReading}
-use Rattle.bitset_write.specs.Form.{partsBytes}
-use Rattle.normal.specs.Normal.{normalForm, normalised}
-use Rattle.normal.specs.Fits.{Fits}
-use Rattle.normal.specs.Claims.{ActAlike}
-use Rattle.normal.proofs.Effect.{form-keeps-effect, mask-below, value-within}
-use Rattle.normal.proofs.Fits.{accepted-fits}
-use Rattle.normal.proofs.Forms.{normal-bytes, alike-forms, forms-alike}
-use Rattle.normal.proofs.Stable.{parts-accepted}
+use Rattle.normal.specs.Normal.{NormalAnswer, normalForm, refusedBy, readingAnswer, normalised}
+use Rattle.normal.specs.Claims.{ActAlike, NormalBytes, Accepts}
+use Rattle.normal.proofs.Accepted.{normalOf, form-bytes, form-read, form-alike, form-again, readings-decide}
 
--- the bitset that the normal form of b is
-normalOf : ℕ → Bitset → Bitset
-normalOf n b = maskedBitmap n (has (wordsOf (wordsFor n) (valueOf b))) (has (wordsOf (wordsFor n) (maskOf n b)))
+-- of any contents, list and page
+module _ (contents names : List ℕ) (room : ℕ) where
+  abbrev answer : NormalAnswer
+  answer = normalised contents names room
 
-module _ (names : List ℕ) (right : namesRight names ≡ true) where
-  few : count names ≤ 512
-  few = right-means names right .few
+  abbrev tests : Bool → Bool → Bool → Reading → NormalAnswer
+  tests a p l x = cond a (refusedBy Box) (cond p (refusedBy Page) (cond l (refusedBy Datagram) (readingAnswer x (count names))))
 
-  module _ (contents : List ℕ) (b : Bitset) (ok : bitsetReading contents 0 names ≡ accepted b) where
-    fits : Fits (count names) b
-    fits = accepted-fits contents 0 names b ok
-
-    pub keeps-effect : (s : ℕ → Bool) → Below (count names) s → Same (effect b s) (merge (maskOf (count names) b) (valueOf b) s)
-    keeps-effect = form-keeps-effect (count names) b fits
-
-    pub form-exact : normalForm (count names) b
-        ≡ attr 2 (le32 (count names))
-        ++ (attr 4 (bytesOf (wordsOf (wordsFor (count names)) (valueOf b))) ++ attr 5 (bytesOf (wordsOf (wordsFor (count names)) (maskOf (count names) b))))
-    unfolding partsBytes
-    form-exact = normal-bytes (count names) b few
-
-    form-read : bitsetReading (normalForm (count names) b) 0 names ≡ accepted (normalOf (count names) b)
-    unfolding normalOf
-    form-read =
-        ap (λ (l : List ℕ). bitsetReading l 0 names) (normal-bytes (count names) b few)
-        ∙ parts-accepted names right (valueOf b) (maskOf (count names) b)
-
-    same-mask : (i : ℕ) → i < wordsFor (count names) * 32 → maskOf (count names) (normalOf (count names) b) i ≡ maskOf (count names) b i
-    unfolding maskOf normalOf
-    same-mask i l =
-        ap (λ (t : Bool). ltb i (count names) && t) (has-wordsOf (wordsFor (count names)) (maskOf (count names) b) i l)
-        ∙ go (ltb i (count names)) refl
-      where
-        go : (t : Bool) → ltb i (count names) ≡ t → t && maskOf (count names) b i ≡ maskOf (count names) b i
-        go true e = refl
-        go false e = sym (mask-below (count names) b fits i (ltb-false i (count names) e))
-
-    same-value : (i : ℕ) → i < wordsFor (count names) * 32 → valueOf (normalOf (count names) b) i ≡ valueOf b i
-    unfolding valueOf normalOf
-    same-value i l =
-        ap₂ (λ (x y : Bool). ltb i (count names) && (x && y)) (has-wordsOf (wordsFor (count names)) (maskOf (count names) b) i l)
-        (has-wordsOf (wordsFor (count names)) (valueOf b) i l)
-        ∙ go (ltb i (count names)) (maskOf (count names) b i) (valueOf b i) refl (value-within (count names) b fits i)
-        (λ (e : ltb i (count names) ≡ false). value-within (count names) b fits i (mask-below (count names) b fits i (ltb-false i (count names) e)))
-      where
-        go : (t m v : Bool) → ltb i (count names) ≡ t → (m ≡ false → v ≡ false) → (ltb i (count names) ≡ false → v ≡ false) → t && (m && v) ≡ v
-        go true true v e h g = refl
-        go true false v e h g = sym (h refl)
-        go false m v e h g = sym (g e)
-
-    same-form : normalForm (count names) (normalOf (count names) b) ≡ normalForm (count names) b
-    same-form =
-        normal-bytes (count names) (normalOf (count names) b) few
-        ∙ ap₂ (partsBytes (count names)) (wordsOf-cong (wordsFor (count names)) _ _ same-value) (wordsOf-cong (wordsFor (count names)) _ _ same-mask)
-        ∙ sym (normal-bytes (count names) b few)
-
-    pub form-accepted : (c : Bitset) × (bitsetReading (normalForm (count names) b) 0 names ≡ accepted c) × ActAlike (count names) c b
-    form-accepted = (
-      normalOf (count names) b,
-      form-read,
-      forms-alike (count names) few (normalOf (count names) b) b (accepted-fits (normalForm (count names) b) 0 names (normalOf (count names) b) form-read) fits same-form,
-    )
-
-    short : length (normalForm (count names) b) ≤ 32768
-    short =
-        let v = wordsOf (wordsFor (count names)) (valueOf b) in
-        let m = wordsOf (wordsFor (count names)) (maskOf (count names) b) in
-        let k = few in
-        omega
-        (arith, ap length form-exact, length-append (attr 2 (le32 (count names))) (attr 4 (bytesOf v) ++ attr 5 (bytesOf m)), length-append (attr 4 (bytesOf v)) (attr 5 (bytesOf m)), length-attr 2 (le32 (count names)), length-attr 4 (bytesOf v), length-attr 5 (bytesOf m), length-bytesOf v, length-bytesOf m, length-wordsOf (wordsFor (count names)) (valueOf b), length-wordsOf (wordsFor (count names)) (maskOf (count names) b))
-
-    pub form-stable : (room : ℕ) → 144 ≤ room → normalised (normalForm (count names) b) names room ≡ record { number = 0; bytes = normalForm (count names) b }
-    unfolding normalised
-    form-stable room h =
-        rw (right, le-ltb room 144 h, le-ltb 32768 (length (normalForm (count names) b)) short, form-read)
-        (ap (λ (l : List ℕ). record { number = 0; bytes = l }) same-form)
-
-  -- of two accepted bitsets
-  module _ (x y : List ℕ) (b c : Bitset) (okb : bitsetReading x 0 names ≡ accepted b) (okc : bitsetReading y 0 names ≡ accepted c) where
-    pub forms-decide : (ActAlike (count names) b c → normalForm (count names) b ≡ normalForm (count names) c)
-        × (normalForm (count names) b ≡ normalForm (count names) c → ActAlike (count names) b c)
-    forms-decide =
-        let fb = accepted-fits x 0 names b okb in
-        let fc = accepted-fits y 0 names c okc in
-        (alike-forms (count names) few b c fb fc, forms-alike (count names) few b c fb fc)
-
-  pub refused-unwritten : (contents : List ℕ) (room : ℕ) (r : Refusal) → 144 ≤ room → length contents ≤ 32768 → bitsetReading contents 0 names ≡ refused r
-      → normalised contents names room ≡ record { number = numberOf r; bytes = [] }
+  pub accepted-writes : (a : Accepts contents names room) → answer ≡ record { number = 0; bytes = normalForm (count names) (a .bitset) }
   unfolding normalised
-  refused-unwritten contents room r h l e = rw (right, le-ltb room 144 h, le-ltb 32768 (length contents) l, e)
+  accepted-writes a = rw (a .right, le-ltb room 144 (a .page), le-ltb 32768 (length contents) (a .short), a .reads)
+
+  pub accepted-exactly : (answer .number ≡ 0 → Accepts contents names room) × (Accepts contents names room → answer .number ≡ 0)
+  unfolding normalised
+  accepted-exactly = (
+    go (not (namesRight names)) (ltb room 144) (ltb 32768 (length contents)) (bitsetReading contents 0 names) refl refl refl refl,
+    λ a. ap (λ (o : NormalAnswer). o .number) (accepted-writes a),
+  )
+    where
+      go : (a p l : Bool) (x : Reading) → not (namesRight names) ≡ a → ltb room 144 ≡ p → ltb 32768 (length contents) ≡ l
+          → bitsetReading contents 0 names ≡ x → tests a p l x .number ≡ 0 → Accepts contents names room
+      go true p l x ea ep el ex z = absurd (omega (arith, z))
+      go false true l x ea ep el ex z = absurd (omega (arith, z))
+      go false false true x ea ep el ex z = absurd (omega (arith, z))
+      go false false false (refused why) ea ep el ex z = absurd (omega (arith, z, number-above why))
+      go false false false (accepted b) ea ep el ex z = record {
+        right = not-false (namesRight names) ea;
+        page = ltb-false room 144 ep;
+        short = ltb-false 32768 (length contents) el;
+        bitset = b;
+        reads = ex;
+      }
+
+  pub refused-unwritten : 0 < answer .number → answer .bytes ≡ []
+  unfolding normalised
+  refused-unwritten = go (not (namesRight names)) (ltb room 144) (ltb 32768 (length contents)) (bitsetReading contents 0 names)
+    where
+      go : (a p l : Bool) (x : Reading) → 0 < tests a p l x .number → tests a p l x .bytes ≡ []
+      go true p l x h = refl
+      go false true l x h = refl
+      go false false true x h = refl
+      go false false false (refused why) h = refl
+      go false false false (accepted b) h = absurd (omega (arith, h))
+
+  pub refused-reading : namesRight names ≡ true → 144 ≤ room → length contents ≤ 32768 → (why : Refusal)
+      → bitsetReading contents 0 names ≡ refused why → answer ≡ record { number = numberOf why; bytes = [] }
+  unfolding normalised
+  refused-reading right page short why e = rw (right, le-ltb room 144 page, le-ltb 32768 (length contents) short, e)
+
+-- the bitset that contents are which are answered by 0
+abbrev pub bitsetOf : (contents names : List ℕ) (room : ℕ) → normalised contents names room .number ≡ 0 → Bitset
+bitsetOf contents names room zero = accepted-exactly contents names room .0 zero .bitset
+
+-- of contents that are answered by 0
+module _ (contents names : List ℕ) (room : ℕ) (zero : normalised contents names room .number ≡ 0) where
+  abbrev given : Accepts contents names room
+  given = accepted-exactly contents names room .0 zero
+
+  abbrev written : List ℕ
+  written = normalised contents names room .bytes
+
+  written-is : written ≡ normalForm (count names) (given .bitset)
+  written-is = ap (λ (o : NormalAnswer). o .bytes) (accepted-writes contents names room given)
+
+  pub form-exact : NormalBytes (count names) (bitsetOf contents names room zero) written
+  form-exact = rw written-is (form-bytes names (given .right) contents (given .bitset) (given .reads))
+
+  pub form-stable : (page : ℕ) → 144 ≤ page → normalised written names page ≡ normalised contents names room
+  form-stable page wide =
+      ap (λ (l : List ℕ). normalised l names page) written-is
+      ∙ form-again names (given .right) contents (given .bitset) (given .reads) page wide
+      ∙ sym (accepted-writes contents names room given)
+
+  pub form-accepted : (page : ℕ) → 144 ≤ page → normalised written names page .number ≡ 0
+  form-accepted page wide = ap (λ (o : NormalAnswer). o .number) (form-stable page wide) ∙ zero
+
+  pub keeps-effect : (page : ℕ) (wide : 144 ≤ page)
+      → ActAlike (count names) (bitsetOf written names page (form-accepted page wide)) (bitsetOf contents names room zero)
+  keeps-effect page wide s below i =
+      ap (λ (b : Bitset). effect b s i) same ∙ form-alike names (given .right) contents (given .bitset) (given .reads) s below i
+    where
+      again : Accepts written names page
+      again = accepted-exactly written names page .0 (form-accepted page wide)
+
+      inner : {b c : Bitset} → accepted b ≡ accepted c → b ≡ c
+      inner e = cc
+
+      same : again .bitset ≡ normalOf (count names) (given .bitset)
+      same =
+          inner
+          (sym (again .reads) ∙ ap (λ (l : List ℕ). bitsetReading l 0 names) written-is
+          ∙ form-read names (given .right) contents (given .bitset) (given .reads))
+
+-- of two contents that are answered by 0, over one name list
+module _ (names x y : List ℕ) (room room′ : ℕ) (zero : normalised x names room .number ≡ 0) (zero′ : normalised y names room′ .number ≡ 0) where
+  abbrev alike : Type 0
+  alike = ActAlike (count names) (bitsetOf x names room zero) (bitsetOf y names room′ zero′)
+
+  abbrev equal : Type 0
+  equal = normalised x names room .bytes ≡ normalised y names room′ .bytes
+
+  pub forms-decide : (alike → equal) × (equal → alike)
+  forms-decide =
+      let a = accepted-exactly x names room .0 zero in
+      let c = accepted-exactly y names room′ .0 zero′ in
+      let decide = readings-decide names (a .right) x y (a .bitset) (c .bitset) (a .reads) (c .reads) in (
+        λ s. written-is x names room zero ∙ decide .0 s ∙ sym (written-is y names room′ zero′),
+        λ e. decide .1 (sym (written-is x names room zero) ∙ e ∙ written-is y names room′ zero′),
+      )

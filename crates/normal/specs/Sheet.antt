@@ -7,6 +7,8 @@ use lib.Dec.{eqb}
 use Rattle.basics.specs.Numbers.{le32}
 use Rattle.bits.specs.Set.{has, wordsOf}
 use Rattle.word_bytes.specs.Bytes.{bytesOf}
+use Rattle.entries.specs.Entry.{count}
+use Rattle.names.specs.Rule.{namesRight}
 use Rattle.netlink_write.specs.Attributes.{attr, nest}
 use Rattle.netlink_error.specs.declared.Detail.{Detail}
 use Rattle.netlink_error.specs.declared.Detail.the-variants.{Nothing, Offset, MissTop, MissIn}
@@ -14,7 +16,6 @@ use Rattle.refusal.specs.Refusal.{numberOf, detailOf}
 use Rattle.bitset_form.specs.Bitset.{Bitset, Reading, effect}
 use Rattle.bitset_form.specs.Bitset.Reading.{refused, accepted}
 use Rattle.bitset.specs.Judge.{bitsetReading}
-use Rattle.bitset_write.specs.Form.{partsBytes}
 use Rattle.normal.specs.Normal.{normalForm}
 
 -- the attributes of a bitset and of a BIT, NOMASK (1) first
@@ -119,9 +120,13 @@ agrees (refused r) (makes after) = false
 agrees (refused r) (normal after value mask) = false
 agrees (accepted b) (number n at) = false
 agrees (accepted b) (makes after) = sameList (made b) after
-agrees (accepted b) (normal after value mask) = sameList (made b) after && sameList (normalForm 40 b) (partsBytes 40 value mask)
+agrees (accepted b) (normal after value mask) = sameList (made b) after && sameList (normalForm 40 b) (SIZE 40 ++ (VALUE value ++ MASK mask))
 
--- the one claim: every row of the sheet is so
+-- every row of the sheet is so
+abbrev pub rowsHold : List SheetRow → Bool
+rowsHold [] = true
+rowsHold (r ∷ rs) = agrees (bitsetReading (r .contents) 0 sheetNames) (r .expected) && rowsHold rs
+
+-- the one claim: the name list of the sheet breaks no rule, has 40 entries, and every row is so
 abbrev pub holds : List SheetRow → Bool
-holds [] = true
-holds (r ∷ rs) = agrees (bitsetReading (r .contents) 0 sheetNames) (r .expected) && holds rs
+holds rows = namesRight sheetNames && (eqb (count sheetNames) 40 && rowsHold rows)
