@@ -18,6 +18,7 @@ pub mod Normaliser
 pub mod Parts
 pub mod StoredBox
 pub mod Stored
+pub mod Change
 pub mod PaddingAttributes
 pub mod PaddingWalk
 pub mod PaddingBitset

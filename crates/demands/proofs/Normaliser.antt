@@ -63,7 +63,7 @@ use Rattle.demands.proofs.Request.{kind, message-first}
 use Rattle.demands.proofs.CallCase.{call-case}
 
 -- a part is no longer than the whole
-part-short : (s : List ℕ) (a e : ℕ) → length (partOf s a e) ≤ length s
+pub part-short : (s : List ℕ) (a e : ℕ) → length (partOf s a e) ≤ length s
 part-short s a e =
     ⊎-elim
     (λ (h : e < a). rw (← part-back s a e h) (omega arith))
@@ -78,7 +78,7 @@ module _ (roll m : List ℕ) (n : Named roll m) where
   abbrev top : Walked
   top = walked (topPolicy (n .command .change)) m 20
 
-  bitset-inside : (n .parts .bitset .start ≤ n .parts .bitset .end) × (n .parts .bitset .end ≤ length m)
+  pub bitset-inside : (n .parts .bitset .start ≤ n .parts .bitset .end) × (n .parts .bitset .end ≤ length m)
   unfolding topOf nestsOf topParts
   bitset-inside = go (top .stop) refl (n .nests)
     where

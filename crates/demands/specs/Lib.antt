@@ -11,4 +11,5 @@ pub mod Done
 pub mod Normaliser
 pub mod Parts
 pub mod Stored
+pub mod Change
 pub mod Padding
