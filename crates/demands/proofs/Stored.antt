@@ -16,16 +16,16 @@
 use Prim.Native.Nat.{ℕ, suc, _+_, _*_, _/_, _%_, _≤_, _<_}
 use mathlib.Core.Path.{_≡_, refl, sym, ap, _∙_}
 use mathlib.Core.List.{List, []}
-use mathlib.Core.Bool.{Bool, true, false, _&&_, cond}
+use mathlib.Core.Bool.{Bool, true, false, cond}
 use mathlib.Core.Logic.{_⊎_, inl, inr, ⊎-elim}
 use lib.ListN.{length, getD}
-use lib.Dec.{eqb, leb}
+use lib.Dec.{eqb}
 use native.Mathlib.Omega.{arith}
 use borrow.Author.Tests.{eq-eqb, eqb-true}
 use Rattle.basics.specs.Numbers.{byteAt}
 use Rattle.basics.proofs.Truth.{true-of, false-of, clash, both-true}
-use Rattle.word_bytes.specs.Bytes.{wordsIn, bytesOf, Bytes}
-use Rattle.word_bytes.proofs.WordBytes.{Small, length-wordsIn, length-bytesOf, words-of-bytes}
+use Rattle.word_bytes.specs.Bytes.{wordsIn, Bytes}
+use Rattle.word_bytes.proofs.WordBytes.{length-wordsIn, words-of-bytes}
 use Rattle.word_bytes.proofs.Stored.{bytes-small, words-small, bytes-again, same-bytes}
 use Rattle.netlink_headers.specs.Headers.{messageHeader}
 use Rattle.netlink_headers.specs.declared.headers.MessageHeader.{MessageHeader}
@@ -43,19 +43,14 @@ use Rattle.handler.specs.Bytes.{Stored, inWords, asStored, wordsOutcome, areWor
 use Rattle.demands.specs.Answer.{refusalBytes, Counted}
 use Rattle.demands.specs.Check.{Check, refuseIf, firstKind, AllPass, FirstIs}
 use Rattle.demands.specs.Call.{messageOf, nextOf, callChecks}
-use Rattle.demands.specs.CallCase.{CallCase}
-use Rattle.demands.specs.CallCase.CallCase.{ended, notRead, messageAnswered}
-use Rattle.demands.specs.CallCase.MessageCase.{messageSkipped, messageRefused, getDone, setDone}
 use Rattle.demands.specs.Request.{isSet}
 use Rattle.demands.specs.Run.{endsWithin}
 use Rattle.demands.specs.Done.{DoneSet, DoneGet}
 use Rattle.demands.specs.Stored.{storedRight, asWords, DoneSetStored}
 use Rattle.demands.proofs.First.{first-done, done-first, first-refused, refused-first}
-use Rattle.demands.proofs.CallCase.{call-case}
 use Rattle.demands.proofs.Count.{none-counted}
 use Rattle.demands.proofs.Demand1 as D1
 use Rattle.demands.proofs.Demand2 as D2
-use Rattle.demands.proofs.Effect.{set-small}
 use Rattle.demands.proofs.Exact as E
 use Rattle.demands.proofs.Run.{moving-ends}
 use Rattle.demands.proofs.StoredBox.{right-whole, right-box, right-within, right-again}
