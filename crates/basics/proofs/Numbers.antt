@@ -2,26 +2,29 @@
 use Prim.Native.Nat.{ℕ, _+_, _*_, _/_, _%_, _<_, _≤_, zero, suc}
 use mathlib.Core.Path.{_≡_, refl, sym, ap, _∙_}
 use mathlib.Core.List.{List, [], _∷_, _++_}
-use native.Mathlib.Nat.{div-div-eq-div-mul}
+use native.Mathlib.Nat.{div-div-eq-div-mul, mod-eq-of-lt}
 use native.Mathlib.Numerals.{add-one}
 use native.Mathlib.Omega.{arith}
 use lib.ListN.{length, getD, take, drop}
 use lib.Seq.{getD-append-add, drop-cons}
 use Rattle.basics.specs.Numbers.{byteAt, u16At, u32At, le16, le32}
 
--- a number by its digits to the base 256
+-- a number, or its lowest 32 bits, by its digits to the base 256
 pub digits16 : (x : ℕ) → x < 65536 → x % 256 + x / 256 % 256 * 256 ≡ x
 digits16 x h = omega arith
 
-pub digits32 : (x : ℕ) → x < 4294967296 → x % 256 + x / 256 % 256 * 256 + x / 65536 % 256 * 65536 + x / 16777216 % 256 * 16777216 ≡ x
-digits32 x h =
+pub digits-low : (x : ℕ) → x % 256 + x / 256 % 256 * 256 + x / 65536 % 256 * 65536 + x / 16777216 % 256 * 16777216 ≡ x % 4294967296
+digits-low x =
     let two : x / 256 / 256 ≡ x / 65536 = div-div-eq-div-mul x 256 256 in
     let three : x / 65536 / 256 ≡ x / 16777216 = div-div-eq-div-mul x 65536 256 in
-    digits x (x / 256) (x / 65536) (x / 16777216) refl (sym two) (sym three) h
+    digits x (x / 256) (x / 65536) (x / 16777216) refl (sym two) (sym three)
   where
-    digits : (x a b c : ℕ) → a ≡ x / 256 → b ≡ a / 256 → c ≡ b / 256 → x < 4294967296
-        → x % 256 + a % 256 * 256 + b % 256 * 65536 + c % 256 * 16777216 ≡ x
-    digits x a b c p q r h = omega arith
+    digits : (x a b c : ℕ) → a ≡ x / 256 → b ≡ a / 256 → c ≡ b / 256
+        → x % 256 + a % 256 * 256 + b % 256 * 65536 + c % 256 * 16777216 ≡ x % 4294967296
+    digits x a b c p q r = omega arith
+
+pub digits32 : (x : ℕ) → x < 4294967296 → x % 256 + x / 256 % 256 * 256 + x / 65536 % 256 * 65536 + x / 16777216 % 256 * 16777216 ≡ x
+digits32 x h = digits-low x ∙ mod-eq-of-lt h
 
 pub u16-le16 : (x : ℕ) (s : List ℕ) → x < 65536 → u16At (le16 x ++ s) 0 ≡ x
 unfolding u16At

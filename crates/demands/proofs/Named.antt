@@ -48,7 +48,8 @@ module _ (m : List ℕ) (nest : Slot) (header : HeaderParts) (flags : ℕ) where
   parts-are = go (walk .stop)
     where
       by : (a b : Bool) → read .index .present || read .name .present ≡ a
-          → cond (not a) (H.Refused (NoPort (nest .start - 4))) (cond b (H.Refused (HeaderFlag (read .flags .start - 4))) (H.Parts read (slotNumber m (read .flags)))) ≡ H.Parts header flags
+          → cond (not a) (H.Refused (NoPort (nest .start - 4)))
+          (cond b (H.Refused (HeaderFlag (read .flags .start - 4))) (H.Parts read (slotNumber m (read .flags)))) ≡ H.Parts header flags
           → (flags ≡ slotNumber m (header .flags)) × (header .index .present || header .name .present ≡ true)
       by false b p e = absurd (let z : _≡_ {A = ℕ} 0 1 = cc in omega arith)
       by true true p e = absurd (let z : _≡_ {A = ℕ} 0 1 = cc in omega arith)
@@ -144,6 +145,7 @@ module _ (roll m : List ℕ) (nest : Slot) (target : Target) where
           let same : _≡_ {A = Target} (record { position = k; flags = flags }) target = cc in
           gives header (read ∙ ap (λ (x : Target). H.Parts header (x .flags)) same) (port ∙ ap (λ (x : Target). T.Port (x .position)) same)
 
-      go : (h : Header) → headerOf m nest ≡ h → onHeader h (λ parts flags. withFlags (portOf m nest parts roll) flags) ≡ A.Port target → Gives roll m nest target
+      go : (h : Header) → headerOf m nest ≡ h → onHeader h (λ parts flags. withFlags (portOf m nest parts roll) flags) ≡ A.Port target
+          → Gives roll m nest target
       go (H.Refused why) r e = absurd (let z : _≡_ {A = ℕ} 0 1 = cc in omega arith)
       go (H.Parts header flags) r e = with-port header flags r (portOf m nest header roll) refl e

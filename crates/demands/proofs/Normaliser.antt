@@ -172,7 +172,8 @@ module _ (box : Box) (state : State) (call : Call) (datagram : List ℕ) (room :
             by : CallCase box state call datagram o → o .response .kind ≡ kindOf reading
             by (ended e) = absurd (clash (ap (λ (x : Outcome State). endsRun (x .response .kind)) e) going)
             by (notRead w l e) = absurd (clash (ap (λ (x : Outcome State). endsRun (x .response .kind)) e ∙ lt-ltb (numberOf w) 5 (omega arith)) going)
-            by (messageAnswered right lo hi long first c) = first ∙ sym (message-first box state m h (nextOf datagram position) call) ∙ set-kind (nextOf datagram position)
+            by (messageAnswered right lo hi long first c) =
+                let next = nextOf datagram position in first ∙ sym (message-first box state m h next call) ∙ set-kind next
 
         pub set-alike : (page : ℕ) → 144 ≤ page → AnsweredAlike box m n page (o .response .kind)
         set-alike page wide = go reading refl
@@ -194,12 +195,12 @@ module _ (box : Box) (state : State) (call : Call) (datagram : List ℕ) (room :
                 both-refused why (kind-is ∙ ap kindOf e)
                 (both-refuse m (namesFor box m n) (n .parts .bitset .start) (n .parts .bitset .end) (at .0) (at .1) names page wide short why e)
 
-  pub done-normal : o .response .kind ≡ Done → (d : DoneSet box state call m h o) (page : ℕ) → 144 ≤ page
+  pub done-normal : o .response .kind ≡ Done → {p : Outcome State} (d : DoneSet box state call m h p) (page : ℕ) → 144 ≤ page
       → normaliserAnswer box m (d .named) page
       ≡ record { number = 0; bytes = normalForm (count (namesFor box m (d .named))) (d .bits) }
-  done-normal kind-of d page wide =
+  done-normal kind-of {p} d page wide =
       let n = d .named in
       let i = bitset-inside (box .roll) m n in
       both-accept m (namesFor box m n) (n .parts .bitset .start) (n .parts .bitset .end) (i .0) (i .1)
-      (box-means box (o .state) call (d .right) .names-right (n .command .set)) page wide
+      (box-means box (p .state) call (d .right) .names-right (n .command .set)) page wide
       (payload-short (ap endsRun kind-of) (n .parts .bitset .start) (n .parts .bitset .end)) (d .bits) (d .carries)

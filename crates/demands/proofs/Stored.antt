@@ -1,4 +1,4 @@
--- The theorems of the exported handler, which is lent the settings as bytes: what `Exact`, `Demand1` and `Demand2` show over words. That the
+-- The theorems of the exported handler, which is lent the settings as bytes: what `Exact`, `Demand1`, `Demand2` and `Normaliser` show over words. That the
 -- settings are bytes is asked only where a theorem says that they stay.
 --     exact            the kind is that of the first check, in document 01's order, that does not pass; it is done where all pass
 --     done-exactly     done exactly when every check passes
@@ -13,29 +13,35 @@
 --     read-back        a done GET: every byte of the settings stays, and the reply's bitset makes the stored set of every starting set
 --     box-kept         a right box stays right, whatever is asked
 --     bytes-counted    what is written is whole messages, each as long as it states, and never more than 24,684 bytes
+--     set-alike        a SET that comes to its bitset is done where the normaliser answers 0, and refused by the number by which that refuses
+--     done-normal      the bitset of a done SET is the one whose normal form the normaliser writes
 use Prim.Native.Nat.{ℕ, suc, _+_, _*_, _/_, _%_, _≤_, _<_}
 use mathlib.Core.Path.{_≡_, refl, sym, ap, _∙_}
 use mathlib.Core.List.{List, []}
-use mathlib.Core.Bool.{Bool, true, false, _&&_, cond}
+use mathlib.Core.Bool.{Bool, true, false, cond}
 use mathlib.Core.Logic.{_⊎_, inl, inr, ⊎-elim}
 use lib.ListN.{length, getD}
-use lib.Dec.{eqb, leb}
+use lib.Dec.{eqb}
 use native.Mathlib.Omega.{arith}
 use borrow.Author.Tests.{eq-eqb, eqb-true}
 use Rattle.basics.specs.Numbers.{byteAt}
 use Rattle.basics.proofs.Truth.{true-of, false-of, clash, both-true}
-use Rattle.word_bytes.specs.Bytes.{wordsIn, bytesOf, Bytes}
-use Rattle.word_bytes.proofs.WordBytes.{Small, length-wordsIn, length-bytesOf, words-of-bytes}
+use Rattle.word_bytes.specs.Bytes.{wordsIn, Bytes}
+use Rattle.word_bytes.proofs.WordBytes.{length-wordsIn, words-of-bytes}
 use Rattle.word_bytes.proofs.Stored.{bytes-small, words-small, bytes-again, same-bytes}
+use Rattle.entries.specs.Entry.{count}
 use Rattle.netlink_headers.specs.Headers.{messageHeader}
 use Rattle.netlink_headers.specs.declared.headers.MessageHeader.{MessageHeader}
 use Rattle.refusal.specs.declared.Refusal.{Refusal}
 use Rattle.refusal.specs.declared.Refusal.the-variants as R
+use Rattle.normal.specs.Normal.{normalForm}
 use Rattle.boxes.specs.Box.{Box, State, placeIn, widthIn}
 use Rattle.boxes.specs.declared.Call.{Call}
 use Rattle.boxes.specs.Rule.{boxRight}
 use Rattle.boxes.proofs.rule.Meaning.{box-means}
+use Rattle.admission.specs.Admission.{admitted}
 use Rattle.admission.specs.Commands.{commandOf}
+use Rattle.admission.specs.declared.Admission.the-variants.{Admitted}
 use Rattle.response.specs.Answer.{Outcome, Response, noBytes, unchanged}
 use Rattle.response.specs.declared.Kind.the-variants.{End, Skipped, Done, Refused}
 use Rattle.handler.specs.Call.{outcome, endsRun}
@@ -43,20 +49,18 @@ use Rattle.handler.specs.Bytes.{Stored, inWords, asStored, wordsOutcome, areWor
 use Rattle.demands.specs.Answer.{refusalBytes, Counted}
 use Rattle.demands.specs.Check.{Check, refuseIf, firstKind, AllPass, FirstIs}
 use Rattle.demands.specs.Call.{messageOf, nextOf, callChecks}
-use Rattle.demands.specs.CallCase.{CallCase}
-use Rattle.demands.specs.CallCase.CallCase.{ended, notRead, messageAnswered}
-use Rattle.demands.specs.CallCase.MessageCase.{messageSkipped, messageRefused, getDone, setDone}
+use Rattle.demands.specs.Message.{Named}
+use Rattle.demands.specs.Normaliser.{namesFor, normaliserAnswer, AnsweredAlike}
 use Rattle.demands.specs.Request.{isSet}
 use Rattle.demands.specs.Run.{endsWithin}
 use Rattle.demands.specs.Done.{DoneSet, DoneGet}
 use Rattle.demands.specs.Stored.{storedRight, asWords, DoneSetStored}
 use Rattle.demands.proofs.First.{first-done, done-first, first-refused, refused-first}
-use Rattle.demands.proofs.CallCase.{call-case}
 use Rattle.demands.proofs.Count.{none-counted}
 use Rattle.demands.proofs.Demand1 as D1
 use Rattle.demands.proofs.Demand2 as D2
-use Rattle.demands.proofs.Effect.{set-small}
 use Rattle.demands.proofs.Exact as E
+use Rattle.demands.proofs.Normaliser as N
 use Rattle.demands.proofs.Run.{moving-ends}
 use Rattle.demands.proofs.StoredBox.{right-whole, right-box, right-within, right-again}
 
@@ -174,8 +178,18 @@ module _ (box : Box) (stored : Stored) (call : Call) (datagram : List ℕ) (room
     pub next-is : o .response .next ≡ nextOf datagram position
     next-is = rw over-words (D1.next-is box (inWords stored) call datagram room goes)
 
+    pub set-alike : (n : Named (box .roll) m) → n .command .change ≡ true → admitted m h (call .family) (eqb (call .admin) 1) ≡ Admitted (n .command)
+        → (page : ℕ) → 144 ≤ page → AnsweredAlike box m n page (o .response .kind)
+    set-alike n change admit page wide = rw over-words (N.set-alike box (inWords stored) call datagram room goes n change admit page wide)
+
     pub moves : (position + 16 ≤ o .response .next) × (o .response .next ≤ length datagram)
     moves = rw over-words (D1.moves box (inWords stored) call datagram room goes)
+
+  pub done-normal : o .response .kind ≡ Done → (d : DoneSetStored box stored call m h o) (page : ℕ) → 144 ≤ page
+      → normaliserAnswer box m (d .done .named) page
+      ≡ record { number = 0; bytes = normalForm (count (namesFor box m (d .done .named))) (d .done .bits) }
+  done-normal kind-of d page wide =
+      N.done-normal box (inWords stored) call datagram room (rw (over-words (ap endsRun kind-of)) at kind-of) (d .done) page wide
 
   -- the settings
   pub box-kept : storedRight box stored call ≡ true → storedRight box (o .state) call ≡ true
@@ -251,8 +265,9 @@ module _ (box : Box) (stored : Stored) (call : Call) (datagram : List ℕ) (room
       size =
           let before = box-means box (inWords stored) call (right-box box stored call right) .settings .exact in
           let after = box-means box (inWords (o .state)) call (right-box box (o .state) call right-after) .settings .exact in
-          omega
-          (arith, length-wordsIn (stored .settings), length-wordsIn (o .state .settings), right-whole box stored call right, right-whole box (o .state) call right-after)
+          let whole-before = right-whole box stored call right in
+          let whole-after = right-whole box (o .state) call right-after in
+          omega (arith, length-wordsIn (stored .settings), length-wordsIn (o .state .settings))
 
       -- a byte stays where its word does
       byte-stays : (k : ℕ) → getD (wordsIn (o .state .settings)) (k / 4) 0 ≡ getD (wordsIn (stored .settings)) (k / 4) 0

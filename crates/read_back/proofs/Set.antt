@@ -130,7 +130,8 @@ module _ (s pre post names : List ℕ) (n at : ℕ) (e : s ≡ pre ++ (openingBy
     unfolding bitsetParts bitsetPartsReading mixedAt compactReading nomaskReading
     compact-back =
         by-walk _ compact-walked
-        ∙ rw (number-back, value-back, length-bytesOf words, en, le-ltb (length words * 4 / 4) (wordsFor n) (omega arith), none-between (has (wordsIn (bytesOf words))) n)
+        ∙ rw
+        (number-back, value-back, length-bytesOf words, en, le-ltb (length words * 4 / 4) (wordsFor n) (omega arith), none-between (has (wordsIn (bytesOf words))) n)
 
   -- verbose: BITS is behind it
   module _ (listed : ℕ → Bool) (ep : post ≡ nest 3 (bitsBytes names listed n) ++ []) (short : Short names n) where

@@ -4,7 +4,7 @@
 --     same-bytes       a byte is the same where its word is
 --     words-small      words that are read from bytes have 32 bits
 use Prim.Native.Nat.{ℕ, zero, suc, _+_, _*_, _/_, _%_, _≤_, _<_}
-use mathlib.Core.Path.{_≡_, refl, sym, ap, _∙_}
+use mathlib.Core.Path.{_≡_, sym, ap, _∙_}
 use mathlib.Core.Logic.{⊎-elim}
 use mathlib.Core.List.{List, [], _∷_}
 use native.Mathlib.Omega.{arith}
@@ -57,10 +57,12 @@ bytes-again s small whole =
         ∙ ap (λ (x : ℕ). x % 4294967296) (sym e)
         ∙ (let q : u32At s (k / 4 * 4) % 4294967296 ≡ u32At s (k / 4 * 4) = omega arith in q)
 
-pub same-bytes : (xs ys : List ℕ) → length xs ≡ length ys → (k : ℕ) → getD xs (k / 4) 0 ≡ getD ys (k / 4) 0 → getD (bytesOf xs) k 0 ≡ getD (bytesOf ys) k 0
+pub same-bytes : (xs ys : List ℕ) → length xs ≡ length ys → (k : ℕ) → getD xs (k / 4) 0 ≡ getD ys (k / 4) 0
+    → getD (bytesOf xs) k 0 ≡ getD (bytesOf ys) k 0
 same-bytes xs ys e k same =
     ⊎-elim
     (λ (l : k / 4 < length xs). in-word (bytesOf xs) (bytesOf ys) (bytes-small xs) (bytes-small ys) k
     (bytes-at xs (k / 4) l ∙ ap (λ (x : ℕ). x % 4294967296) same ∙ sym (bytes-at ys (k / 4) (omega arith))))
-    (λ (l : length xs ≤ k / 4). List·getD-eq-default (bytesOf xs) 0 (omega (arith, length-bytesOf xs)) ∙ sym (List·getD-eq-default (bytesOf ys) 0 (omega (arith, length-bytesOf ys))))
+    (λ (l : length xs ≤ k / 4). List·getD-eq-default (bytesOf xs) 0 (omega (arith, length-bytesOf xs))
+    ∙ sym (List·getD-eq-default (bytesOf ys) 0 (omega (arith, length-bytesOf ys))))
     (lt-or-ge (k / 4) (length xs))

@@ -4,13 +4,13 @@ use mathlib.Core.Path.{_≡_, refl, sym, ap, ap₂, _∙_}
 use mathlib.Core.Bool.{Bool}
 use mathlib.Core.Logic.{⊎-elim}
 use mathlib.Core.List.{List, [], _∷_, _++_, append-assoc, append-nil}
-use native.Mathlib.Nat.{div-div-eq-div-mul}
 use native.Mathlib.Numerals.{add-one}
 use native.Mathlib.Omega.{arith}
 use lib.ListN.{length, take, getD, set, length-append, List·getD-append, List·getD-eq-default}
 use lib.Seq.{take-suc, getD-at, getD-append-add, ext-getD}
 use Rattle.basics.specs.Numbers.{le32, u32At}
 use Rattle.basics.specs.Put.{put}
+use Rattle.basics.proofs.Numbers.{digits-low}
 use Rattle.basics.proofs.Order.{lt-or-ge}
 use Rattle.basics.proofs.Put.{put-take}
 use Rattle.bits.specs.Bit.{test}
@@ -75,17 +75,6 @@ small-wordsOf w f j h =
     let k : j < w = omega (arith, length-wordsOf w f) in
     omega (arith, getD-wordsOf w f j k, number-lt 32 (λ b. f (j * 32 + b)))
 
--- a number's four bytes are those of its lowest 32 bits
-digits-low : (x : ℕ) → x % 256 + x / 256 % 256 * 256 + x / 65536 % 256 * 65536 + x / 16777216 % 256 * 16777216 ≡ x % 4294967296
-digits-low x =
-    let two : x / 256 / 256 ≡ x / 65536 = div-div-eq-div-mul x 256 256 in
-    let three : x / 65536 / 256 ≡ x / 16777216 = div-div-eq-div-mul x 65536 256 in
-    digits x (x / 256) (x / 65536) (x / 16777216) refl (sym two) (sym three)
-  where
-    digits : (x a b c : ℕ) → a ≡ x / 256 → b ≡ a / 256 → c ≡ b / 256
-        → x % 256 + a % 256 * 256 + b % 256 * 65536 + c % 256 * 16777216 ≡ x % 4294967296
-    digits x a b c p q r = omega arith
-
 -- the number at a word's place in the bytes of words
 pub bytes-at : (ws : List ℕ) (j : ℕ) → j < length ws → u32At (bytesOf ws) (j * 4) ≡ getD ws j 0 % 4294967296
 unfolding bytesOf u32At
@@ -106,7 +95,8 @@ pub word-again : (ws : List ℕ) (j : ℕ) → getD (wordsIn (bytesOf ws)) j 0 �
 word-again ws j =
     ⊎-elim
     (λ (l : j < length ws). sym (word-in (bytesOf ws) j (omega (arith, length-bytesOf ws))) ∙ bytes-at ws j l)
-    (λ (l : length ws ≤ j). sym (word-past (bytesOf ws) j (omega (arith, length-bytesOf ws))) ∙ ap (λ (x : ℕ). x % 4294967296) (sym (List·getD-eq-default ws 0 l)))
+    (λ (l : length ws ≤ j). sym (word-past (bytesOf ws) j (omega (arith, length-bytesOf ws)))
+    ∙ ap (λ (x : ℕ). x % 4294967296) (sym (List·getD-eq-default ws 0 l)))
     (lt-or-ge j (length ws))
 
 -- so they hold the same set
