@@ -44,7 +44,7 @@ module _ (P : Refusal → Type 0) where
   walk Whole l rest = pass rest
   walk (At fault at) l rest = refuse (ofFault fault at) (l fault at) rest
 
-  pub append : {xs ys : List Check} → Every P xs → Every P ys → Every P (xs ++ ys)
+  append : {xs ys : List Check} → Every P xs → Every P ys → Every P (xs ++ ys)
   append nothing l = l
   append (pass rest) l = pass (append rest l)
   append (end rest) l = end (append rest l)

@@ -1,6 +1,7 @@
 -- Laws of contents that read as a bitset, over its normal form. The theorems of demand 3 (Demand3) are these, of what the normaliser answers.
 --     form-bytes         what the normal form holds
---     form-read          it reads as a bitset, which acts as the original
+--     form-read          it reads as a bitset
+--     form-alike         which changes every starting set as the original does
 --     form-again         normalising it gives the same bytes
 --     readings-decide    two such bitsets change every starting set alike exactly when their normal forms are equal bytes
 use Prim.Native.Nat.{ℕ, _*_, _≤_, _<_}
@@ -36,8 +37,8 @@ use Rattle.normal.proofs.Forms.{normal-bytes, alike-forms, forms-alike}
 use Rattle.normal.proofs.Stable.{parts-accepted}
 
 -- the bitset that the normal form of b is
-pub normalOf : ℕ → Bitset → Bitset
-normalOf n b = maskedBitmap n (has (wordsOf (wordsFor n) (valueOf b))) (has (wordsOf (wordsFor n) (maskOf n b)))
+pub formBitset : ℕ → Bitset → Bitset
+formBitset n b = maskedBitmap n (has (wordsOf (wordsFor n) (valueOf b))) (has (wordsOf (wordsFor n) (maskOf n b)))
 
 module _ (names : List ℕ) (right : namesRight names ≡ true) where
   few : count names ≤ 512
@@ -69,14 +70,14 @@ module _ (names : List ℕ) (right : namesRight names ≡ true) where
       value-inside = λ i h. value-whole i ∙ value-within (count names) b fits i (sym (mask-whole i) ∙ h);
     }
 
-    pub form-read : bitsetReading (normalForm (count names) b) 0 names ≡ accepted (normalOf (count names) b)
-    unfolding normalOf
+    pub form-read : bitsetReading (normalForm (count names) b) 0 names ≡ accepted (formBitset (count names) b)
+    unfolding formBitset
     form-read =
         ap (λ (l : List ℕ). bitsetReading l 0 names) (normal-bytes (count names) b few)
         ∙ parts-accepted names right (valueOf b) (maskOf (count names) b)
 
-    same-mask : (i : ℕ) → i < wordsFor (count names) * 32 → maskOf (count names) (normalOf (count names) b) i ≡ maskOf (count names) b i
-    unfolding maskOf normalOf
+    same-mask : (i : ℕ) → i < wordsFor (count names) * 32 → maskOf (count names) (formBitset (count names) b) i ≡ maskOf (count names) b i
+    unfolding maskOf formBitset
     same-mask i l =
         ap (λ (t : Bool). ltb i (count names) && t) (has-wordsOf (wordsFor (count names)) (maskOf (count names) b) i l)
         ∙ go (ltb i (count names)) refl
@@ -85,8 +86,8 @@ module _ (names : List ℕ) (right : namesRight names ≡ true) where
         go true e = refl
         go false e = sym (mask-below (count names) b fits i (ltb-false i (count names) e))
 
-    same-value : (i : ℕ) → i < wordsFor (count names) * 32 → valueOf (normalOf (count names) b) i ≡ valueOf b i
-    unfolding valueOf normalOf
+    same-value : (i : ℕ) → i < wordsFor (count names) * 32 → valueOf (formBitset (count names) b) i ≡ valueOf b i
+    unfolding valueOf formBitset
     same-value i l =
         ap₂ (λ (x y : Bool). ltb i (count names) && (x && y)) (has-wordsOf (wordsFor (count names)) (maskOf (count names) b) i l)
         (has-wordsOf (wordsFor (count names)) (valueOf b) i l)
@@ -98,16 +99,16 @@ module _ (names : List ℕ) (right : namesRight names ≡ true) where
         go true false v e h g = sym (h refl)
         go false m v e h g = sym (g e)
 
-    same-form : normalForm (count names) (normalOf (count names) b) ≡ normalForm (count names) b
+    same-form : normalForm (count names) (formBitset (count names) b) ≡ normalForm (count names) b
     same-form =
-        normal-bytes (count names) (normalOf (count names) b) few
+        normal-bytes (count names) (formBitset (count names) b) few
         ∙ ap₂ (partsBytes (count names)) (wordsOf-cong (wordsFor (count names)) _ _ same-value) (wordsOf-cong (wordsFor (count names)) _ _ same-mask)
         ∙ sym (normal-bytes (count names) b few)
 
-    pub form-alike : ActAlike (count names) (normalOf (count names) b) b
+    pub form-alike : ActAlike (count names) (formBitset (count names) b) b
     form-alike =
-        forms-alike (count names) few (normalOf (count names) b) b
-        (accepted-fits (normalForm (count names) b) 0 names (normalOf (count names) b) form-read) fits same-form
+        forms-alike (count names) few (formBitset (count names) b) b
+        (accepted-fits (normalForm (count names) b) 0 names (formBitset (count names) b) form-read) fits same-form
 
     form-short : length (normalForm (count names) b) ≤ 32768
     form-short =

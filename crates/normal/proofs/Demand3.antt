@@ -27,7 +27,7 @@ use Rattle.bitset_form.specs.Bitset.Reading.{refused, accepted}
 use Rattle.bitset.specs.Judge.{bitsetReading}
 use Rattle.normal.specs.Normal.{NormalAnswer, normalForm, refusedBy, readingAnswer, normalised}
 use Rattle.normal.specs.Claims.{ActAlike, NormalBytes, Accepts}
-use Rattle.normal.proofs.Accepted.{normalOf, form-bytes, form-read, form-alike, form-again, readings-decide}
+use Rattle.normal.proofs.Accepted.{formBitset, form-bytes, form-read, form-alike, form-again, readings-decide}
 
 -- of any contents, list and page
 module _ (contents names : List ℕ) (room : ℕ) where
@@ -116,7 +116,7 @@ module _ (contents names : List ℕ) (room : ℕ) (zero : normalised contents na
       inner : {b c : Bitset} → accepted b ≡ accepted c → b ≡ c
       inner e = cc
 
-      same : again .bitset ≡ normalOf (count names) (given .bitset)
+      same : again .bitset ≡ formBitset (count names) (given .bitset)
       same =
           inner
           (sym (again .reads) ∙ ap (λ (l : List ℕ). bitsetReading l 0 names) written-is
