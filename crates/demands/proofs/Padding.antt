@@ -1,5 +1,5 @@
 -- Document 01, "Padding has no meaning when read": two datagrams that agree but for paddings (specs/Padding) get the same answer, byte for byte, and
--- leave the same settings. So every nest is read up to its own stated end and no further: what stands behind that end, in the padding, is free.
+-- leave the same settings. So the bytes between the stated end of an attribute, a nest or the message and what follows it decide nothing.
 --     padding-free          the call over words
 --     padding-free-bytes    the call over bytes, which C makes
 use Prim.Native.Nat.{ℕ, _+_, _≤_, _<_, min}

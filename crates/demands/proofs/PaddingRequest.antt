@@ -35,7 +35,7 @@ use Rattle.request.specs.declared.target.TargetRead.{TargetRead}
 use Rattle.request.specs.declared.top.Top.the-variants as T
 use Rattle.demands.specs.Padding.{SameBytes, Payloads, NestOf, PlainAgrees, BitsetAgrees, TopAgrees}
 use Rattle.demands.proofs.PaddingAttributes.{part-none, part-of-part, cut-long, part-long}
-use Rattle.demands.proofs.PaddingWalk.{JudgedAlike, nest-judged, unlisted-judged, nest-or, same-judged, SlotAgrees, plain-number, walked-same, slot-agrees}
+use Rattle.demands.proofs.PaddingWalk.{JudgedAlike, nest-judged, unlisted-judged, nest-or, plainPayloads, same-judged, SlotAgrees, plain-number, walked-same, slot-agrees}
 use Rattle.demands.proofs.PaddingWalk.SlotAgrees.{none, some}
 use Rattle.demands.proofs.PaddingBitset.{bitset-same}
 
@@ -56,7 +56,7 @@ module _ (s t roll : List ℕ) (header : Slot) (p : HeaderParts)
   unfolding partsOf flagsJudged
   parts-same nest =
       rw (plain-number s t (p .flags) flags)
-      (go (not (p .index .present || p .name .present)) (ltb 3 (slotNumber s (p .flags))))
+      (go (not (p .index .present || p .name .present)) (ltb 3 number))
     where
       number : ℕ
       number = slotNumber s (p .flags)
@@ -66,7 +66,7 @@ module _ (s t roll : List ℕ) (header : Slot) (p : HeaderParts)
           ≡ onHeader (cond a (H.Refused (R.NoPort nest)) (cond b (H.Refused (R.HeaderFlag (p .flags .start - 4))) (H.Parts p number))) (named s header roll)
       go true b = refl
       go false true = refl
-      go false false = ap (λ (x : PortRead). withFlags x (slotNumber s (p .flags))) port-same
+      go false false = ap (λ (x : PortRead). withFlags x number) port-same
 
 -- the header nest, from a to e
 module _ (s t : List ℕ) (size : length s ≡ length t) (roll : List ℕ) (a e : ℕ) (inside : e ≤ length s)
@@ -77,11 +77,8 @@ module _ (s t : List ℕ) (size : length s ≡ length t) (roll : List ℕ) (a e 
   abbrev d : List ℕ
   d = partOf t 0 e
 
-  abbrev plain : Payloads
-  plain kind start end = SameBytes c d start end
-
   -- what stands in the nest stands in the message
-  in-message : {kind : ℕ} {slot : Slot} → SlotAgrees c d plain kind slot → partOf t (slot .start) (slot .end) ≡ partOf s (slot .start) (slot .end)
+  in-message : {kind : ℕ} {slot : Slot} → SlotAgrees c d (plainPayloads c d) kind slot → partOf t (slot .start) (slot .end) ≡ partOf s (slot .start) (slot .end)
   in-message none = part-none t ∙ sym (part-none s)
   in-message (some start end l u same) =
       let long = part-long s 0 e (omega arith) inside in
@@ -92,10 +89,11 @@ module _ (s t : List ℕ) (size : length s ≡ length t) (roll : List ℕ) (a e 
   target-same =
       let w = walked headerPolicy c a in
       ap (λ (x : Walked). onHeader (onWalk x H.Refused (λ slots. partsOf t (a - 4) (headerParts slots))) (named t (found a e) roll))
-      (walked-same c d (cut-long s t size e inside) plain headerPolicy (λ kind start end q. same-judged c d (ruleOf headerPolicy kind) start end q) a agree)
+      (walked-same c d (cut-long s t size e inside) (plainPayloads c d) headerPolicy
+      (λ kind start end q. same-judged c d (ruleOf headerPolicy kind) start end q) a agree)
       ∙ go (w .stop) (partsOf t (a - 4) (headerParts (w .slots))) (partsOf s (a - 4) (headerParts (w .slots)))
       (λ (whole : w .stop ≡ Whole).
-      let slot = slot-agrees c d (cut-long s t size e inside) plain headerPolicy a agree whole in
+      let slot = slot-agrees c d (cut-long s t size e inside) (plainPayloads c d) headerPolicy a agree whole in
       parts-same s t roll (found a e) (headerParts (w .slots))
       (in-message (slot 1 (omega arith))) (in-message (slot 2 (omega arith))) (in-message (slot 3 (omega arith))) (a - 4))
     where

@@ -58,6 +58,10 @@ nest-or policy nest kind x y blind other q = go (eqb kind nest) refl
     go true e = let k = eqb-true kind nest e in rw k blind
     go false e = other (q .1 (eqb-false kind nest e))
 
+-- how the payloads of a header or a BIT agree: no nest stands in it
+abbrev pub plainPayloads : List ℕ → List ℕ → Payloads
+plainPayloads s t kind start end = SameBytes s t start end
+
 module _ (s t : List ℕ) where
   pub same-judged : (rule : Rule) (start end : ℕ) → SameBytes s t start end → JudgedAlike rule (partOf t start end) (partOf s start end)
   same-judged rule start end same bits = ap (judged rule bits) (sym same)
