@@ -1,6 +1,7 @@
 -- Demands 2 and 3 speak of one bitset, of the functions that C calls.
 --     done-normal     after a done SET the normaliser answers 0 to the payload and writes the normal form of the bitset that was carried out, and that
 --                     form makes of the set that was found the set that was left
+--     same-number     a SET that comes to its bitset is refused by the number by which the normaliser refuses the payload, 0 where it is done
 --     same-change     two done SETs over one list of names: the normaliser writes the same bytes for both exactly when they change every starting set
 --                     alike; and then, from the same set, they leave the same set
 use Prim.Native.Nat.{ℕ, _+_, _≤_}
@@ -8,7 +9,7 @@ use mathlib.Core.Path.{_≡_, refl, sym, ap, _∙_}
 use mathlib.Core.List.{List, _∷_}
 use mathlib.Core.Bool.{Bool, true, false, _&&_, not, cond}
 use lib.ListN.{length}
-use lib.Dec.{ltb}
+use lib.Dec.{eqb, ltb}
 use native.Mathlib.Omega.{arith}
 use borrow.Author.Tests.{ltb-false}
 use Rattle.basics.specs.Numbers.{u32At}
@@ -33,16 +34,23 @@ use Rattle.boxes.specs.Box.{Box, State, sizesIn, setOf}
 use Rattle.boxes.specs.declared.Call.{Call}
 use Rattle.boxes.specs.Rule.{boxRight}
 use Rattle.boxes.proofs.rule.Meaning.{box-means}
-use Rattle.response.specs.Answer.{Outcome}
+use Rattle.response.specs.Answer.{Outcome, refusalNumber}
+use Rattle.response.specs.declared.Kind.{Kind}
 use Rattle.response.specs.declared.Kind.the-variants.{Done}
 use Rattle.refusal.specs.declared.Refusal.the-variants as R
+use Rattle.admission.specs.Admission.{admitted}
+use Rattle.admission.specs.declared.Admission.the-variants.{Admitted}
+use Rattle.handler.specs.Call.{endsRun}
 use Rattle.handler.specs.Bytes.{Stored, inWords, bytesOutcome}
 use Rattle.demands.specs.Check.{Check, refuseIf, firstKind, AllPass}
 use Rattle.demands.specs.Call.{messageOf, callChecks}
+use Rattle.demands.specs.Message.{Named}
+use Rattle.demands.specs.Normaliser.{normaliserAnswer, AnsweredAlike}
+use Rattle.demands.specs.Normaliser.AnsweredAlike.{both-done, both-refused}
 use Rattle.demands.specs.Done.{DoneSet}
 use Rattle.demands.specs.Stored.{storedRight, asWords, DoneSetStored}
 use Rattle.demands.proofs.First.{done-first}
-use Rattle.demands.proofs.Stored.{done-exactly}
+use Rattle.demands.proofs.Stored.{done-exactly, set-alike}
 use Rattle.demands.proofs.StoredBox.{right-box}
 use Rattle.demands.proofs.Normaliser.{part-short, bitset-inside}
 use Rattle.demands.specs.Change.{Change, changeOf, NormalisedAs, SameForm, SameChange, HandledSet, handledChange}
@@ -110,6 +118,23 @@ passed right box call datagram room = go right (ltb room 32768) (ltb 32768 (leng
     go false b c q all = absurd (let e = done-first all in let z : _≡_ {A = ℕ} 0 1 = cc in omega arith)
     go true true c q all = absurd (let e = done-first all in let z : _≡_ {A = ℕ} 0 1 = cc in omega arith)
     go true false true q all = absurd (let e = done-first all in let z : _≡_ {A = ℕ} 0 1 = cc in omega arith)
+
+-- a SET that is admitted and names a port, and so comes to its bitset
+module _ (box : Box) (stored : Stored) (call : Call) (datagram : List ℕ) (room : ℕ) where
+  abbrev said : Kind
+  said = bytesOutcome box stored call datagram room .response .kind
+
+  abbrev asked : List ℕ
+  asked = messageOf datagram (call .position)
+
+  pub same-number : endsRun said ≡ false → (n : Named (box .roll) asked) → n .command .change ≡ true
+      → admitted asked (messageHeader datagram (call .position)) (call .family) (eqb (call .admin) 1) ≡ Admitted (n .command)
+      → (page : ℕ) → 144 ≤ page → refusalNumber said ≡ normaliserAnswer box asked n page .number
+  same-number going n change admit page wide = by (set-alike box stored call datagram room going n change admit page wide)
+    where
+      by : AnsweredAlike box asked n page said → refusalNumber said ≡ normaliserAnswer box asked n page .number
+      by (both-done b kind-of carried answer) = ap refusalNumber kind-of ∙ sym (ap (λ (x : NormalAnswer). x .number) answer)
+      by (both-refused why kind-of answer) = ap refusalNumber kind-of ∙ sym (ap (λ (x : NormalAnswer). x .number) answer)
 
 -- a done SET as the exported handler handled it
 module _ (box : Box) (stored : Stored) (call : Call) (datagram : List ℕ) (room : ℕ)

@@ -1,7 +1,6 @@
 -- Demands 2 and 3 speak of one bitset.
 --     set-alike        a SET that comes to its bitset: done where the normaliser, given the payload alone, answers 0 and writes the normal form of
 --                      the bitset that is carried out; refused by the number by which the normaliser refuses
---     done-normal      the bitset of a done SET is the one whose normal form the normaliser writes
 use Prim.Native.Nat.{ℕ, _+_, _≤_, _<_}
 use mathlib.Core.Path.{_≡_, refl, sym, ap, _∙_}
 use mathlib.Core.List.{List}
@@ -14,7 +13,6 @@ use borrow.Author.Tests.{lt-ltb, ltb-false}
 use Rattle.basics.specs.Numbers.{u32At}
 use Rattle.basics.proofs.Order.{lt-or-ge}
 use Rattle.basics.proofs.Truth.{clash}
-use Rattle.entries.specs.Entry.{count}
 use Rattle.names.specs.Rule.{namesRight}
 use Rattle.netlink_attributes.specs.Attributes.{partOf}
 use Rattle.netlink_attributes.proofs.Laws.{part-in, part-past, part-back}
@@ -31,7 +29,6 @@ use Rattle.bitset_form.specs.Bitset.Reading.{refused, accepted}
 use Rattle.bitset.specs.Judge.{bitsetReading}
 use Rattle.bitset_moved.proofs.Walk.{slot-inside}
 use Rattle.bitset_moved.proofs.Both.{both-accept, both-refuse}
-use Rattle.normal.specs.Normal.{normalForm}
 use Rattle.boxes.specs.Box.{Box, State}
 use Rattle.boxes.specs.declared.Call.{Call}
 use Rattle.boxes.specs.Rule.{boxRight}
@@ -55,8 +52,7 @@ use Rattle.demands.specs.Call.{messageOf, nextOf}
 use Rattle.demands.specs.CallCase.{CallCase}
 use Rattle.demands.specs.CallCase.CallCase.{ended, notRead, messageAnswered}
 use Rattle.demands.specs.Message.{Named}
-use Rattle.demands.specs.Done.{DoneSet}
-use Rattle.demands.specs.Normaliser.{namesFor, normaliserAnswer, AnsweredAlike}
+use Rattle.demands.specs.Normaliser.{namesFor, AnsweredAlike}
 use Rattle.demands.specs.Normaliser.AnsweredAlike.{both-done, both-refused}
 use Rattle.demands.proofs.Bitset.{kindOf}
 use Rattle.demands.proofs.Request.{kind, message-first}
@@ -194,13 +190,3 @@ module _ (box : Box) (state : State) (call : Call) (datagram : List ℕ) (room :
             go (refused why) e =
                 both-refused why (kind-is ∙ ap kindOf e)
                 (both-refuse m (namesFor box m n) (n .parts .bitset .start) (n .parts .bitset .end) (at .0) (at .1) names page wide short why e)
-
-  pub done-normal : o .response .kind ≡ Done → {p : Outcome State} (d : DoneSet box state call m h p) (page : ℕ) → 144 ≤ page
-      → normaliserAnswer box m (d .named) page
-      ≡ record { number = 0; bytes = normalForm (count (namesFor box m (d .named))) (d .bits) }
-  done-normal kind-of {p} d page wide =
-      let n = d .named in
-      let i = bitset-inside (box .roll) m n in
-      both-accept m (namesFor box m n) (n .parts .bitset .start) (n .parts .bitset .end) (i .0) (i .1)
-      (box-means box (p .state) call (d .right) .names-right (n .command .set)) page wide
-      (payload-short (ap endsRun kind-of) (n .parts .bitset .start) (n .parts .bitset .end)) (d .bits) (d .carries)

@@ -14,7 +14,6 @@
 --     box-kept         a right box stays right, whatever is asked
 --     bytes-counted    what is written is whole messages, each as long as it states, and never more than 24,684 bytes
 --     set-alike        a SET that comes to its bitset is done where the normaliser answers 0, and refused by the number by which that refuses
---     done-normal      the bitset of a done SET is the one whose normal form the normaliser writes
 use Prim.Native.Nat.{ℕ, suc, _+_, _*_, _/_, _%_, _≤_, _<_}
 use mathlib.Core.Path.{_≡_, refl, sym, ap, _∙_}
 use mathlib.Core.List.{List, []}
@@ -29,12 +28,10 @@ use Rattle.basics.proofs.Truth.{true-of, false-of, clash, both-true}
 use Rattle.word_bytes.specs.Bytes.{wordsIn, Bytes}
 use Rattle.word_bytes.proofs.WordBytes.{length-wordsIn, words-of-bytes}
 use Rattle.word_bytes.proofs.Stored.{bytes-small, words-small, bytes-again, same-bytes}
-use Rattle.entries.specs.Entry.{count}
 use Rattle.netlink_headers.specs.Headers.{messageHeader}
 use Rattle.netlink_headers.specs.declared.headers.MessageHeader.{MessageHeader}
 use Rattle.refusal.specs.declared.Refusal.{Refusal}
 use Rattle.refusal.specs.declared.Refusal.the-variants as R
-use Rattle.normal.specs.Normal.{normalForm}
 use Rattle.boxes.specs.Box.{Box, State, placeIn, widthIn}
 use Rattle.boxes.specs.declared.Call.{Call}
 use Rattle.boxes.specs.Rule.{boxRight}
@@ -50,7 +47,7 @@ use Rattle.demands.specs.Answer.{refusalBytes, Counted}
 use Rattle.demands.specs.Check.{Check, refuseIf, firstKind, AllPass, FirstIs}
 use Rattle.demands.specs.Call.{messageOf, nextOf, callChecks}
 use Rattle.demands.specs.Message.{Named}
-use Rattle.demands.specs.Normaliser.{namesFor, normaliserAnswer, AnsweredAlike}
+use Rattle.demands.specs.Normaliser.{AnsweredAlike}
 use Rattle.demands.specs.Request.{isSet}
 use Rattle.demands.specs.Run.{endsWithin}
 use Rattle.demands.specs.Done.{DoneSet, DoneGet}
@@ -184,12 +181,6 @@ module _ (box : Box) (stored : Stored) (call : Call) (datagram : List ℕ) (room
 
     pub moves : (position + 16 ≤ o .response .next) × (o .response .next ≤ length datagram)
     moves = rw over-words (D1.moves box (inWords stored) call datagram room goes)
-
-  pub done-normal : o .response .kind ≡ Done → (d : DoneSetStored box stored call m h o) (page : ℕ) → 144 ≤ page
-      → normaliserAnswer box m (d .done .named) page
-      ≡ record { number = 0; bytes = normalForm (count (namesFor box m (d .done .named))) (d .done .bits) }
-  done-normal kind-of d page wide =
-      N.done-normal box (inWords stored) call datagram room (rw (over-words (ap endsRun kind-of)) at kind-of) (d .done) page wide
 
   -- the settings
   pub box-kept : storedRight box stored call ≡ true → storedRight box (o .state) call ≡ true
