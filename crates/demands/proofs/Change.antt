@@ -27,7 +27,7 @@ use Rattle.bitset.specs.Judge.{bitsetReading}
 use Rattle.bitset_moved.proofs.Both.{accepted-alone, both-accept}
 use Rattle.normal.specs.Normal.{NormalAnswer, normalForm, normalised}
 use Rattle.normal.specs.Claims.{ActAlike}
-use Rattle.normal.proofs.Accepted.{normalOf, form-read, form-alike, readings-decide}
+use Rattle.normal.proofs.Accepted.{formBitset, form-read, form-alike, readings-decide}
 use Rattle.layout.specs.Layout.{listOf, sizeOf}
 use Rattle.layout.proofs.Laws.{lists-of}
 use Rattle.boxes.specs.Box.{Box, State, sizesIn, setOf}
@@ -99,7 +99,7 @@ module _ (box : Box) (state : State) (call : Call) (m : List ℕ) (h : MessageHe
   normalised-as page wide =
       record {
         answer = written page wide;
-        form = normalOf (count names) (d .bits);
+        form = formBitset (count names) (d .bits);
         reads =
             ap (λ (x : NormalAnswer). bitsetReading (x .bytes) 0 names) (written page wide)
             ∙ form-read names names-right (change .payload) (d .bits) alone;
