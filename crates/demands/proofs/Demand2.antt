@@ -41,7 +41,7 @@ use Rattle.handler.specs.Call.{outcome}
 use Rattle.reply.specs.Message.{headingOf, Content, replyBytes}
 use Rattle.execute.specs.Execute.{requestOf, contentIn, replyAndAck, getBytes}
 use Rattle.response.specs.declared.Kind.the-variants.{Done}
-use Rattle.demands.specs.Answer.{Counted}
+use Rattle.demands.specs.Answer.{ackIfAsked, Counted}
 use Rattle.demands.specs.Call.{messageOf, nextOf}
 use Rattle.demands.specs.CallCase.{CallCase}
 use Rattle.demands.specs.CallCase.CallCase.{ended, notRead, messageAnswered}
@@ -111,6 +111,7 @@ module _ (box : Box) (state : State) (call : Call) (datagram : List ℕ) (room :
 
     done-set : {p : Outcome State} → p .state ≡ after box state call right (n .target .position) (n .port .inside) (n .command .set) b fits
         → p .response .bytes ≡ ackBytes m h → DoneSet box state call m h p
+    unfolding ackIfAsked ackBytes
     done-set ew eb =
         record {
           named = n;
@@ -162,8 +163,8 @@ module _ (box : Box) (state : State) (call : Call) (datagram : List ℕ) (room :
     long : length (content .words) ≡ wordsFor (content .bits)
     long = stored-long box state call right (n .target .position) inside (n .command .set) ∙ ap wordsFor size-is
 
-    got-bytes : (next : ℕ) → getBytes box state m (requestOf h next (n .command)) (n .target) ≡ replyTo box state m h n ++ ackBytes m h
-    unfolding getBytes replyAndAck
+    got-bytes : (next : ℕ) → getBytes box state m (requestOf h next (n .command)) (n .target) ≡ replyTo box state m h n ++ ackIfAsked m h
+    unfolding getBytes replyAndAck ackIfAsked ackBytes
     got-bytes next = ap (λ (c : Content). replyBytes (headingOf h (n .command .reply)) c ++ ackBytes m h) content-is
 
     done-get : (next : ℕ) {p : Outcome State} → n .command .change ≡ false → p .state ≡ state
@@ -187,6 +188,7 @@ module _ (box : Box) (state : State) (call : Call) (datagram : List ℕ) (room :
         }
 
     get-counted : (next : ℕ) → 16 ≤ length m → Counted (getBytes box state m (requestOf h next (n .command)) (n .target))
+    unfolding ackIfAsked ackBytes
     get-counted next most =
         let ack = ack-counted m h most in
         rw (got-bytes next) (reply-counted (headingOf h (n .command .reply)) content short named counted long (ackBytes m h) (ack .0) (ack .1))

@@ -12,6 +12,7 @@
 --     effect           a done SET: the named set of the named port is what `effect` makes of it, every other byte is as before
 --     read-back        a done GET: every byte of the settings stays, and the reply's bitset makes the stored set of every starting set
 --     box-kept         a right box stays right, whatever is asked
+--     bytes-kept       settings that are bytes stay bytes
 --     bytes-counted    what is written is whole messages, each as long as it states, and never more than 24,684 bytes
 --     set-alike        a SET that comes to its bitset is done where the normaliser answers 0, and refused by the number by which that refuses
 use Prim.Native.Nat.{ℕ, suc, _+_, _*_, _/_, _%_, _≤_, _<_}
@@ -197,6 +198,13 @@ module _ (box : Box) (stored : Stored) (call : Call) (datagram : List ℕ) (room
     kept e q same =
         state-is q ∙ ap asStored same ∙ ap (λ (s : List ℕ). record { settings = s }) (bytes-again (stored .settings) bytes e)
 
+    pub bytes-kept : Bytes (o .state .settings)
+    bytes-kept = by stored-case
+      where
+        by : Case → Bytes (o .state .settings)
+        by (whole e right q) = rw (ap (λ (x : Stored). x .settings) (state-is q)) (bytes-small (w .state .words))
+        by (broken wrong q) = rw (ap (λ (x : Outcome Stored). x .state .settings) q) bytes
+
     pub refused-keeps : (why : Refusal) → o .response .kind ≡ Refused why → (o .state ≡ stored) × (o .response .bytes ≡ refusalBytes m why)
     unfolding refusalBytes
     refused-keeps why = by stored-case
@@ -249,9 +257,6 @@ module _ (box : Box) (stored : Stored) (call : Call) (datagram : List ℕ) (room
       right-after : storedRight box (o .state) call ≡ true
       right-after = box-kept right
 
-      bytes-after : Bytes (o .state .settings)
-      bytes-after = rw (ap (λ (x : Stored). x .settings) (state-is is-words)) (bytes-small (w .state .words))
-
       size : length (o .state .settings) ≡ length (stored .settings)
       size =
           let before = box-means box (inWords stored) call (right-box box stored call right) .settings .exact in
@@ -266,7 +271,7 @@ module _ (box : Box) (stored : Stored) (call : Call) (datagram : List ℕ) (room
       byte-stays k same =
           let long : length (wordsIn (o .state .settings)) ≡ length (wordsIn (stored .settings)) =
           length-wordsIn (o .state .settings) ∙ ap (λ (n : ℕ). n / 4) size ∙ sym (length-wordsIn (stored .settings)) in
-          ap (λ (s : List ℕ). getD s k 0) (sym (bytes-again (o .state .settings) bytes-after (right-whole box (o .state) call right-after)))
+          ap (λ (s : List ℕ). getD s k 0) (sym (bytes-again (o .state .settings) bytes-kept (right-whole box (o .state) call right-after)))
           ∙ same-bytes (wordsIn (o .state .settings)) (wordsIn (stored .settings)) long k same
           ∙ ap (λ (s : List ℕ). getD s k 0) (bytes-again (stored .settings) bytes (right-whole box stored call right))
 

@@ -1,5 +1,6 @@
 -- A box that is right over bytes.
---     right-within     its settings are within the cap of the handler: 64 ports of two sets of at most 16 words
+--     few-bytes        its settings have at most 8,192 bytes: a length above the handler's cap never belongs to a right box
+--     right-within     so its settings are within the cap of the handler: 64 ports of two sets of at most 16 words
 --     right-again      a right box stays right where its words are written as bytes and read again
 use Prim.Native.Nat.{ℕ, _+_, _/_, _%_, _≤_, _<_}
 use mathlib.Core.Path.{_≡_, refl, sym, ap, _∙_}
@@ -46,7 +47,7 @@ module _ (box : Box) (stored : Stored) (call : Call) (right : storedRight box st
   right-box = both .1
 
   -- at most 2,048 words
-  few-bytes : length (stored .settings) ≤ 8192
+  pub few-bytes : length (stored .settings) ≤ 8192
   few-bytes =
       let rules = box-means box (inWords stored) call right-box in
       let most = words-few (portsIn box) (widthsIn box) (rules .ports-few) (widths-few (sizesIn box) (widthsIn box) refl (rules .few)) in

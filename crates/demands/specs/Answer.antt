@@ -1,18 +1,24 @@
 -- Document 01, "What a call says back": what stands in the page after each kind of answer.
-use Prim.Native.Nat.{ℕ, _%_, _≤_}
+use Prim.Native.Nat.{ℕ, _/_, _%_, _≤_}
 use mathlib.Core.Path.{_≡_}
 use mathlib.Core.List.{List, [], _++_}
 use mathlib.Core.Bool.{cond}
 use lib.ListN.{length}
-use lib.Dec.{ltb}
+use lib.Dec.{eqb, ltb}
 use Rattle.basics.specs.Numbers.{u32At}
+use Rattle.netlink_headers.specs.declared.headers.MessageHeader.{MessageHeader}
 use Rattle.netlink_error.specs.Error.{errorMessage}
+use Rattle.netlink_error.specs.declared.Detail.the-variants.{Nothing}
 use Rattle.refusal.specs.Refusal.{numberOf, errnoOf, detailOf}
 use Rattle.refusal.specs.declared.Refusal.{Refusal}
 
 -- "1 to 4 write nothing. 5 to 22 write one error message", with the errno and the detail of the table
 unfoldable pub refusalBytes : List ℕ → Refusal → List ℕ
 refusalBytes message why = cond (ltb (numberOf why) 5) [] (errorMessage message (errnoOf why) (detailOf why))
+
+-- "an ACK if the ACK flag was set, else nothing": the error message of errno 0 without detail
+unfoldable pub ackIfAsked : List ℕ → MessageHeader → List ℕ
+ackIfAsked message h = cond (eqb (h .flags / 4 % 2) 1) (errorMessage message 0 Nothing) []
 
 -- messages one after the other, each as long as its header states
 pub data Messages : List ℕ → Type 0 where

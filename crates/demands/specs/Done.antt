@@ -22,7 +22,8 @@ use Rattle.layout.specs.Layout.{listOf}
 use Rattle.layout.specs.declared.Set.{Set}
 use Rattle.read_back.specs.Claims.{ReadsBack}
 use Rattle.reply.specs.Message.{headingOf, Content, replyBytes}
-use Rattle.response.specs.Answer.{Outcome, ackBytes}
+use Rattle.response.specs.Answer.{Outcome}
+use Rattle.demands.specs.Answer.{ackIfAsked}
 use Rattle.demands.specs.Message.{Named, Carries}
 
 -- a done SET: the named set of the named port is what the bitset makes of it, every other set and every other word is as before, and the box
@@ -41,7 +42,7 @@ pub record DoneSet (box : Box) (state : State) (call : Call) (m : List ℕ) (h :
       ⊎ (placeIn box (named .target .position) (named .command .set) + widthIn box (named .command .set) ≤ k)
       → getD (o .state .words) k 0 ≡ getD (state .words) k 0
   pub right : boxRight box (o .state) call ≡ true
-  pub bytes : o .response .bytes ≡ ackBytes m h
+  pub bytes : o .response .bytes ≡ ackIfAsked m h
 
 -- what the reply to a GET must be about: index and name of the named port, its named set, compact with header flag 1
 abbrev pub askedContent : (box : Box) → State → (m : List ℕ) → Named (box .roll) m → Content
@@ -65,7 +66,7 @@ pub record DoneGet (box : Box) (state : State) (m : List ℕ) (h : MessageHeader
   pub named : Named (box .roll) m
   pub is-get : named .command .change ≡ false
   pub keeps : o .state ≡ state
-  pub bytes : o .response .bytes ≡ replyTo box state m h named ++ ackBytes m h
+  pub bytes : o .response .bytes ≡ replyTo box state m h named ++ ackIfAsked m h
   pub contents : ℕ
   pub parts : attributes (replyTo box state m h named) 20
       ≡ attribute 1 2 24 (contents - 4) (attribute 2 2 contents (length (replyTo box state m h named)) done)
