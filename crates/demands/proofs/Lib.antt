@@ -15,9 +15,10 @@ pub mod Port
 pub mod Count
 pub mod Demand2
 pub mod Normaliser
-pub mod Parts
 pub mod StoredBox
 pub mod Stored
+pub mod Parts
+pub mod CallParts
 pub mod Change
 pub mod PaddingAttributes
 pub mod PaddingWalk

@@ -1,25 +1,21 @@
--- Demand 2, "Each attribute is shown as its own part of the datagram, inside its parent, apart from its siblings".
---     request-parts    of every request that is admitted: the message in the datagram, its attributes in the message, and level by level down to the
---                      parts of each BIT, what is read stands in its parent, apart from its siblings
-use Prim.Native.Nat.{ℕ, _+_, _-_, _%_, _≤_, _<_}
+-- What is read of a request stands in its parent, apart from its siblings: from the parts of a BIT up to the nests of the top level.
+--     bitset-read     the bitset: a fault in it, or its parts, and of BITS each BIT and its parts
+--     header-read     index, name and flags stand in the header nest
+--     top-read        header and bitset stand in the message behind byte 20, and what is read of them in them
+use Prim.Native.Nat.{ℕ, _-_, _≤_, _<_}
 use mathlib.Core.Path.{_≡_, refl, sym, ap, _∙_}
 use mathlib.Core.List.{List, [], _∷_}
 use mathlib.Core.Bool.{Bool, true, false, _&&_, _||_, not, cond}
-use mathlib.Core.Logic.{⊎-elim}
-use lib.ListN.{length, take, drop, getD, length-drop}
-use lib.Dec.{eqb, ltb}
+use lib.ListN.{length, drop, getD, length-drop}
+use lib.Dec.{ltb}
 use lib.Seq.{length-take-le}
 use native.Mathlib.Omega.{arith}
-use borrow.Author.Tests.{ltb-false}
-use Rattle.basics.specs.Numbers.{byteAt, u32At}
-use Rattle.basics.proofs.Order.{lt-or-ge}
 use Rattle.basics.proofs.Truth.{clash}
 use Rattle.netlink_attributes.specs.Attributes.{Attributes, attributes, partOf}
 use Rattle.netlink_attributes.specs.Attributes.Attributes.{done, broken, attribute}
 use Rattle.netlink_attributes.specs.Claims.{Apart}
 use Rattle.netlink_attributes.proofs.Apart.{apart}
-use Rattle.netlink_attributes.proofs.Laws.{part-in, part-past}
-use Rattle.netlink_headers.specs.declared.headers.MessageHeader.{MessageHeader}
+use Rattle.netlink_attributes.proofs.Laws.{part-in}
 use Rattle.netlink.specs.Walk.{absent, walked, slotNumber}
 use Rattle.netlink.specs.Claims.{Inside, Disjoint, PartsIn}
 use Rattle.netlink.proofs.walk.Place.{slot-inside, slots-disjoint, fault-inside}
@@ -40,9 +36,6 @@ use Rattle.bitset_list.specs.BitList.{ListReading, onBit, bitsReading, asBitset
 use Rattle.bitset.specs.Judge.{bitsetPartsReading, bitsetReading}
 use Rattle.layout.specs.Layout.{listOf}
 use Rattle.boxes.specs.Box.{Box}
-use Rattle.admission.specs.Admission.{permitted, onCommand, admitted}
-use Rattle.admission.specs.Commands.{commandOf}
-use Rattle.admission.specs.declared.Admission.the-variants as A
 use Rattle.admission.specs.declared.commands.Command.{Command}
 use Rattle.request.specs.Policies.{topPolicy, headerPolicy}
 use Rattle.request.specs.Parts.{topParts, headerParts}
@@ -52,11 +45,12 @@ use Rattle.request.specs.declared.parts.TopParts.{TopParts}
 use Rattle.request.specs.declared.parts.HeaderParts.{HeaderParts}
 use Rattle.request.specs.declared.top.Top.the-variants as T
 use Rattle.request.specs.declared.header.Header.the-variants as H
-use Rattle.demands.specs.Call.{messageOf}
-use Rattle.demands.specs.Parts.{StandsIn, BitsRead, ListRead, BitsetRead, NestParts, RequestParts}
+use Rattle.response.specs.declared.Kind.the-variants.{Refused}
+use Rattle.demands.specs.Parts.{StandsIn, BitsRead, ListRead, BitsetRead, NestParts}
 use Rattle.demands.specs.Parts.BitsRead.{noBit, bitFault, bitRead}
 use Rattle.demands.specs.Parts.ListRead.{bitsFault, bitsRead}
 use Rattle.demands.specs.Parts.BitsetRead.{bitsetFault, bitsetRead}
+use Rattle.demands.proofs.Request.{kind}
 
 -- a list cut at an end inside it ends there
 pub front-length : (s : List ℕ) (end : ℕ) → end ≤ length s → length (partOf s 0 end) ≡ end
@@ -149,7 +143,7 @@ module _ (s names : List ℕ) where
           let c = front-length s (parts .bits .end) hi in
           bitsFault fault place (i .0) (omega arith) e
 
-  bitset-read : (from : ℕ) → BitsetRead s from names
+  pub bitset-read : (from : ℕ) → BitsetRead s from names
   unfolding bitsetReading bitsetParts
   bitset-read from = go (walked bitsetPolicy s from .stop) refl refl
     where
@@ -165,7 +159,7 @@ module _ (s names : List ℕ) where
 
 -- the header nest, and the top level
 module _ (m : List ℕ) where
-  header-read : (header : Slot) → header .start ≤ header .end → header .end ≤ length m → (parts : HeaderParts) (flags : ℕ) → headerOf m header ≡ H.Parts parts flags
+  pub header-read : (header : Slot) → header .start ≤ header .end → header .end ≤ length m → (parts : HeaderParts) (flags : ℕ) → headerOf m header ≡ H.Parts parts flags
       → PartsIn (header .start) (header .end) (parts .index ∷ parts .name ∷ parts .flags ∷ [])
   unfolding headerOf partsOf flagsJudged headerParts
   header-read header lo hi parts flags = go (walked headerPolicy s (header .start) .stop) refl
@@ -193,7 +187,7 @@ module _ (m : List ℕ) where
     abbrev change : Bool
     change = command .change
 
-    top-read : (top : TopParts) → topOf m change ≡ T.Nests top → NestParts box m command top
+    pub top-read : (top : TopParts) → topOf m change ≡ T.Nests top → NestParts box m command top
     unfolding topOf nestsOf topParts
     top-read top = go (walked (topPolicy change) m 20 .stop) refl
       where
@@ -224,50 +218,3 @@ module _ (m : List ℕ) where
               bitset = λ t. bitset-read (partOf m 0 (read .bitset .end)) (listOf (box .names) (command .set)) (read .bitset .start);
               bitset-end = λ t. front-length m (read .bitset .end) (inside (topPolicy change) m 20 w 2 (omega arith) (is .2 t) .2);
             })
-
--- an admitted message has room for its two headers
-admitted-long : (m : List ℕ) (h : MessageHeader) (family : ℕ) (admin : Bool) (command : Command) → admitted m h family admin ≡ A.Admitted command → 20 ≤ length m
-unfolding admitted
-admitted-long m h family admin command = go (ltb (h .kind) 16 || eqb (h .flags % 2) 0) (not (eqb (h .kind) family)) (ltb (length m) 20) refl
-  where
-    go : (a b c : Bool) → ltb (length m) 20 ≡ c
-        → cond a A.Skipped (cond b (A.Refused R.Family) (cond c (A.Refused R.Short) (onCommand (commandOf (byteAt m 16)) (permitted h admin)))) ≡ A.Admitted command
-        → 20 ≤ length m
-    go true b c q e = absurd (let z : _≡_ {A = ℕ} 0 1 = cc in omega arith)
-    go false true c q e = absurd (let z : _≡_ {A = ℕ} 0 1 = cc in omega arith)
-    go false false true q e = absurd (let z : _≡_ {A = ℕ} 0 1 = cc in omega arith)
-    go false false false q e = ltb-false (length m) 20 q
-
-module _ (box : Box) (datagram : List ℕ) (position : ℕ) where
-  abbrev m : List ℕ
-  m = messageOf datagram position
-
-  abbrev stated : ℕ
-  stated = u32At datagram position
-
-  -- a message that is not empty lies in the datagram
-  message-inside : 0 < length m → position + stated ≤ length datagram
-  unfolding messageOf
-  message-inside some = ⊎-elim (λ (h : length datagram < position + stated). absurd (none h)) (λ (h : position + stated ≤ length datagram). h) (lt-or-ge (length datagram) (position + stated))
-    where
-      none : length datagram < position + stated → ⊥
-      none h = let e = ap length (part-past datagram position (position + stated) (omega arith) h) in omega (arith, e, some)
-
-  pub request-parts : (h : MessageHeader) (family : ℕ) (admin : Bool) (command : Command) → admitted m h family admin ≡ A.Admitted command
-      → RequestParts box datagram position command
-  unfolding messageOf
-  request-parts h family admin command e =
-      let long = admitted-long m h family admin command e in
-      let in-it = message-inside (omega arith) in
-      let k : position + stated - position ≡ stated = omega arith in
-      let is : m ≡ take stated (drop position datagram) =
-      sym (part-in datagram position (position + stated) (omega arith) in-it) ∙ ap (λ (n : ℕ). take n (drop position datagram)) k in
-      let size : length m ≡ stated = ap length is ∙ length-take-le stated (drop position datagram) (rw (length-drop position datagram) (omega arith)) in
-      record {
-        message = is;
-        inside = in-it;
-        size = size;
-        headers = omega (arith, size, long);
-        in-order = apart m 20;
-        nested = top-read m box command;
-      }

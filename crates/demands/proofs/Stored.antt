@@ -163,7 +163,7 @@ module _ (box : Box) (stored : Stored) (call : Call) (datagram : List ℕ) (room
       by (broken wrong q) over = ap (λ (r : Response). r .next) (response-of q)
 
   module _ (going : endsRun (o .response .kind) ≡ false) where
-    over-words : o .response ≡ w .response
+    pub over-words : o .response ≡ w .response
     over-words = by stored-case
       where
         by : Case → o .response ≡ w .response

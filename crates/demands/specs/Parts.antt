@@ -4,14 +4,15 @@
 use Prim.Native.Nat.{ℕ, _+_, _-_, _≤_, _<_}
 use mathlib.Core.Path.{_≡_}
 use mathlib.Core.List.{List, [], _∷_}
-use mathlib.Core.Bool.{true}
+use mathlib.Core.Bool.{Bool, true, false}
 use lib.ListN.{length, take, drop}
+use lib.Dec.{leb}
 use Rattle.basics.specs.Numbers.{u32At}
 use Rattle.netlink_attributes.specs.Attributes.{attributes, partOf}
 use Rattle.netlink_attributes.specs.Claims.{Apart}
 use Rattle.netlink.specs.Claims.{PartsIn}
 use Rattle.netlink.specs.declared.policy.Fault.{Fault}
-use Rattle.refusal.specs.Refusal.{ofFault}
+use Rattle.refusal.specs.Refusal.{numberOf, ofFault}
 use Rattle.bitset_form.specs.Bitset.Reading.{refused}
 use Rattle.bitset_form.specs.declared.parts.BitsetParts.{BitsetParts}
 use Rattle.bitset_form.specs.declared.parts.BitParts.{BitParts}
@@ -28,6 +29,8 @@ use Rattle.request.specs.declared.parts.TopParts.{TopParts}
 use Rattle.request.specs.declared.parts.HeaderParts.{HeaderParts}
 use Rattle.request.specs.declared.top.Top.the-variants.{Nests}
 use Rattle.request.specs.declared.header.Header.the-variants.{Parts}
+use Rattle.response.specs.declared.Kind.{Kind}
+use Rattle.response.specs.declared.Kind.the-variants.{End, Skipped, Done, Refused}
 use Rattle.demands.specs.Call.{messageOf}
 
 -- an attribute stands behind a place and ends no later than another: its header of four bytes, then its payload from start to end
@@ -67,6 +70,13 @@ pub record NestParts (box : Box) (m : List ℕ) (command : Command) (top : TopPa
       → PartsIn (top .header .start) (top .header .end) (parts .index ∷ parts .name ∷ parts .flags ∷ [])
   pub bitset : command .change ≡ true → BitsetRead (partOf m 0 (top .bitset .end)) (top .bitset .start) (listOf (box .names) (command .set))
   pub bitset-end : command .change ≡ true → length (partOf m 0 (top .bitset .end)) ≡ top .bitset .end
+
+-- a call that came past 9: it is done, or refused by 10 or more
+abbrev pub pastNine : Kind → Bool
+pastNine End = false
+pastNine Skipped = false
+pastNine Done = true
+pastNine (Refused why) = leb 10 (numberOf why)
 
 -- an admitted request: the message is the bytes of the datagram from the position to position + length; its attributes stand behind byte 20, one
 -- after the other; and its nests are as said

@@ -1,0 +1,162 @@
+-- Demand 2, "Each attribute is shown as its own part of the datagram, inside its parent, apart from its siblings".
+--     request-parts    of every request that is admitted: the message in the datagram, its attributes in the message, and level by level down to the
+--                      parts of each BIT, what is read stands in its parent, apart from its siblings
+--     call-parts       so of every call of the exported handler that is done, or refused by 10 or more
+use Prim.Native.Nat.{ℕ, _+_, _-_, _/_, _%_, _≤_, _<_}
+use mathlib.Core.Path.{_≡_, refl, sym, ap, _∙_}
+use mathlib.Core.List.{List}
+use mathlib.Core.Bool.{Bool, true, false, _||_, not, cond}
+use mathlib.Core.Logic.{⊎-elim}
+use lib.ListN.{length, take, drop, length-drop}
+use lib.Dec.{eqb, ltb}
+use lib.Seq.{length-take-le}
+use native.Mathlib.Omega.{arith}
+use borrow.Author.Tests.{ltb-false, le-ltb, leb-true}
+use Rattle.basics.specs.Numbers.{byteAt, u32At}
+use Rattle.basics.proofs.Order.{lt-or-ge}
+use Rattle.basics.proofs.Truth.{clash}
+use Rattle.netlink_attributes.proofs.Apart.{apart}
+use Rattle.netlink_attributes.proofs.Laws.{part-in, part-past}
+use Rattle.netlink_headers.specs.Headers.{messageHeader}
+use Rattle.netlink_headers.specs.declared.headers.MessageHeader.{MessageHeader}
+use Rattle.refusal.specs.Refusal.{numberOf}
+use Rattle.refusal.specs.declared.Refusal.{Refusal}
+use Rattle.refusal.specs.declared.Refusal.the-variants as R
+use Rattle.boxes.specs.Box.{Box, State}
+use Rattle.boxes.specs.declared.Call.{Call}
+use Rattle.admission.specs.Admission.{notPermitted, permitted, onCommand, admitted}
+use Rattle.admission.specs.Commands.{commandOf}
+use Rattle.admission.specs.declared.Admission.{Admission}
+use Rattle.admission.specs.declared.Admission.the-variants as A
+use Rattle.admission.specs.declared.commands.CommandRead.{CommandRead}
+use Rattle.admission.specs.declared.commands.CommandRead.the-variants.{Listed, Unlisted}
+use Rattle.admission.specs.declared.commands.Command.{Command}
+use Rattle.response.specs.Answer.{Outcome, Response}
+use Rattle.response.specs.declared.Kind.{Kind}
+use Rattle.response.specs.declared.Kind.the-variants.{End, Skipped, Done, Refused}
+use Rattle.handler.specs.Call.{onAdmission, messageOutcome, outcome, endsRun}
+use Rattle.handler.specs.Bytes.{Stored, inWords, bytesOutcome}
+use Rattle.demands.specs.Call.{messageOf, nextOf}
+use Rattle.demands.specs.CallCase.{CallCase}
+use Rattle.demands.specs.CallCase.CallCase.{ended, notRead, messageAnswered}
+use Rattle.demands.specs.Parts.{pastNine, RequestParts}
+use Rattle.demands.proofs.Request.{kind, message-first}
+use Rattle.demands.proofs.CallCase.{call-case}
+use Rattle.demands.proofs.Stored.{over-words}
+use Rattle.demands.proofs.Parts.{top-read}
+
+-- an admitted message has room for its two headers
+admitted-long : (m : List ℕ) (h : MessageHeader) (family : ℕ) (admin : Bool) (command : Command) → admitted m h family admin ≡ A.Admitted command → 20 ≤ length m
+unfolding admitted
+admitted-long m h family admin command = go (ltb (h .kind) 16 || eqb (h .flags % 2) 0) (not (eqb (h .kind) family)) (ltb (length m) 20) refl
+  where
+    go : (a b c : Bool) → ltb (length m) 20 ≡ c
+        → cond a A.Skipped (cond b (A.Refused R.Family) (cond c (A.Refused R.Short) (onCommand (commandOf (byteAt m 16)) (permitted h admin)))) ≡ A.Admitted command
+        → 20 ≤ length m
+    go true b c q e = absurd (let z : _≡_ {A = ℕ} 0 1 = cc in omega arith)
+    go false true c q e = absurd (let z : _≡_ {A = ℕ} 0 1 = cc in omega arith)
+    go false false true q e = absurd (let z : _≡_ {A = ℕ} 0 1 = cc in omega arith)
+    go false false false q e = ltb-false (length m) 20 q
+
+module _ (box : Box) (datagram : List ℕ) (position : ℕ) where
+  abbrev m : List ℕ
+  m = messageOf datagram position
+
+  abbrev stated : ℕ
+  stated = u32At datagram position
+
+  -- a message that is not empty lies in the datagram
+  message-inside : 0 < length m → position + stated ≤ length datagram
+  unfolding messageOf
+  message-inside some = ⊎-elim (λ (h : length datagram < position + stated). absurd (none h)) (λ (h : position + stated ≤ length datagram). h) (lt-or-ge (length datagram) (position + stated))
+    where
+      none : length datagram < position + stated → ⊥
+      none h = let e = ap length (part-past datagram position (position + stated) (omega arith) h) in omega (arith, e, some)
+
+  pub request-parts : (h : MessageHeader) (family : ℕ) (admin : Bool) (command : Command) → admitted m h family admin ≡ A.Admitted command
+      → RequestParts box datagram position command
+  unfolding messageOf
+  request-parts h family admin command e =
+      let long = admitted-long m h family admin command e in
+      let in-it = message-inside (omega arith) in
+      let k : position + stated - position ≡ stated = omega arith in
+      let is : m ≡ take stated (drop position datagram) =
+      sym (part-in datagram position (position + stated) (omega arith) in-it) ∙ ap (λ (n : ℕ). take n (drop position datagram)) k in
+      let size : length m ≡ stated = ap length is ∙ length-take-le stated (drop position datagram) (rw (length-drop position datagram) (omega arith)) in
+      record {
+        message = is;
+        inside = in-it;
+        size = size;
+        headers = omega (arith, size, long);
+        in-order = apart m 20;
+        nested = top-read m box command;
+      }
+
+-- what comes past 9 is admitted
+admission-number : (m : List ℕ) (h : MessageHeader) (family : ℕ) (admin : Bool) (why : Refusal) → admitted m h family admin ≡ A.Refused why → numberOf why ≤ 9
+unfolding admitted permitted
+admission-number m h family admin why e =
+    by (ltb (h .kind) 16 || eqb (h .flags % 2) 0) (not (eqb (h .kind) family)) (ltb (length m) 20) (commandOf (byteAt m 16)) e
+  where
+    told : (r : Refusal) → numberOf r ≤ 9 → A.Refused r ≡ A.Refused why → numberOf why ≤ 9
+    told r l e = let q : r ≡ why = cc in rw (← q) l
+
+    permits : (a b : Bool) (c : Command) → cond a (A.Refused R.Dump) (cond b (A.Refused R.Permission) (A.Admitted c)) ≡ A.Refused why → numberOf why ≤ 9
+    permits true b c e = told R.Dump (omega arith) e
+    permits false true c e = told R.Permission (omega arith) e
+    permits false false c e = absurd (let z : _≡_ {A = ℕ} 0 1 = cc in omega arith)
+
+    by : (a b c : Bool) (x : CommandRead)
+        → cond a A.Skipped (cond b (A.Refused R.Family) (cond c (A.Refused R.Short) (onCommand x (permitted h admin)))) ≡ A.Refused why → numberOf why ≤ 9
+    by true b c x e = absurd (let z : _≡_ {A = ℕ} 0 1 = cc in omega arith)
+    by false true c x e = told R.Family (omega arith) e
+    by false false true x e = told R.Short (omega arith) e
+    by false false false Unlisted e = told R.Command (omega arith) e
+    by false false false (Listed c) e = permits (eqb (h .flags / 256 % 4) 3) (notPermitted c admin) c e
+
+module _ (box : Box) (stored : Stored) (call : Call) (datagram : List ℕ) (room : ℕ) where
+  abbrev header : MessageHeader
+  header = messageHeader datagram (call .position)
+
+  abbrev message : List ℕ
+  message = messageOf datagram (call .position)
+
+  abbrev said : Kind
+  said = bytesOutcome box stored call datagram room .response .kind
+
+  abbrev Parted : Type 0
+  Parted = (command : Command) × (admitted message header (call .family) (eqb (call .admin) 1) ≡ A.Admitted command) × RequestParts box datagram (call .position) command
+
+  -- what the message comes to is what the call says
+  by-admission : (next : ℕ) (a : Admission) → admitted message header (call .family) (eqb (call .admin) 1) ≡ a
+      → kind (onAdmission a box (inWords stored) message header next) ≡ said → pastNine said ≡ true → Parted
+  by-admission next A.Skipped e q past = absurd (clash (ap pastNine q ∙ past) refl)
+  by-admission next (A.Refused why) e q past =
+      let l = leb-true 10 (numberOf why) (ap pastNine q ∙ past) in
+      let few = admission-number message header (call .family) (eqb (call .admin) 1) why e in
+      absurd (omega arith)
+  by-admission next (A.Admitted command) e q past = (command, e, request-parts box datagram (call .position) header (call .family) (eqb (call .admin) 1) command e)
+
+  goes-on : (k : Kind) → pastNine k ≡ true → endsRun k ≡ false
+  goes-on End e = absurd (clash e refl)
+  goes-on Skipped e = refl
+  goes-on Done e = refl
+  goes-on (Refused why) e = le-ltb (numberOf why) 5 (let l = leb-true 10 (numberOf why) e in omega arith)
+
+  pub call-parts : pastNine said ≡ true → Parted
+  unfolding messageOutcome
+  call-parts past = by (call-case box (inWords stored) call datagram room)
+    where
+      same : outcome box (inWords stored) call datagram room .response ≡ bytesOutcome box stored call datagram room .response
+      same = sym (over-words box stored call datagram room (goes-on said past))
+
+      is : {o : Outcome State} → outcome box (inWords stored) call datagram room ≡ o → o .response .kind ≡ said
+      is e = ap (λ (x : Outcome State). x .response .kind) (sym e) ∙ ap (λ (r : Response). r .kind) same
+
+      by : CallCase box (inWords stored) call datagram (outcome box (inWords stored) call datagram room) → Parted
+      by (ended e) = absurd (clash (ap pastNine (is e) ∙ past) refl)
+      by (notRead why l e) = let g = leb-true 10 (numberOf why) (ap pastNine (is e) ∙ past) in absurd (omega arith)
+      by (messageAnswered right lo hi long first c) =
+          let next = nextOf datagram (call .position) in
+          by-admission next (admitted message header (call .family) (eqb (call .admin) 1)) refl
+          (message-first box (inWords stored) message header next call ∙ sym first ∙ ap (λ (r : Response). r .kind) same) past
