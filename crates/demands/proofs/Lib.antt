@@ -1,4 +1,5 @@
 pub mod First
+pub mod Tables
 pub mod Bitset
 pub mod Request
 pub mod Exact
@@ -20,6 +21,7 @@ pub mod Stored
 pub mod Parts
 pub mod CallParts
 pub mod Change
+pub mod Example
 pub mod PaddingAttributes
 pub mod PaddingWalk
 pub mod PaddingBitset

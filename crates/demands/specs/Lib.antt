@@ -1,4 +1,5 @@
 pub mod Check
+pub mod Tables
 pub mod Bitset
 pub mod NormalChecks
 pub mod Request
@@ -12,4 +13,5 @@ pub mod Normaliser
 pub mod Parts
 pub mod Stored
 pub mod Change
+pub mod Example
 pub mod Padding
