@@ -51,7 +51,7 @@ module _ (m : List ℕ) (long : 16 ≤ length m) (errno : ℕ) (d : Detail) wher
   error-stated = digits32 (length (detailBytes d) + 36) (let l = detail-long d in let a = l .0 in omega arith) ∙ sym length-error
 
   one : Messages (errorMessage m errno d)
-  one = rw (← append-nil (errorMessage m errno d)) (next (errorMessage m errno d) [] error-stated none)
+  one = rw (← append-nil (errorMessage m errno d)) (next (errorMessage m errno d) [] (let e = length-error in omega arith) error-stated none)
 
   pub error-counted : Counted (errorMessage m errno d)
   error-counted =
@@ -93,4 +93,4 @@ module _ (h : Heading) (content : Content) (port : nulAt (content .name) < 16) (
       let whole = reply-whole h content in
       let all = length-append reply rest in
       let after = counted .words in
-      record { messages = next reply rest reply-stated (counted .messages); words = omega arith; most = omega arith }
+      record { messages = next reply rest (let e = length-reply h content in omega arith) reply-stated (counted .messages); words = omega arith; most = omega arith }

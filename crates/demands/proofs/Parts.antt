@@ -1,13 +1,12 @@
 -- What is read of a request stands in its parent, apart from its siblings: from the parts of a BIT up to the nests of the top level.
 --     bitset-read     the bitset: a fault in it, or its parts, and of BITS each BIT and its parts
---     header-read     index, name and flags stand in the header nest
+--     header-read     the header: a fault in it, or index, name and flags in it
 --     top-read        header and bitset stand in the message behind byte 20, and what is read of them in them
 use Prim.Native.Nat.{ℕ, _-_, _≤_, _<_}
 use mathlib.Core.Path.{_≡_, refl, sym, ap, _∙_}
 use mathlib.Core.List.{List, [], _∷_}
-use mathlib.Core.Bool.{Bool, true, false, _&&_, _||_, not, cond}
+use mathlib.Core.Bool.{Bool, true, false, _&&_, not, cond}
 use lib.ListN.{length, drop, getD, length-drop}
-use lib.Dec.{ltb}
 use lib.Seq.{length-take-le}
 use native.Mathlib.Omega.{arith}
 use Rattle.basics.proofs.Truth.{clash}
@@ -16,7 +15,7 @@ use Rattle.netlink_attributes.specs.Attributes.Attributes.{done, broken, attrib
 use Rattle.netlink_attributes.specs.Claims.{Apart}
 use Rattle.netlink_attributes.proofs.Apart.{apart}
 use Rattle.netlink_attributes.proofs.Laws.{part-in}
-use Rattle.netlink.specs.Walk.{absent, walked, slotNumber}
+use Rattle.netlink.specs.Walk.{absent, walked}
 use Rattle.netlink.specs.Claims.{Inside, Disjoint, PartsIn}
 use Rattle.netlink.proofs.walk.Place.{slot-inside, slots-disjoint, fault-inside}
 use Rattle.netlink.specs.declared.policy.Rule.{Rule}
@@ -40,16 +39,17 @@ use Rattle.admission.specs.declared.commands.Command.{Command}
 use Rattle.request.specs.Policies.{topPolicy, headerPolicy}
 use Rattle.request.specs.Parts.{topParts, headerParts}
 use Rattle.request.specs.Top.{nestsOf, topOf}
-use Rattle.request.specs.Header.{flagsJudged, partsOf, headerOf}
+use Rattle.request.specs.Header.{partsOf, headerOf}
 use Rattle.request.specs.declared.parts.TopParts.{TopParts}
 use Rattle.request.specs.declared.parts.HeaderParts.{HeaderParts}
 use Rattle.request.specs.declared.top.Top.the-variants as T
 use Rattle.request.specs.declared.header.Header.the-variants as H
 use Rattle.response.specs.declared.Kind.the-variants.{Refused}
-use Rattle.demands.specs.Parts.{StandsIn, BitsRead, ListRead, BitsetRead, NestParts}
+use Rattle.demands.specs.Parts.{StandsIn, BitsRead, ListRead, BitsetRead, HeaderRead, NestParts}
 use Rattle.demands.specs.Parts.BitsRead.{noBit, bitFault, bitRead}
 use Rattle.demands.specs.Parts.ListRead.{bitsFault, bitsRead}
 use Rattle.demands.specs.Parts.BitsetRead.{bitsetFault, bitsetRead}
+use Rattle.demands.specs.Parts.HeaderRead.{headerFault, headerRead}
 use Rattle.demands.proofs.Request.{kind}
 
 -- a list cut at an end inside it ends there
@@ -159,10 +159,9 @@ module _ (s names : List ℕ) where
 
 -- the header nest, and the top level
 module _ (m : List ℕ) where
-  pub header-read : (header : Slot) → header .start ≤ header .end → header .end ≤ length m → (parts : HeaderParts) (flags : ℕ) → headerOf m header ≡ H.Parts parts flags
-      → PartsIn (header .start) (header .end) (parts .index ∷ parts .name ∷ parts .flags ∷ [])
-  unfolding headerOf partsOf flagsJudged headerParts
-  header-read header lo hi parts flags = go (walked headerPolicy s (header .start) .stop) refl
+  pub header-read : (header : Slot) → header .end ≤ length m → HeaderRead m header
+  unfolding headerOf headerParts
+  header-read header hi = go (walked headerPolicy s (header .start) .stop) refl refl
     where
       s : List ℕ
       s = partOf m 0 (header .end)
@@ -170,17 +169,12 @@ module _ (m : List ℕ) where
       read : HeaderParts
       read = headerParts (walked headerPolicy s (header .start) .slots)
 
-      is-it : (a b : Bool) (nest place n : ℕ) → cond a (H.Refused (R.NoPort nest)) (cond b (H.Refused (R.HeaderFlag place)) (H.Parts read n)) ≡ H.Parts parts flags → read ≡ parts
-      is-it true b nest place n e = absurd (let z : _≡_ {A = ℕ} 0 1 = cc in omega arith)
-      is-it false true nest place n e = absurd (let z : _≡_ {A = ℕ} 0 1 = cc in omega arith)
-      is-it false false nest place n e = cc
-
-      go : (t : Stop) → walked headerPolicy s (header .start) .stop ≡ t → onStop t H.Refused (partsOf m (header .start - 4) read) ≡ H.Parts parts flags
-          → PartsIn (header .start) (header .end) (parts .index ∷ parts .name ∷ parts .flags ∷ [])
-      go (At fault place) w e = absurd (let z : _≡_ {A = ℕ} 0 1 = cc in omega arith)
-      go Whole w e =
-          let same = is-it (not (read .index .present || read .name .present)) (ltb 3 (slotNumber m (read .flags))) (header .start - 4) (read .flags .start - 4) (slotNumber m (read .flags)) e in
-          rw (← same) (rw (front-length m (header .end) hi) at (three-parts headerPolicy s (header .start) w))
+      go : (t : Stop) → walked headerPolicy s (header .start) .stop ≡ t → headerOf m header ≡ onStop t H.Refused (partsOf m (header .start - 4) read) → HeaderRead m header
+      go Whole w e = headerRead read (rw (front-length m (header .end) hi) at (three-parts headerPolicy s (header .start) w)) e
+      go (At fault place) w e =
+          let i = fault-inside headerPolicy s (header .start) fault place w in
+          let h = i .1 in
+          headerFault fault place (i .0) (omega (arith, front-length m (header .end) hi)) e
 
   -- the top level read by its walk
   module _ (box : Box) (command : Command) where
@@ -214,7 +208,7 @@ module _ (m : List ℕ) where
             rw (← is .0)
             (record {
               nests = two-parts (topPolicy change) m 20 w;
-              header = header-read (read .header) (header-in .1) (header-in .2);
+              header = header-read (read .header) (header-in .2);
               bitset = λ t. bitset-read (partOf m 0 (read .bitset .end)) (listOf (box .names) (command .set)) (read .bitset .start);
               bitset-end = λ t. front-length m (read .bitset .end) (inside (topPolicy change) m 20 w 2 (omega arith) (is .2 t) .2);
             })

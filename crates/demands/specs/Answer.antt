@@ -20,10 +20,10 @@ refusalBytes message why = cond (ltb (numberOf why) 5) [] (errorMessage message 
 unfoldable pub ackIfAsked : List ℕ → MessageHeader → List ℕ
 ackIfAsked message h = cond (eqb (h .flags / 4 % 2) 1) (errorMessage message 0 Nothing) []
 
--- messages one after the other, each as long as its header states
+-- messages one after the other, each with a whole header and as long as that states
 pub data Messages : List ℕ → Type 0 where
   none : Messages []
-  next : (message rest : List ℕ) → u32At message 0 ≡ length message → Messages rest → Messages (message ++ rest)
+  next : (message rest : List ℕ) → 16 ≤ length message → u32At message 0 ≡ length message → Messages rest → Messages (message ++ rest)
 
 -- "the count being the stated messages' summed lengths": whole messages, whole words, and never more than the longest reply with its ACK
 pub record Counted (bytes : List ℕ) : Type 0 where

@@ -12,6 +12,7 @@ use Rattle.netlink_attributes.specs.Attributes.{attributes, partOf}
 use Rattle.netlink_attributes.specs.Claims.{Apart}
 use Rattle.netlink.specs.Claims.{PartsIn}
 use Rattle.netlink.specs.declared.policy.Fault.{Fault}
+use Rattle.netlink.specs.declared.walk.Slot.{Slot}
 use Rattle.refusal.specs.Refusal.{numberOf, ofFault}
 use Rattle.bitset_form.specs.Bitset.Reading.{refused}
 use Rattle.bitset_form.specs.declared.parts.BitsetParts.{BitsetParts}
@@ -24,11 +25,11 @@ use Rattle.layout.specs.Layout.{listOf}
 use Rattle.boxes.specs.Box.{Box}
 use Rattle.admission.specs.declared.commands.Command.{Command}
 use Rattle.request.specs.Top.{topOf}
-use Rattle.request.specs.Header.{headerOf}
+use Rattle.request.specs.Header.{partsOf, headerOf}
 use Rattle.request.specs.declared.parts.TopParts.{TopParts}
 use Rattle.request.specs.declared.parts.HeaderParts.{HeaderParts}
 use Rattle.request.specs.declared.top.Top.the-variants.{Nests}
-use Rattle.request.specs.declared.header.Header.the-variants.{Parts}
+use Rattle.request.specs.declared.header.Header.the-variants as H
 use Rattle.response.specs.declared.Kind.{Kind}
 use Rattle.response.specs.declared.Kind.the-variants.{End, Skipped, Done, Refused}
 use Rattle.demands.specs.Call.{messageOf}
@@ -63,11 +64,18 @@ pub data BitsetRead (s : List ℕ) (from : ℕ) (names : List ℕ) : Type 0 wher
       → (parts .bits .present ≡ true → ListRead s names parts)
       → BitsetRead s from names
 
+-- what is read of the header nest of a message m: a fault in it, or what its parts come to
+pub data HeaderRead (m : List ℕ) (header : Slot) : Type 0 where
+  headerFault : (fault : Fault) (place : ℕ) → header .start ≤ place → place < header .end → headerOf m header ≡ H.Refused (ofFault fault place)
+      → HeaderRead m header
+  headerRead : (parts : HeaderParts) → PartsIn (header .start) (header .end) (parts .index ∷ parts .name ∷ parts .flags ∷ [])
+      → headerOf m header ≡ partsOf m (header .start - 4) parts
+      → HeaderRead m header
+
 -- the nests of a request m: the header and the bitset in the message, what is read of the header in the header, what is read of the bitset in the bitset
 pub record NestParts (box : Box) (m : List ℕ) (command : Command) (top : TopParts) : Type 0 where
   pub nests : PartsIn 20 (length m) (top .header ∷ top .bitset ∷ [])
-  pub header : (parts : HeaderParts) (flags : ℕ) → headerOf m (top .header) ≡ Parts parts flags
-      → PartsIn (top .header .start) (top .header .end) (parts .index ∷ parts .name ∷ parts .flags ∷ [])
+  pub header : HeaderRead m (top .header)
   pub bitset : command .change ≡ true → BitsetRead (partOf m 0 (top .bitset .end)) (top .bitset .start) (listOf (box .names) (command .set))
   pub bitset-end : command .change ≡ true → length (partOf m 0 (top .bitset .end)) ≡ top .bitset .end
 
