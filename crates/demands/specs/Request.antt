@@ -43,7 +43,7 @@ unfoldable pub isSet : CommandRead → Bool
 isSet Unlisted = false
 isSet (Listed command) = command .change
 
--- the set that it is about
+-- the set that it is about; a command that is not listed is refused before this is asked
 unfoldable pub setIn : CommandRead → Set
 setIn Unlisted = Debug
 setIn (Listed command) = command .set

@@ -23,7 +23,7 @@ unfoldable pub listOf : Names → Set → List ℕ
 listOf names Debug = names .debug
 listOf names Flags = names .flags
 
--- the number of a set
+-- the number for a set, of a number for each
 unfoldable pub sizeOf : Sizes → Set → ℕ
 sizeOf sizes Debug = sizes .debug
 sizeOf sizes Flags = sizes .flags
@@ -57,7 +57,7 @@ firstOf width Flags = width .debug
 unfoldable pub totalWords : ℕ → Sizes → ℕ
 totalWords ports width = ports * portWords width
 
--- the first word of a set of the port at a position
+-- the first word of a set of the port at a position; in this order of the sets the count of ports does not matter
 unfoldable pub setPlace : ℕ → Sizes → ℕ → Set → ℕ
 setPlace ports width position set = position * portWords width + firstOf width set
 

@@ -12,7 +12,7 @@ use Rattle.names.specs.declared.Lookup.{Lookup}
 unfoldable pub isEntry : List ℕ → List ℕ → ℕ → Bool
 isEntry names name i = sameEntry (entryAt names i) name
 
--- a name that can stand in no list: empty, or longer than an entry
+-- a name that no entry can equal: empty, which matches none, or longer than an entry
 unfoldable pub noName : List ℕ → Bool
 noName name = isEmpty name || ltb 32 (length name)
 
