@@ -1,4 +1,4 @@
--- Document 01, "Replies": what the program writes for the request of the whole reply, and for a datagram that is too long.
+-- Document 01, "Replies": what the program writes for the request of the whole reply, for the same request of the debug set, and for a datagram that is too long.
 use Prim.Native.Nat.{ℕ, _<_}
 use mathlib.Core.Path.{_≡_, refl, ap, _∙_}
 use mathlib.Core.List.{List, [], _∷_}
@@ -64,6 +64,37 @@ whole-run =
     answers-step request firstState 0 ∙ ap (λ (o : A.Outcome State). onCall o (answersFrom request)) first-call
     ∙ ap (λ (l : List (List ℕ)). wholeReply ∷ l)
     (answers-step request firstState 40 ∙ ap (λ (o : A.Outcome State). onCall o (answersFrom request)) last-call)
+
+-- DEBUG_GET of port 3 with header flag 1, sequence 7, port id 9: 40 bits, none of them set
+abbrev debugRequest : List ℕ
+debugRequest =
+    0x28 ∷ 0x00 ∷ 0x00 ∷ 0x00 ∷ 0x19 ∷ 0x00 ∷ 0x01 ∷ 0x00 ∷ 0x07 ∷ 0x00 ∷ 0x00 ∷ 0x00 ∷ 0x09 ∷ 0x00 ∷ 0x00 ∷ 0x00
+    ∷ 0x07 ∷ 0x01 ∷ 0x00 ∷ 0x00 ∷ 0x14 ∷ 0x00 ∷ 0x01 ∷ 0x80 ∷ 0x08 ∷ 0x00 ∷ 0x01 ∷ 0x00 ∷ 0x03 ∷ 0x00 ∷ 0x00 ∷ 0x00
+    ∷ 0x08 ∷ 0x00 ∷ 0x03 ∷ 0x00 ∷ 0x01 ∷ 0x00 ∷ 0x00 ∷ 0x00 ∷ []
+
+abbrev debugReply : List ℕ
+debugReply =
+    0x44 ∷ 0x00 ∷ 0x00 ∷ 0x00 ∷ 0x19 ∷ 0x00 ∷ 0x00 ∷ 0x00 ∷ 0x07 ∷ 0x00 ∷ 0x00 ∷ 0x00 ∷ 0x09 ∷ 0x00 ∷ 0x00 ∷ 0x00
+    ∷ 0x07 ∷ 0x01 ∷ 0x00 ∷ 0x00 ∷ 0x14 ∷ 0x00 ∷ 0x01 ∷ 0x80 ∷ 0x08 ∷ 0x00 ∷ 0x01 ∷ 0x00 ∷ 0x03 ∷ 0x00 ∷ 0x00 ∷ 0x00
+    ∷ 0x08 ∷ 0x00 ∷ 0x02 ∷ 0x00 ∷ 0x73 ∷ 0x77 ∷ 0x30 ∷ 0x00 ∷ 0x1C ∷ 0x00 ∷ 0x02 ∷ 0x80 ∷ 0x04 ∷ 0x00 ∷ 0x01 ∷ 0x00
+    ∷ 0x08 ∷ 0x00 ∷ 0x02 ∷ 0x00 ∷ 0x28 ∷ 0x00 ∷ 0x00 ∷ 0x00 ∷ 0x0C ∷ 0x00 ∷ 0x04 ∷ 0x00 ∷ 0x00 ∷ 0x00 ∷ 0x00 ∷ 0x00
+    ∷ 0x00 ∷ 0x00 ∷ 0x00 ∷ 0x00 ∷ []
+
+debug-call : call debugRequest firstState 0 ≡ A.unchanged (A.responseOf Done 40 debugReply) firstState
+unfolding call K.outcome K.positionOutcome K.messageOutcome OB.requestOutcome OB.headerOutcome OB.portOutcome OB.getBytes OB.contentIn X.setOf OB.replyAndAck A.ackBytes portRoll debugNames flagNames firstWords programBox firstState messageAt H.messageHeaderAt H.genericHeaderAt H.attributeHeaderAt T.attributeAt T.partOf T.attributesUpTo T.attributes Y.ruleOf Y.nulAt Y.isNamePayload Y.plain Y.nested Y.judged W.firstFault W.lastOfType W.walked W.slotNumber Q.notPermitted Q.permitted Q.admitted C.commandIn C.commandOf topPolicy topParts headerParts O.nestsOf O.topOf HR.flagsJudged HR.partsOf HR.headerOf G.otherName G.portByIndex G.portByName G.portOf I.withFlags I.targetOf F.findPort F.hasIndex F.foundByIndex P.portCount P.portsOf P.recordPorts P.portAt P.indexOf P.nameOf P.records P.recordsUpTo P.recordAt P.recordSize M.nameAt L.listOf L.sizeOf L.portWords L.firstOf L.totalWords L.setPlace L.setAt byteAt u16At u32At all first RM.replyBytes RM.headersBytes RM.attributesBytes RS.setBytes RS.contentsBytes RS.compactBytes RS.openingBytes IN.indexNest IN.indexAndName IN.nameIfAny TW.nameBytes TW.nest TW.attr TW.padding HW.messageHeaderBytes HW.genericHeaderBytes HW.attributeHeaderBytes bytesOf
+debug-call = rw (box-right 0) refl
+
+debug-last : call debugRequest firstState 40 ≡ A.unchanged (A.noBytes End 40) firstState
+unfolding call K.outcome K.positionOutcome messageAt
+debug-last = rw (box-right 40) refl
+
+-- the debug set, and nothing else
+pub debug-run : answers debugRequest ≡ debugReply ∷ []
+unfolding answers
+debug-run =
+    answers-step debugRequest firstState 0 ∙ ap (λ (o : A.Outcome State). onCall o (answersFrom debugRequest)) debug-call
+    ∙ ap (λ (l : List (List ℕ)). debugReply ∷ l)
+    (answers-step debugRequest firstState 40 ∙ ap (λ (o : A.Outcome State). onCall o (answersFrom debugRequest)) debug-last)
 
 long-stops : (d : List ℕ) → 32768 < length d → call d firstState 0 ≡ K.refusedInPlace Datagram (callAt 0) firstState
 unfolding call K.outcome
