@@ -12,16 +12,16 @@ use Rattle.answer.proofs.Whole.{too-long}
 pub full-unanswered : (input : List ℕ) (n : ℕ) → length input ≡ 32769 → n ≡ length input → length (answers (take n input)) ≡ 0
 full-unanswered input n long full = ap length (too-long (take n input) (omega (arith, length-take-le n input (omega arith))))
 
--- n is the count of the bytes that were read
-module _ (input : List ℕ) (filled n : ℕ) (is : n ≡ filled) where
-  pub part-read : filled ≤ length input → n ≡ length (take n input)
-  part-read h = sym (length-take-le n input (omega arith))
+-- the array and the count of the input, as they were handed out
+module _ (input bytes : List ℕ) (count n : ℕ) (same : bytes ≡ input) (is : n ≡ count) where
+  pub part-read : count ≤ length input → n ≡ length (take n bytes)
+  part-read h = sym (length-take-le n bytes (rw (same, is) h))
 
-  module _ (k : ℕ) (all : k ≡ length (answers (take n input))) where
-    pub answers-read : k ≡ length (answers (take filled input))
-    answers-read = rw is at all
+  module _ (k : ℕ) (all : k ≡ length (answers (take n bytes))) where
+    pub answers-read : k ≡ length (answers (take count input))
+    answers-read = rw (same, is) at all
 
-    pub full-counted : length input ≡ 32769 → filled ≡ length input → k ≡ 0
-    full-counted long full = all ∙ full-unanswered input n long (is ∙ full)
+    pub full-counted : length input ≡ 32769 → count ≡ length input → k ≡ 0
+    full-counted long full = answers-read ∙ full-unanswered input count long full
 
 pub ruleset input-laws = (part-read, answers-read, full-counted)

@@ -10,15 +10,12 @@ ghost use Rattle.answer.specs.Run.{call, goesOn, answers};
 mod input;
 mod output;
 
-use crate::input::Filled;
+use crate::input::Input;
 use crate::output::Written;
 use boxes::Call;
 use handler::call::handle;
 use response::Answer;
 use response::Kind;
-
-// One byte more than the longest datagram, so that a longer one is seen to be too long.
-const INPUT: usize = 32769;
 
 const PAGE: usize = 32768;
 
@@ -96,19 +93,19 @@ fn answer_datagram(datagram: &[u8], page: &mut [u8; 32768]) -> Written
     answer_all(roll, &debug, &flags, &mut settings, datagram, page)
 }
 
-// The same for the bytes that a read put at the front of the input. Where it filled the input, the datagram may be cut: nothing is written.
-fn answer_input(input: &[u8], filled: Filled, page: &mut [u8; 32768]) -> Written
-    requires { ⌜ (length (now input) ≡ 32769) × Counts (filled .count) (now input) × (now page ≡ replicate 32768 0) ⌝ }
-    ensures { λ r. ⌜ r .count ≡ length (answers (take (filled .count) (now (input .entry)))) ⌝ }
-    ensures { λ r. ⌜ (filled .count ≡ length (now (input .entry)) → r .count ≡ 0) ⌝ }
+// The same for the bytes of the input that were read. Where they fill the array, the datagram may be cut: nothing is written.
+fn answer_input(input: Input, page: &mut [u8; 32768]) -> Written
+    requires { ⌜ (length (input .bytes) ≡ 32769) × Counts (input .count) (input .bytes) × (now page ≡ replicate 32768 0) ⌝ }
+    ensures { λ r. ⌜ r .count ≡ length (answers (take (input .count) (input .bytes))) ⌝ }
+    ensures { λ r. ⌜ (input .count ≡ length (input .bytes) → r .count ≡ 0) ⌝ }
 {
-    let n = filled.count();
-    answer_datagram(&input[..n], page)
+    let bytes = input.bytes();
+    let n = input.count();
+    answer_datagram(&bytes[..n], page)
 }
 
 fn main() {
-    let mut input = [0u8; INPUT];
     let mut page = [0u8; PAGE];
-    let filled = Filled::read(&mut input);
-    answer_input(&input, filled, &mut page);
+    let input = Input::read();
+    answer_input(input, &mut page);
 }
