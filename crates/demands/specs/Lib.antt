@@ -11,5 +11,6 @@ pub mod Done
 pub mod Normaliser
 pub mod Parts
 pub mod Stored
+pub mod BoxRules
 pub mod Change
 pub mod Padding
