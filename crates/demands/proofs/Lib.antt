@@ -29,3 +29,4 @@ pub mod Padding
 pub mod BoxNames
 pub mod BoxRoll
 pub mod BoxRules
+pub mod BoxRefused
