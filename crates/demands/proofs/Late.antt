@@ -23,7 +23,7 @@ use Rattle.demands.proofs.Rows.{Every, OfBitset, first-every, row, walk
 use Rattle.demands.proofs.Rows.Every.{nothing, pass, skip}
 
 -- a refusal of the table's later rows
-abbrev Late : Refusal → Type 0
+abbrev pub Late : Refusal → Type 0
 Late why = 5 ≤ numberOf why
 
 fault-late : (fault : Fault) (at : ℕ) → Late (ofFault fault at)
@@ -56,7 +56,7 @@ skip-late h {checks} rest = go (ltb (h .kind) 16 || eqb (h .flags % 2) 0)
     go true = skip rest
     go false = pass rest
 
-message-late : (box : Box) (call : Call) (m : List ℕ) (h : MessageHeader) → Every Late (messageChecks box call m h)
+pub message-late : (box : Box) (call : Call) (m : List ℕ) (h : MessageHeader) → Every Late (messageChecks box call m h)
 unfolding messageChecks commandChecks admissionChecks
 message-late box call m h =
     skip-late h

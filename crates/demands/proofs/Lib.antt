@@ -28,3 +28,7 @@ pub mod PaddingBitset
 pub mod PaddingRequest
 pub mod PaddingMessage
 pub mod Padding
+pub mod BoxNames
+pub mod BoxRoll
+pub mod BoxRules
+pub mod BoxRefused

@@ -22,7 +22,7 @@ use Rattle.demands.specs.Padding.{SameBytes, Payloads, EachAgrees}
 pub part-long : (s : List ℕ) (a e : ℕ) → a ≤ e → e ≤ length s → length (partOf s a e) ≡ e - a
 part-long s a e h g = rw (← part-in s a e h g) (simp (length-take, length-drop) (omega arith))
 
-byte-in : (s : List ℕ) (a e k : ℕ) → a ≤ e → e ≤ length s → k < e - a → getD (partOf s a e) k 0 ≡ getD s (a + k) 0
+pub byte-in : (s : List ℕ) (a e k : ℕ) → a ≤ e → e ≤ length s → k < e - a → getD (partOf s a e) k 0 ≡ getD s (a + k) 0
 byte-in s a e k h g l = rw (← part-in s a e h g) (getD-take (e - a) (drop a s) k 0 l ∙ getD-drop a s k 0)
 
 pub part-none : (s : List ℕ) → partOf s 0 0 ≡ []

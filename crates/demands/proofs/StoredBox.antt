@@ -66,11 +66,11 @@ module _ (ws : List ℕ) (ports : ℕ) (width : Sizes) (position : ℕ) (set : S
   abbrev part : List ℕ → List ℕ
   part s = take (sizeOf width set) (drop (setPlace ports width position set) s)
 
-  part-at : (s : List ℕ) (j : ℕ) → j < sizeOf width set → getD (part s) j 0 ≡ getD s (setPlace ports width position set + j) 0
+  pub part-at : (s : List ℕ) (j : ℕ) → j < sizeOf width set → getD (part s) j 0 ≡ getD s (setPlace ports width position set + j) 0
   part-at s j l =
       getD-take (sizeOf width set) (drop (setPlace ports width position set) s) j 0 l ∙ getD-drop (setPlace ports width position set) s j 0
 
-  part-past : (s : List ℕ) (j : ℕ) → sizeOf width set ≤ j → getD (part s) j 0 ≡ 0
+  pub part-past : (s : List ℕ) (j : ℕ) → sizeOf width set ≤ j → getD (part s) j 0 ≡ 0
   part-past s j l =
       List·getD-eq-default (part s) 0 (omega (arith, length-take (sizeOf width set) (drop (setPlace ports width position set) s)))
 
