@@ -19,6 +19,7 @@ pub mod StoredBox
 pub mod Stored
 pub mod Parts
 pub mod CallParts
+pub mod Says
 pub mod Change
 pub mod PaddingAttributes
 pub mod PaddingWalk

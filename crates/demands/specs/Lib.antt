@@ -10,6 +10,7 @@ pub mod Run
 pub mod Done
 pub mod Normaliser
 pub mod Parts
+pub mod Says
 pub mod Stored
 pub mod Change
 pub mod Padding
