@@ -20,6 +20,7 @@ pub mod StoredBox
 pub mod Stored
 pub mod Parts
 pub mod CallParts
+pub mod Says
 pub mod Change
 pub mod Example
 pub mod PaddingAttributes

@@ -2,7 +2,7 @@
 --     bitset-read     the bitset: a fault in it, or its parts, and of BITS each BIT and its parts
 --     header-read     the header: a fault in it, or index, name and flags in it
 --     top-read        header and bitset stand in the message behind byte 20, and what is read of them in them
-use Prim.Native.Nat.{ℕ, _-_, _≤_, _<_}
+use Prim.Native.Nat.{ℕ, _+_, _-_, _≤_, _<_}
 use mathlib.Core.Path.{_≡_, refl, sym, ap, _∙_}
 use mathlib.Core.List.{List, [], _∷_}
 use mathlib.Core.Bool.{Bool, true, false, _&&_, not, cond}
@@ -11,12 +11,14 @@ use lib.Seq.{length-take-le}
 use native.Mathlib.Omega.{arith}
 use Rattle.basics.proofs.Truth.{clash}
 use Rattle.netlink_attributes.specs.Attributes.{Attributes, attributes, partOf}
-use Rattle.netlink_attributes.specs.Attributes.Attributes.{done, broken, attribute}
+use Rattle.netlink_attributes.specs.Attributes.Attributes.{done, attribute}
 use Rattle.netlink_attributes.specs.Claims.{Apart}
 use Rattle.netlink_attributes.proofs.Apart.{apart}
 use Rattle.netlink_attributes.proofs.Laws.{part-in}
 use Rattle.netlink.specs.Walk.{absent, walked}
-use Rattle.netlink.specs.Claims.{Inside, Disjoint, PartsIn}
+use Rattle.netlink.specs.Claims.{Inside, Disjoint, PartsIn, Passed}
+use Rattle.netlink.specs.Claims.Passed.{here, next}
+use Rattle.netlink.proofs.walk.Meaning.{whole-passed, stop-is}
 use Rattle.netlink.proofs.walk.Place.{slot-inside, slots-disjoint, fault-inside}
 use Rattle.netlink.specs.declared.policy.Rule.{Rule}
 use Rattle.netlink.specs.declared.walk.Slot.{Slot}
@@ -94,27 +96,23 @@ module _ (p : List Rule) (s : List ℕ) (from : ℕ) (whole : walked p s from .s
 
 -- the BITs
 module _ (s names : List ℕ) where
-  earlier : {at : ℕ} {list : ListReading} (before : ℕ) → before ≤ at → BitsRead s names at list → BitsRead s names before list
-  earlier before l noBit = noBit
-  earlier before l (bitFault start end (a, b, c) fault place lo hi) = bitFault {at = before} start end (omega arith, b, c) fault place lo hi
-  earlier before l (bitRead start end (a, b, c) parts inside rest) = bitRead {at = before} start end (omega arith, b, c) parts inside rest
-
-  bits-read : (at : ℕ) (xs : Attributes) → Apart s at xs → BitsRead s names at (bitsReading s names xs)
+  -- the BITs from a place on, of which only padding parts it
+  bits-read : (before at : ℕ) → before ≤ at → at < before + 4 → (xs : Attributes) → Apart s at xs → Passed bitsPolicy s xs done
+      → BitsRead s names before (bitsReading s names xs)
   unfolding bitsReading bitParts
-  bits-read at done q = noBit
-  bits-read at (broken p) q = noBit
-  bits-read at (attribute k b a e rest) q =
+  bits-read before at lo hi done q here = noBit {at = before} (omega (arith, q))
+  bits-read before at lo hi (attribute k b a e rest) q (next right others) =
       rw (by-walk (partOf s 0 e) names a)
-      (go (walked bitPolicy (partOf s 0 e) a .stop) refl (earlier e (q .5 .1) (bits-read (q .5 .0) rest (q .5 .3))))
+      (go (walked bitPolicy (partOf s 0 e) a .stop) refl (bits-read e (q .5 .0) (q .5 .1) (q .5 .4) rest (q .5 .3) others))
     where
-      stands : StandsIn at (length s) a e
-      stands = let i = q .0 in (omega arith, q .2, q .3)
+      stands : StandsIn before (length s) a e
+      stands = let i = q .0 in (omega arith, omega arith, q .2, q .3)
 
       cut : length (partOf s 0 e) ≡ e
       cut = front-length s e (q .3)
 
       go : (t : Stop) → walked bitPolicy (partOf s 0 e) a .stop ≡ t → BitsRead s names e (bitsReading s names rest)
-          → BitsRead s names at
+          → BitsRead s names before
           (onBit (onStop t B.Refused (bitPartsReading (partOf s 0 e) names (a - 4) (bitParts (walked bitPolicy (partOf s 0 e) a .slots)))) (bitsReading s names rest))
       go Whole w others = bitRead a e stands _ (rw cut at (three-parts bitPolicy (partOf s 0 e) a w)) others
       go (At fault place) w others =
@@ -136,7 +134,9 @@ module _ (s names : List ℕ) where
 
       go : (t : Stop) → walked bitsPolicy p (parts .bits .start) .stop ≡ t
           → listReading s names parts ≡ onStop t refused (asBitset (parts .nomask .present) list) → ListRead s names parts
-      go Whole w e = bitsRead list (bits-read p names (parts .bits .start) (attributes p (parts .bits .start)) (apart p (parts .bits .start))) e
+      go Whole w e =
+          let passed = whole-passed bitsPolicy p (attributes p (parts .bits .start)) (sym (stop-is bitsPolicy p (parts .bits .start)) ∙ w) in
+          bitsRead list (bits-read p names (parts .bits .start) (parts .bits .start) (omega arith) (omega arith) _ (apart p (parts .bits .start)) passed) e
       go (At fault place) w e =
           let i = fault-inside bitsPolicy p (parts .bits .start) fault place w in
           let h = i .1 in

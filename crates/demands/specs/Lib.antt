@@ -11,6 +11,7 @@ pub mod Run
 pub mod Done
 pub mod Normaliser
 pub mod Parts
+pub mod Says
 pub mod Stored
 pub mod BoxRules
 pub mod Change

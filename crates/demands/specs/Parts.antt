@@ -34,13 +34,15 @@ use Rattle.response.specs.declared.Kind.{Kind}
 use Rattle.response.specs.declared.Kind.the-variants.{End, Skipped, Done, Refused}
 use Rattle.demands.specs.Call.{messageOf}
 
--- an attribute stands behind a place and ends no later than another: its header of four bytes, then its payload from start to end
+-- an attribute stands right behind a place, with less than four bytes of padding before it, and ends no later than another place: its header of
+-- four bytes, then its payload from start to end
 abbrev pub StandsIn : ℕ → ℕ → ℕ → ℕ → Type 0
-StandsIn from last start end = (from + 4 ≤ start) × (start ≤ end) × (end ≤ last)
+StandsIn from last start end = (from + 4 ≤ start) × (start < from + 8) × (start ≤ end) × (end ≤ last)
 
--- what is read of the BITs behind a place of s, which ends where BITS ends: none; or a BIT with a fault in it; or a BIT by its parts, and those behind it
+-- what is read of the BITs behind a place of s, which ends where BITS ends: none, where only padding is left; or a BIT with a fault in it; or a BIT
+-- by its parts, and those behind it
 pub data BitsRead (s names : List ℕ) : ℕ → ListReading → Type 0 where
-  noBit : {at : ℕ} → BitsRead s names at (listEntries [])
+  noBit : {at : ℕ} → length s < at + 4 → BitsRead s names at (listEntries [])
   bitFault : {at : ℕ} (start end : ℕ) → StandsIn at (length s) start end → (fault : Fault) (place : ℕ) → start ≤ place → place < end
       → BitsRead s names at (listRefused (ofFault fault place))
   bitRead : {at : ℕ} {rest : ListReading} (start end : ℕ) → StandsIn at (length s) start end

@@ -1,4 +1,5 @@
--- Law "apart": the attributes of a parent lie inside it, in order and without overlap, and each payload is the part where it stands.
+-- Law "apart": the attributes of a parent lie inside it, in order, without overlap and with only padding between, and each payload is the part
+-- where it stands.
 use Prim.Native.Nat.{ℕ, _+_, _-_, _<_}
 use mathlib.Core.Path.{_≡_, refl, sym, ap, _∙_}
 use mathlib.Core.List.{List}
@@ -14,7 +15,9 @@ use Rattle.netlink_attributes.proofs.Laws.{Bounded, bounded, attributes
 
 -- by what is read at the place
 from : (s : List ℕ) (at : ℕ) (r : AttributeRead) → r ≡ attributeAt s at → (xs : Attributes) → xs ≡ onRead r at (attributes s) → Apart s at xs
-from s at r e done q = tt
+from s at R.End e done q = rw (← e) at (bounded s at)
+from s at R.Broken e done q = absurd (let z : _≡_ {A = ℕ} 0 1 = cc in omega arith)
+from s at (R.Attribute x) e done q = absurd (let z : _≡_ {A = ℕ} 0 1 = cc in omega arith)
 from s at R.End e (broken p) q = absurd (let z : _≡_ {A = ℕ} 0 1 = cc in omega arith)
 from s at R.Broken e (broken p) q =
     let b : at < length s = rw (← e) at (bounded s at) in
@@ -36,7 +39,7 @@ from s at (R.Attribute x) e (attribute k b a z rest) q =
       omega arith,
       omega arith,
       sym (part-in s a z (omega arith) (omega arith)) ∙ ap (λ (i : ℕ). take i (drop a s)) len ∙ ap (λ (i : ℕ). take (u16At s at - 4) (drop i s)) start,
-      (x .next, omega arith, omega arith, from s (x .next) (attributeAt s (x .next)) refl rest (er ∙ attributes-step s (x .next))),
+      (x .next, omega arith, omega arith, from s (x .next) (attributeAt s (x .next)) refl rest (er ∙ attributes-step s (x .next)), omega arith),
     )
 
 pub apart : (s : List ℕ) (at : ℕ) → Apart s at (attributes s at)

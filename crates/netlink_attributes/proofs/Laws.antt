@@ -89,11 +89,12 @@ module _ (s : List ℕ) (a e : ℕ) where
   unfolding partOf
   part-back h = simp (lt-leb _ _ h)
 
--- where an attribute stands: behind its header, inside its parent, and before the next
+-- where an attribute stands: behind its header, inside its parent, and before the next, which stands less than four bytes behind its end
 abbrev pub Bounded : List ℕ → ℕ → AttributeRead → Type 0
 Bounded s at R.End = length s ≤ at
 Bounded s at R.Broken = at < length s
-Bounded s at (R.Attribute x) = (x .start ≡ at + 4) × (x .end ≡ at + u16At s at) × (x .start ≤ x .end) × (x .end ≤ x .next) × (x .next ≤ length s)
+Bounded s at (R.Attribute x) =
+    (x .start ≡ at + 4) × (x .end ≡ at + u16At s at) × (x .start ≤ x .end) × (x .end ≤ x .next) × (x .next ≤ length s) × (x .next < x .end + 4)
 
 pub bounded : (s : List ℕ) (at : ℕ) → Bounded s at (attributeAt s at)
 bounded s at =

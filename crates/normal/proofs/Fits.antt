@@ -47,11 +47,11 @@ use Rattle.bitset_bit.specs.declared.BitRead.the-variants as B
 use Rattle.normal.specs.Fits.{Fits}
 
 -- a refusal is no acceptance
-never : (r : Refusal) (b : Bitset) → refused r ≡ accepted b → ⊥
+pub never : (r : Refusal) (b : Bitset) → refused r ≡ accepted b → ⊥
 never r b e = let z : _≡_ {A = ℕ} 0 1 = cc in omega arith
 
 -- a check that was passed
-pass : (t : Bool) (r : Refusal) (x : Reading) (b : Bitset) → cond t (refused r) x ≡ accepted b → (t ≡ false) × (x ≡ accepted b)
+pub pass : (t : Bool) (r : Refusal) (x : Reading) (b : Bitset) → cond t (refused r) x ≡ accepted b → (t ≡ false) × (x ≡ accepted b)
 pass true r x b e = absurd (never r b e)
 pass false r x b e = (refl, e)
 
@@ -59,7 +59,8 @@ pass-stop : (t : Stop) (x : Reading) (b : Bitset) → onStop t refused x ≡ acc
 pass-stop S.Whole x b e = e
 pass-stop (S.At f at) x b e = absurd (never _ b e)
 
-same-bitset : (a b : Bitset) → accepted a ≡ accepted b → b ≡ a
+-- what is accepted is one bitset
+pub same-bitset : (a b : Bitset) → accepted a ≡ accepted b → b ≡ a
 same-bitset a b e = cc
 
 -- no bit i with N <= i < SIZE: no bit of those below SIZE is at or past N
