@@ -2,17 +2,20 @@
 --     accepted-says   of every bitset that is accepted
 --     set-says        of the bitset that a done SET of the exported handler carries out, where it stands in the request
 --     normal-says     of the bitset in contents that the normaliser answers by 0
---     byte-bit        bit i of a bitmap, said over its words, is bit i % 8 of byte i / 8
+--     byte-bit        bit i below SIZE of a VALUE or a MASK is bit i % 8 of byte i / 8 of its payload
 use Prim.Native.Nat.{ℕ, zero, suc, _+_, _-_, _*_, _/_, _%_, _^_, _≤_, _<_}
 use mathlib.Core.Path.{_≡_, refl, sym, ap, _∙_}
 use mathlib.Core.List.{List, [], _∷_}
 use mathlib.Core.Bool.{Bool, true, false, _&&_, not, cond}
-use lib.ListN.{length, getD}
+use mathlib.Core.Logic.{⊎-elim}
+use lib.ListN.{length, take, drop, getD, length-take, List·getD-eq-default}
+use lib.Seq.{getD-take, getD-drop}
 use lib.Dec.{eqb, ltb, leb}
 use lib.Pow.{shr-shr}
 use native.Mathlib.Omega.{arith}
 use borrow.Author.Tests.{ltb-false, not-false}
 use Rattle.basics.specs.Numbers.{byteAt, u16At, u32At}
+use Rattle.basics.proofs.Order.{lt-or-ge}
 use Rattle.basics.proofs.Truth.{clash}
 use Rattle.bits.specs.Bit.{test}
 use Rattle.bits.specs.Set.{has, somePast, wordsFor}
@@ -366,11 +369,30 @@ module _ (s : List ℕ) (small : Bytes s) (p r : ℕ) (l : r < 8) where
       byte-of _ 24 16777216 (getD s (p + 3) 0) r refl (omega (arith, small p, small (p + 1), small (p + 2), small (p + 3))) l
   word-byte (suc (suc (suc (suc c)))) h = absurd (omega arith)
 
-pub byte-bit : (bitmap : List ℕ) → Bytes bitmap → (i : ℕ) → bitmapBit bitmap i ≡ test (getD bitmap (i / 8) 0) (i % 8)
-byte-bit bitmap small i =
+-- a part of bytes is bytes
+part-bytes : (s : List ℕ) → Bytes s → (start end : ℕ) → Bytes (partOf s start end)
+unfolding partOf
+part-bytes s small start end i = go (leb start end && leb end (length s))
+  where
+    n : ℕ
+    n = end - start
+
+    go : (t : Bool) → getD (cond t (take n (drop start s)) []) i 0 < 256
+    go false = omega arith
+    go true =
+        ⊎-elim
+        (λ (q : i < n). rw (getD-take n (drop start s) i 0 q ∙ getD-drop start s i 0) (small (start + i)))
+        (λ (q : n ≤ i). let over : length (take n (drop start s)) ≤ i = omega (arith, length-take n (drop start s)) in
+        rw (List·getD-eq-default (take n (drop start s)) 0 over) (omega arith))
+        (lt-or-ge i n)
+
+pub byte-bit : (s : List ℕ) → Bytes s → (slot : Slot) (size : ℕ) (f : ℕ → Bool) → FromBitmap size f (payloadIn s slot)
+    → (i : ℕ) → i < size → f i ≡ test (getD (payloadIn s slot) (i / 8) 0) (i % 8)
+byte-bit s small slot size f from i l =
     let p = i / 32 * 4 in
     let c = i % 32 / 8 in
     let bits : i % 32 ≡ c * 8 + i % 8 = omega arith in
     let byte : i / 8 ≡ p + c = omega arith in
-    ap (test (u32At bitmap p)) bits ∙ word-byte bitmap small p (i % 8) (omega arith) c (omega arith)
-    ∙ ap (λ (n : ℕ). test (getD bitmap n 0) (i % 8)) (sym byte)
+    from i l ∙ ap (test (u32At (payloadIn s slot) p)) bits
+    ∙ word-byte (payloadIn s slot) (part-bytes s small (slot .start) (slot .end)) p (i % 8) (omega arith) c (omega arith)
+    ∙ ap (λ (n : ℕ). test (getD (payloadIn s slot) n 0) (i % 8)) (sym byte)
