@@ -1,18 +1,21 @@
 -- What an accepted bitset says is what stands in its bytes: no BIT is left out or passed over, and each part is obeyed as it stands.
 --     accepted-says   of every bitset that is accepted
---     set-says        of the bitset of a done SET of the exported handler, where it stands in the request
---     normal-says     of contents that the normaliser answers by 0
---     byte-bit        bit i of a bitmap is bit i % 8 of byte i / 8
+--     set-says        of the bitset that a done SET of the exported handler carries out, where it stands in the request
+--     normal-says     of the bitset in contents that the normaliser answers by 0
+--     byte-bit        bit i below SIZE of a VALUE or a MASK is bit i % 8 of byte i / 8 of its payload
 use Prim.Native.Nat.{ℕ, zero, suc, _+_, _-_, _*_, _/_, _%_, _^_, _≤_, _<_}
 use mathlib.Core.Path.{_≡_, refl, sym, ap, _∙_}
 use mathlib.Core.List.{List, [], _∷_}
 use mathlib.Core.Bool.{Bool, true, false, _&&_, not, cond}
-use lib.ListN.{length, getD}
+use mathlib.Core.Logic.{⊎-elim}
+use lib.ListN.{length, take, drop, getD, length-take, List·getD-eq-default}
+use lib.Seq.{getD-take, getD-drop}
 use lib.Dec.{eqb, ltb, leb}
 use lib.Pow.{shr-shr}
 use native.Mathlib.Omega.{arith}
 use borrow.Author.Tests.{ltb-false, not-false}
-use Rattle.basics.specs.Numbers.{u16At, u32At}
+use Rattle.basics.specs.Numbers.{byteAt, u16At, u32At}
+use Rattle.basics.proofs.Order.{lt-or-ge}
 use Rattle.basics.proofs.Truth.{clash}
 use Rattle.bits.specs.Bit.{test}
 use Rattle.bits.specs.Set.{has, somePast, wordsFor}
@@ -27,16 +30,16 @@ use Rattle.netlink_attributes.specs.Attributes.Attributes.{done, attribute}
 use Rattle.netlink_attributes.specs.Claims.{Apart}
 use Rattle.netlink_attributes.proofs.Apart.{apart}
 use Rattle.netlink.specs.Walk.{walked, slotNumber}
-use Rattle.netlink.specs.Claims.{Passed, PartsIn}
+use Rattle.netlink.specs.Claims.{Passed}
 use Rattle.netlink.specs.Claims.Passed.{here, next}
 use Rattle.netlink.proofs.walk.Meaning.{whole-passed, stop-is}
 use Rattle.netlink.proofs.walk.Laws.{slot-there}
 use Rattle.netlink.specs.declared.walk.Slot.{Slot}
 use Rattle.netlink.specs.declared.walk.Stop.{Stop}
 use Rattle.netlink.specs.declared.walk.Stop.the-variants.{Whole, At}
+use Rattle.netlink_headers.specs.Headers.{messageHeader}
 use Rattle.netlink_headers.specs.declared.headers.MessageHeader.{MessageHeader}
 use Rattle.refusal.specs.Refusal.{onStop}
-use Rattle.refusal.specs.declared.Refusal.{Refusal}
 use Rattle.refusal.specs.declared.Refusal.the-variants.{MissingIn, ShortBitmap, PastLength, UnknownBit}
 use Rattle.bitset_form.specs.Policies.{bitsetPolicy, bitsPolicy, bitPolicy}
 use Rattle.bitset_form.specs.Parts.{bitsetParts, bitParts}
@@ -46,7 +49,7 @@ use Rattle.bitset_form.specs.Bitset.{Bitset, Reading}
 use Rattle.bitset_form.specs.Bitset.Bitset.{maskedBitmap, nomaskBitmap, maskedList, nomaskList}
 use Rattle.bitset_form.specs.Bitset.Reading.{refused, accepted}
 use Rattle.bitset_compact.specs.Compact.{nomaskReading, maskedReading, compactReading}
-use Rattle.bitset_bit.specs.Bit.{bitByIndex, onLookup, bitByName, identified, onIdentityRead, bitPartsReading, bitReading}
+use Rattle.bitset_bit.specs.Bit.{bitByIndex, bitByName, identified, onIdentityRead, bitPartsReading, bitReading}
 use Rattle.bitset_bit.proofs.Laws.{by-walk}
 use Rattle.bitset_bit.specs.declared.Identity.the-variants.{Number, Neither}
 use Rattle.bitset_bit.specs.declared.IdentityRead.{IdentityRead}
@@ -61,18 +64,22 @@ use Rattle.normal.specs.Normal.{normalised}
 use Rattle.normal.specs.Claims.{Accepts}
 use Rattle.normal.proofs.Demand3.{accepted-exactly}
 use Rattle.normal.proofs.Fits.{never, pass, same-bitset}
-use Rattle.layout.specs.Layout.{listOf}
 use Rattle.boxes.specs.Box.{Box}
 use Rattle.boxes.specs.declared.Call.{Call}
+use Rattle.admission.specs.Commands.{commandOf}
 use Rattle.response.specs.Answer.{Outcome}
-use Rattle.handler.specs.Bytes.{Stored}
+use Rattle.response.specs.declared.Kind.the-variants.{Done}
+use Rattle.handler.specs.Bytes.{Stored, bytesOutcome}
+use Rattle.demands.specs.Call.{messageOf}
+use Rattle.demands.specs.Request.{isSet}
 use Rattle.demands.specs.Parts.{StandsIn}
 use Rattle.demands.specs.Stored.{DoneSetStored}
-use Rattle.demands.specs.Says.{payloadIn, Means, BitSays, Lists, bitmapBit, FromBitmap, BitsetOpened, CompactSays, ListSays, BitsetSays}
+use Rattle.demands.specs.Says.{payloadIn, Means, BitSays, Lists, bitmapBit, FromBitmap, BitsetOpened, CompactSays, ListSays, BitsetSays, RequestSays}
 use Rattle.demands.specs.Says.Means.{byIndex, byName}
 use Rattle.demands.specs.Says.Lists.{noMore, oneBit}
 use Rattle.demands.specs.Says.BitsetSays.{compactMasked, compactNomask, listMasked, listNomask}
 use Rattle.demands.proofs.Parts.{front-length, three-parts, five-parts}
+use Rattle.demands.proofs.Stored as S
 
 -- the number of 32 bits in a slot that is there
 number-in : (s : List ℕ) (slot : Slot) → slot .present ≡ true → slotNumber s slot ≡ u32At (payloadIn s slot) 0
@@ -84,7 +91,8 @@ module _ (s names : List ℕ) (parts : BitParts) (k : ℕ) where
   unfolding bitByIndex
   index-means h = go (leb (count names) (slotNumber s (parts .index)))
     where
-      go : (t : Bool) → cond t (L.Refused (PastLength (parts .index .start - 4))) (L.Read (Number (slotNumber s (parts .index)))) ≡ L.Read (Number k) → Means s names parts k
+      go : (t : Bool) → cond t (L.Refused (PastLength (parts .index .start - 4))) (L.Read (Number (slotNumber s (parts .index)))) ≡ L.Read (Number k)
+          → Means s names parts k
       go true e = absurd (let z : _≡_ {A = ℕ} 0 1 = cc in omega arith)
       go false e = let i : k ≡ slotNumber s (parts .index) = cc in byIndex h (i ∙ number-in s (parts .index) h)
 
@@ -95,8 +103,8 @@ module _ (s names : List ℕ) (parts : BitParts) (k : ℕ) where
       p : List ℕ
       p = payloadIn s (parts .name)
 
-      go : (t : Bool) → lookup names p .found ≡ t → cond t (L.Read (Number (lookup names p .bit))) (L.Refused (UnknownBit (parts .name .start - 4))) ≡ L.Read (Number k)
-          → Means s names parts k
+      go : (t : Bool) → lookup names p .found ≡ t
+          → cond t (L.Read (Number (lookup names p .bit))) (L.Refused (UnknownBit (parts .name .start - 4))) ≡ L.Read (Number k) → Means s names parts k
       go true q e = let j : k ≡ lookup names p .bit = cc in byName h g q j
       go false q e = absurd (let z : _≡_ {A = ℕ} 0 1 = cc in omega arith)
 
@@ -227,7 +235,8 @@ module _ (s : List ℕ) (from : ℕ) (names : List ℕ) (parts : BitsetParts) (o
       }
 
   module _ (no-bits : parts .bits .present ≡ false) (has-size : parts .size .present ≡ true) (has-value : parts .value .present ≡ true) where
-    nomask-says : parts .nomask .present ≡ true → parts .mask .present ≡ false → nomaskReading s (count names) size parts ≡ accepted b → BitsetSays s from names b
+    nomask-says : parts .nomask .present ≡ true → parts .mask .present ≡ false → nomaskReading s (count names) size parts ≡ accepted b
+        → BitsetSays s from names b
     unfolding nomaskReading
     nomask-says there no-mask e =
         let f = has (wordsIn value) in
@@ -250,7 +259,8 @@ module _ (s : List ℕ) (from : ℕ) (names : List ℕ) (parts : BitsetParts) (o
         let three = pass (ltb (length mask / 4) (wordsFor size)) (ShortBitmap (parts .mask .start - 4)) past b (two .1) in
         let four = pass (somePast f (count names) size) (PastLength (parts .mask .start - 4)) last b (three .1) in
         rw (same-bitset (maskedBitmap size (has (wordsIn value)) f) b (four .1))
-        (compactMasked parts opened none (compact no-bits has-size has-value (two .0)) (not-false (parts .mask .present) (one .0)) (from-bitmap mask size (three .0)))
+        (compactMasked parts opened none (compact no-bits has-size has-value (two .0)) (not-false (parts .mask .present) (one .0))
+        (from-bitmap mask size (three .0)))
 
   compact-says : parts .bits .present ≡ false → (parts .nomask .present ≡ true → parts .mask .present ≡ false) → (nest : ℕ)
       → compactReading s nest (count names) parts ≡ accepted b → BitsetSays s from names b
@@ -272,8 +282,8 @@ module _ (s : List ℕ) (from : ℕ) (names : List ℕ) (parts : BitsetParts) (o
       has-value : parts .value .present ≡ true
       has-value = not-false (parts .value .present) (two .0)
 
-      go : (t : Bool) → parts .nomask .present ≡ t → cond t (nomaskReading s (count names) size parts) (maskedReading s nest (count names) size parts) ≡ accepted b
-          → BitsetSays s from names b
+      go : (t : Bool) → parts .nomask .present ≡ t
+          → cond t (nomaskReading s (count names) size parts) (maskedReading s nest (count names) size parts) ≡ accepted b → BitsetSays s from names b
       go true h q = nomask-says no-bits has-size has-value h (unmixed h) q
       go false h q = masked-says no-bits has-size has-value h nest q
 
@@ -292,7 +302,10 @@ forms-say s from names parts opened b =
 
     go : (t : Bool) → parts .bits .present ≡ t → (v : Bool) → parts .value .present ≡ v → (m : Bool) → parts .mask .present ≡ m
         → (n : Bool) → parts .nomask .present ≡ n
-        → onMixing (cond (t && v) (Mx.At (parts .value .start - 4)) (cond (t && m) (Mx.At (parts .mask .start - 4)) (cond (n && m) (Mx.At (parts .mask .start - 4)) Mx.Unmixed)))
+        → onMixing
+        (cond (t && v) (Mx.At (parts .value .start - 4))
+        (cond (t && m) (Mx.At (parts .mask .start - 4))
+        (cond (n && m) (Mx.At (parts .mask .start - 4)) Mx.Unmixed)))
         (cond t list form) ≡ accepted b → BitsetSays s from names b
     go true et true ev m em n en e = absurd (never _ b e)
     go true et false ev true em n en e = absurd (never _ b e)
@@ -315,17 +328,26 @@ accepted-says s from names b = go (walked bitsetPolicy s from .stop) refl
     go (At f at) w e = absurd (never _ b e)
     go Whole w e = forms-say s from names parts (record { whole = w; read = refl; inside = five-parts bitsetPolicy s from w }) b e
 
-pub set-says : (box : Box) (stored : Stored) (call : Call) (m : List ℕ) (h : MessageHeader) (o : Outcome Stored) (d : DoneSetStored box stored call m h o)
-    → BitsetSays (partOf m 0 (d .done .named .parts .bitset .end)) (d .done .named .parts .bitset .start) (listOf (box .names) (d .done .named .command .set))
-    (d .done .bits)
-set-says box stored call m h o d =
-    accepted-says (partOf m 0 (d .done .named .parts .bitset .end)) (d .done .named .parts .bitset .start) (listOf (box .names) (d .done .named .command .set))
-    (d .done .bits) (d .done .carries)
+-- of a call of the exported handler
+module _ (box : Box) (stored : Stored) (call : Call) (datagram : List ℕ) (room : ℕ) where
+  abbrev o : Outcome Stored
+  o = bytesOutcome box stored call datagram room
 
-pub normal-says : (contents names : List ℕ) (room : ℕ) (answer : normalised contents names room .number ≡ 0)
-    → BitsetSays contents 0 names (accepted-exactly contents names room .0 answer .bitset)
+  abbrev m : List ℕ
+  m = messageOf datagram (call .position)
+
+  abbrev h : MessageHeader
+  h = messageHeader datagram (call .position)
+
+  pub set-says : Bytes (stored .settings) → o .response .kind ≡ Done → isSet (commandOf (byteAt m 16)) ≡ true
+      → (d : DoneSetStored box stored call m h o) × RequestSays box m (d .done .named) (d .done .bits)
+  set-says bytes kind-of request =
+      let d = S.effect box stored call datagram room bytes kind-of request in (d, accepted-says _ _ _ (d .done .bits) (d .done .carries))
+
+pub normal-says : (contents names : List ℕ) (room : ℕ) → normalised contents names room .number ≡ 0
+    → (a : Accepts contents names room) × BitsetSays contents 0 names (a .bitset)
 normal-says contents names room answer =
-    let a = accepted-exactly contents names room .0 answer in accepted-says contents 0 names (a .bitset) (a .reads)
+    let a = accepted-exactly contents names room .0 answer in (a, accepted-says contents 0 names (a .bitset) (a .reads))
 
 -- bit r of a byte that stands at bit k of a number
 byte-of : (x k m b r : ℕ) → 2 ^ k ≡ m → x / m % 256 ≡ b → r < 8 → test x (k + r) ≡ test b r
@@ -334,21 +356,43 @@ byte-of x k m b r h e l =
     ∙ sym (test-low 8 (x / m) r l) ∙ ap (λ (y : ℕ). test y r) e
 
 -- bit r of byte c of a word
-word-byte : (s : List ℕ) → Bytes s → (p c r : ℕ) → c < 4 → r < 8 → test (u32At s p) (c * 8 + r) ≡ test (getD s (p + c) 0) r
-unfolding u32At
-word-byte s small p zero r h l =
-    let at : p ≡ p + 0 = omega arith in
-    byte-of _ 0 1 (getD s p 0) r refl (omega (arith, small p, small (p + 1), small (p + 2), small (p + 3))) l ∙ ap (λ (n : ℕ). test (getD s n 0) r) at
-word-byte s small p (suc zero) r h l = byte-of _ 8 256 (getD s (p + 1) 0) r refl (omega (arith, small p, small (p + 1), small (p + 2), small (p + 3))) l
-word-byte s small p (suc (suc zero)) r h l = byte-of _ 16 65536 (getD s (p + 2) 0) r refl (omega (arith, small p, small (p + 1), small (p + 2), small (p + 3))) l
-word-byte s small p (suc (suc (suc zero))) r h l = byte-of _ 24 16777216 (getD s (p + 3) 0) r refl (omega (arith, small p, small (p + 1), small (p + 2), small (p + 3))) l
-word-byte s small p (suc (suc (suc (suc c)))) r h l = absurd (omega arith)
+module _ (s : List ℕ) (small : Bytes s) (p r : ℕ) (l : r < 8) where
+  word-byte : (c : ℕ) → c < 4 → test (u32At s p) (c * 8 + r) ≡ test (getD s (p + c) 0) r
+  unfolding u32At
+  word-byte zero h =
+      let at : p ≡ p + 0 = omega arith in
+      byte-of _ 0 1 (getD s p 0) r refl (omega (arith, small p, small (p + 1), small (p + 2), small (p + 3))) l
+      ∙ ap (λ (n : ℕ). test (getD s n 0) r) at
+  word-byte (suc zero) h = byte-of _ 8 256 (getD s (p + 1) 0) r refl (omega (arith, small p, small (p + 1), small (p + 2), small (p + 3))) l
+  word-byte (suc (suc zero)) h = byte-of _ 16 65536 (getD s (p + 2) 0) r refl (omega (arith, small p, small (p + 1), small (p + 2), small (p + 3))) l
+  word-byte (suc (suc (suc zero))) h =
+      byte-of _ 24 16777216 (getD s (p + 3) 0) r refl (omega (arith, small p, small (p + 1), small (p + 2), small (p + 3))) l
+  word-byte (suc (suc (suc (suc c)))) h = absurd (omega arith)
 
-pub byte-bit : (bitmap : List ℕ) → Bytes bitmap → (i : ℕ) → bitmapBit bitmap i ≡ test (getD bitmap (i / 8) 0) (i % 8)
-byte-bit bitmap small i =
+-- a part of bytes is bytes
+part-bytes : (s : List ℕ) → Bytes s → (start end : ℕ) → Bytes (partOf s start end)
+unfolding partOf
+part-bytes s small start end i = go (leb start end && leb end (length s))
+  where
+    n : ℕ
+    n = end - start
+
+    go : (t : Bool) → getD (cond t (take n (drop start s)) []) i 0 < 256
+    go false = omega arith
+    go true =
+        ⊎-elim
+        (λ (q : i < n). rw (getD-take n (drop start s) i 0 q ∙ getD-drop start s i 0) (small (start + i)))
+        (λ (q : n ≤ i). let over : length (take n (drop start s)) ≤ i = omega (arith, length-take n (drop start s)) in
+        rw (List·getD-eq-default (take n (drop start s)) 0 over) (omega arith))
+        (lt-or-ge i n)
+
+pub byte-bit : (s : List ℕ) → Bytes s → (slot : Slot) (size : ℕ) (f : ℕ → Bool) → FromBitmap size f (payloadIn s slot)
+    → (i : ℕ) → i < size → f i ≡ test (getD (payloadIn s slot) (i / 8) 0) (i % 8)
+byte-bit s small slot size f from i l =
     let p = i / 32 * 4 in
     let c = i % 32 / 8 in
     let bits : i % 32 ≡ c * 8 + i % 8 = omega arith in
     let byte : i / 8 ≡ p + c = omega arith in
-    ap (test (u32At bitmap p)) bits ∙ word-byte bitmap small p c (i % 8) (omega arith) (omega arith)
-    ∙ ap (λ (n : ℕ). test (getD bitmap n 0) (i % 8)) (sym byte)
+    from i l ∙ ap (test (u32At (payloadIn s slot) p)) bits
+    ∙ word-byte (payloadIn s slot) (part-bytes s small (slot .start) (slot .end)) p (i % 8) (omega arith) c (omega arith)
+    ∙ ap (λ (n : ℕ). test (getD (payloadIn s slot) n 0) (i % 8)) (sym byte)

@@ -20,6 +20,9 @@ use Rattle.bitset_form.specs.declared.parts.BitsetParts.{BitsetParts}
 use Rattle.bitset_form.specs.declared.parts.BitParts.{BitParts}
 use Rattle.bitset_form.specs.Bitset.{Bitset}
 use Rattle.bitset_form.specs.Bitset.Bitset.{maskedBitmap, nomaskBitmap, maskedList, nomaskList}
+use Rattle.layout.specs.Layout.{listOf}
+use Rattle.boxes.specs.Box.{Box}
+use Rattle.demands.specs.Message.{Named}
 use Rattle.demands.specs.Parts.{StandsIn}
 
 -- the attribute is there
@@ -50,11 +53,12 @@ pub record BitSays (s names : List ℕ) (start end : ℕ) (entry : Listed) : Typ
   pub number : Means (partOf s 0 end) names parts (entry .bit)
   pub on : entry .on ≡ parts .on .present
 
--- the BITs that stand from a place of s on, each as long as its header states and right behind the one before, up to the end of s, say these bits in order
+-- the BITs that stand from a place of s on, each as long as its header states and right behind the one before, up to the end of s, say these bits in
+-- order
 pub data Lists (s names : List ℕ) : ℕ → List Listed → Type 0 where
   noMore : {at : ℕ} → length s < at + 4 → Lists s names at []
-  oneBit : {at : ℕ} {entries : List Listed} (start end : ℕ) (entry : Listed) → StandsIn at (length s) start end → end ≡ start - 4 + u16At s (start - 4)
-      → BitSays s names start end entry → Lists s names end entries → Lists s names at (entry ∷ entries)
+  oneBit : {at : ℕ} {entries : List Listed} (start end : ℕ) (entry : Listed) → StandsIn at (length s) start end
+      → end ≡ start - 4 + u16At s (start - 4) → BitSays s names start end entry → Lists s names end entries → Lists s names at (entry ∷ entries)
 
 -- bit i of a bitmap: bit i % 32 of word i / 32, "lowest first", a little-endian number of four bytes
 abbrev pub bitmapBit : List ℕ → ℕ → Bool
@@ -97,3 +101,7 @@ pub data BitsetSays (s : List ℕ) (from : ℕ) (names : List ℕ) : Bitset → 
       → ListSays s names parts entries → BitsetSays s from names (maskedList entries)
   listNomask : {entries : List Listed} (parts : BitsetParts) → BitsetOpened s from parts → Stands (parts .nomask)
       → ListSays s names parts entries → BitsetSays s from names (nomaskList entries)
+
+-- what the bitset says that a request carries, over the names of its set
+abbrev pub RequestSays : (box : Box) (m : List ℕ) → Named (box .roll) m → Bitset → Type 0
+RequestSays box m n b = BitsetSays (partOf m 0 (n .parts .bitset .end)) (n .parts .bitset .start) (listOf (box .names) (n .command .set)) b
