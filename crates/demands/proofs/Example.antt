@@ -2,7 +2,6 @@
 --     example-run    four messages and the end: kind, next position, bytes written and settings left, each as the example has it
 use Prim.Native.Nat.{ℕ}
 use mathlib.Core.Path.{_≡_, refl}
-use mathlib.Core.Bool.{true}
 use mathlib.Core.List.{List, [], _++_}
 use Rattle.basics.specs.Numbers as NB
 use Rattle.basics.specs.Scan as SC

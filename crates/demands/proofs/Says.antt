@@ -74,7 +74,7 @@ use Rattle.demands.specs.Call.{messageOf}
 use Rattle.demands.specs.Request.{isSet}
 use Rattle.demands.specs.Parts.{StandsIn}
 use Rattle.demands.specs.Stored.{DoneSetStored}
-use Rattle.demands.specs.Says.{payloadIn, Means, BitSays, Lists, bitmapBit, FromBitmap, BitsetOpened, CompactSays, ListSays, BitsetSays, RequestSays}
+use Rattle.demands.specs.Says.{payloadIn, Means, BitSays, Lists, FromBitmap, BitsetOpened, CompactSays, ListSays, BitsetSays, RequestSays}
 use Rattle.demands.specs.Says.Means.{byIndex, byName}
 use Rattle.demands.specs.Says.Lists.{noMore, oneBit}
 use Rattle.demands.specs.Says.BitsetSays.{compactMasked, compactNomask, listMasked, listNomask}
