@@ -13,6 +13,7 @@ pub mod Run
 pub mod Demand1
 pub mod Effect
 pub mod Port
+pub mod Missing
 pub mod Count
 pub mod Demand2
 pub mod Normaliser
