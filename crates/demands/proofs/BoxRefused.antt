@@ -87,7 +87,8 @@ module _ (contents names : List ℕ) (room : ℕ) where
   list-rows right =
       rw right
       (first-passes
-      (row Second _ _ (omega arith) (row Second _ _ (omega arith) (weaker OfBitset Second (λ why n. from-two (numberOf why) n) (bitset-rows contents 0 names)))))
+      (row Second _ _ (omega arith)
+      (row Second _ _ (omega arith) (weaker OfBitset Second (λ why n. from-two (numberOf why) n) (bitset-rows contents 0 names)))))
     where
       from-two : (n : ℕ) → BitsetNumber n → 2 ≤ n
       from-two n (walking l u) = omega arith

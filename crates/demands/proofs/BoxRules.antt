@@ -133,8 +133,12 @@ module _ (box : Box) (state : State) (call : Call) where
   of-rules : BoxRules box state call → boxRight box state call ≡ true
   unfolding boxRight familyRight adminRight listsRight everySet listOf
   of-rules r =
-      rw
-      (le-leb 16 (call .family) (r .family-low), le-leb (call .family) 65535 (r .family-high), le-leb (call .admin) 1 (r .admin), means-roll (box .roll) (r .roll), means-list (box .names .debug) (r .debug), means-list (box .names .flags) (r .flags))
+      let low = le-leb 16 (call .family) (r .family-low) in
+      let high = le-leb (call .family) 65535 (r .family-high) in
+      let admin = le-leb (call .admin) 1 (r .admin) in
+      let debug = means-list (box .names .debug) (r .debug) in
+      let flags = means-list (box .names .flags) (r .flags) in
+      rw (low, high, admin, means-roll (box .roll) (r .roll), debug, flags)
       (means-settings (state .words) (portsIn box) (sizesIn box) (counted (r .roll) (r .debug) (r .flags) (r .settings)))
 
   pub box-exactly : (boxRight box state call ≡ true → BoxRules box state call) × (BoxRules box state call → boxRight box state call ≡ true)
