@@ -128,7 +128,7 @@ module _ (names : List ℕ) where
   entry-holds : (i : ℕ) → i < count names → Holds (entryAt names i) names (i * 32) 32
   entry-holds i l = entry-byte names i l
 
-  pub list-means : namesRight names ≡ true → NameList names
+  list-means : namesRight names ≡ true → NameList names
   unfolding entryRight sameEntry
   list-means h =
       let r = N.right-means names h in
@@ -184,7 +184,7 @@ module _ (names : List ℕ) where
         go true e = rw e
         go false e = rw (e, all-of (differs names i) i (λ k u. apart k e u))
 
-    pub means-list : namesRight names ≡ true
+    means-list : namesRight names ≡ true
     unfolding namesRight entriesDistinct
     means-list =
         let w : length names % 32 ≡ 0 = let q = r .whole in omega arith in

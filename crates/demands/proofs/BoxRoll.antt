@@ -150,15 +150,15 @@ module _ (roll : List ℕ) (w : Whole roll 0) where
     unfolding portAt portsOf
     port-is = let q : 0 + k * 21 ≡ k * 21 = omega arith in whole-read roll w .port k l _ ∙ ap (portHere roll) q
 
-    pub index-is : indexOf roll k ≡ u32At roll (k * 21 + 1)
+    index-is : indexOf roll k ≡ u32At roll (k * 21 + 1)
     unfolding indexOf
     index-is = ap (λ (p : Port). p .index) port-is
 
-    pub name-is : nameOf roll k ≡ nameAt roll (k * 21 + 5)
+    name-is : nameOf roll k ≡ nameAt roll (k * 21 + 5)
     unfolding nameOf
     name-is = ap (λ (p : Port). p .name) port-is
 
-    pub name-holds : Holds (nameOf roll k) roll (k * 21 + 5) 16
+    name-holds : Holds (nameOf roll k) roll (k * 21 + 5) 16
     unfolding nameAt
     name-holds j u =
         ap (λ (s : List ℕ). getD s j 0) name-is
@@ -220,7 +220,7 @@ module _ (roll : List ℕ) (right : rollRight roll ≡ true) where
         let b = name-holds roll whole-roll k u in
         unlike-differ roll (nameOf roll j) (nameOf roll k) 16 (j * 21 + 5) (k * 21 + 5) a b (others .1)
 
-  pub roll-means : PortRoll roll
+  roll-means : PortRoll roll
   roll-means =
       let r = R.right-means roll right in
       let c = ports-counted roll whole-roll in
@@ -287,7 +287,7 @@ module _ (roll : List ℕ) (r : PortRoll roll) where
       let v : k < r .ports = rw rules-counted at u in
       all-of (another roll (indexOf roll k) (nameOf roll k)) k (λ j l. rw (index-other j k l v, name-other j k l v))
 
-  pub means-roll : rollRight roll ≡ true
+  means-roll : rollRight roll ≡ true
   unfolding rollRight portsDistinct
   means-roll = rw (listed, all-of (portRight roll) (portCount roll) right-at, all-of (isNew roll) (portCount roll) new-at)
 
