@@ -7,7 +7,7 @@ use mathlib.Core.Path.{_≡_, refl, sym, ap, _∙_}
 use mathlib.Core.List.{List}
 use mathlib.Core.Bool.{true, false}
 use mathlib.Core.Logic.{⊎-elim}
-use lib.ListN.{length, getD}
+use lib.ListN.{getD}
 use native.Mathlib.Omega.{arith}
 use borrow.Author.Tests.{eq-eqb, ne-eqb, eqb-false, le-leb}
 use Rattle.basics.proofs.Order.{lt-or-ge}
@@ -29,7 +29,7 @@ use Rattle.boxes.proofs.rule.Meaning.{box-means}
 use Rattle.boxes.proofs.settings.Laws as S
 use Rattle.handler.specs.Bytes.{Stored, inWords}
 use Rattle.demands.specs.Stored.{storedRight}
-use Rattle.demands.specs.BoxRules.{NameList, PortRoll, ClearFrom, Settings, BoxRules}
+use Rattle.demands.specs.BoxRules.{NameList, PortRoll, ClearFrom, Settings, BoxRules, StoredRules}
 use Rattle.demands.proofs.StoredBox.{part-at, part-past, right-whole, right-box}
 use Rattle.demands.proofs.BoxNames.{list-exactly, list-counted}
 use Rattle.demands.proofs.BoxRoll.{roll-exactly, rules-counted}
@@ -146,8 +146,7 @@ module _ (box : Box) (state : State) (call : Call) where
 
 -- over bytes
 pub stored-exactly : (box : Box) (stored : Stored) (call : Call)
-    → (storedRight box stored call ≡ true → (length (stored .settings) % 4 ≡ 0) × BoxRules box (inWords stored) call)
-    × ((length (stored .settings) % 4 ≡ 0) × BoxRules box (inWords stored) call → storedRight box stored call ≡ true)
+    → (storedRight box stored call ≡ true → StoredRules box stored call) × (StoredRules box stored call → storedRight box stored call ≡ true)
 unfolding storedRight
 stored-exactly box stored call = (
   λ h. (right-whole box stored call h, box-exactly box (inWords stored) call .0 (right-box box stored call h)),
