@@ -1,7 +1,11 @@
 -- Name fields and name lists as document 01 has them (`demands` BoxRules), and the tests by which the code is judged.
---     pairs-field, field-pairs    a field holds a name exactly when its last byte is NUL and after each NUL comes a NUL
---     unlike-differ, differ-unlike    two fields differ in a byte exactly when the test of their bytes fails
---     list-exactly                a name list is right exactly when it keeps `NameList`
+--     pairs-field      a field whose last byte is NUL, and where after a NUL comes a NUL, holds a name
+--     field-last       the last byte of a field that holds a name is NUL
+--     field-pairs      and after a NUL comes a NUL in it
+--     unlike-differ    two fields that fail the test of their bytes differ in a byte
+--     differ-unlike    two fields that differ in a byte fail it
+--     list-exactly     a name list is right exactly when it keeps `NameList`
+--     list-counted     N is the count of entries by which the code goes
 use Prim.Native.Nat.{ℕ, zero, suc, _+_, _*_, _%_, _≤_, _<_}
 use mathlib.Core.Path.{_≡_, refl, sym, ap, _∙_}
 use mathlib.Core.List.{List}
@@ -51,7 +55,10 @@ module _ (e s : List ℕ) (at m : ℕ) (same : Holds e s at (m + 1)) where
             })
         here f false q =
             inl
-            (λ i l z. ⊎-elim (λ (r : i < n). f i r z) (λ (r : n ≤ i). let k : i ≡ n = omega arith in eqb-false _ 0 q (ap (λ (x : ℕ). getD s (at + x) 0) (sym k) ∙ z)) (lt-or-ge i n))
+            (λ i l z. ⊎-elim
+            (λ (r : i < n). f i r z)
+            (λ (r : n ≤ i). let k : n ≡ i = omega arith in eqb-false _ 0 q (ap (λ (x : ℕ). getD s (at + x) 0) k ∙ z))
+            (lt-or-ge i n))
 
         longer : (f : NameField s at n) → (i : ℕ) → f .size ≤ i → i < suc n → getD s (at + i) 0 ≡ 0
         longer f zero l r = f .nuls 0 l (let h = f .short in omega arith)
@@ -121,7 +128,7 @@ module _ (names : List ℕ) where
   entry-holds : (i : ℕ) → i < count names → Holds (entryAt names i) names (i * 32) 32
   entry-holds i l = entry-byte names i l
 
-  pub list-means : namesRight names ≡ true → NameList names
+  list-means : namesRight names ≡ true → NameList names
   unfolding entryRight sameEntry
   list-means h =
       let r = N.right-means names h in
@@ -134,7 +141,9 @@ module _ (names : List ℕ) where
             pairs-field (entryAt names i) names (i * 32) 31 (entry-holds i l) (b .1) (b .0);
         distinct = λ i j l u x y. unlike-differ names (entryAt names i) (entryAt names j) 32 (i * 32) (j * 32) (entry-holds i (omega arith)) (entry-holds j u)
             (false-of (sameEntry (entryAt names i) (entryAt names j))
-            (λ q. let k : i ≡ j = distinct-one names (r .apart) i j (omega arith) u (ne-eqb _ 0 (λ z. x (sym (entry-first names i (omega arith)) ∙ z))) q in omega arith));
+            (λ q. let named = ne-eqb _ 0 (λ z. x (sym (entry-first names i (omega arith)) ∙ z)) in
+            let k : i ≡ j = distinct-one names (r .apart) i j (omega arith) u named q in
+            omega arith));
       }
 
   module _ (r : NameList names) where
@@ -154,9 +163,6 @@ module _ (names : List ℕ) where
         first-is : (k : ℕ) → k < count names → getD (entryAt names k) 0 0 ≡ getD names (k * 32 + 0) 0
         first-is k u = entry-holds k u 0 (omega arith)
 
-        at-first : (k : ℕ) → getD names (k * 32 + 0) 0 ≡ getD names (k * 32) 0
-        at-first k = let q : k * 32 + 0 ≡ k * 32 = omega arith in ap (λ (x : ℕ). getD names x 0) q
-
         differ : (k : ℕ) → isEmpty (entryAt names i) ≡ false → k < i → (t : Bool) → isEmpty (entryAt names k) ≡ t → FieldsDiffer names 32 (i * 32) (k * 32)
         differ k e u true q =
             record {
@@ -165,28 +171,29 @@ module _ (names : List ℕ) where
               unlike = λ z. eqb-false _ 0 e (first-is i l ∙ z ∙ sym (first-is k (omega arith)) ∙ eqb-true _ 0 q);
             }
         differ k e u false q =
-            let d =
-            r .distinct k i u (rw list-counted at l) (λ z. eqb-false _ 0 q (first-is k (omega arith) ∙ at-first k ∙ z)) (λ z. eqb-false _ 0 e (first-is i l ∙ at-first i ∙ z)) in
+            let named : getD names (k * 32) 0 ≡ 0 → ⊥ = λ z. eqb-false _ 0 q (entry-first names k (omega arith) ∙ z) in
+            let d = r .distinct k i u (rw list-counted at l) named (λ z. eqb-false _ 0 e (entry-first names i l ∙ z)) in
             record { byte = d .byte; inside = d .inside; unlike = λ z. d .unlike (sym z) }
 
         apart : (k : ℕ) → isEmpty (entryAt names i) ≡ false → k < i → not (sameEntry (entryAt names i) (entryAt names k)) ≡ true
         apart k e u =
-            rw
-            (differ-unlike names (entryAt names i) (entryAt names k) 32 (i * 32) (k * 32) (entry-holds i l) (entry-holds k (omega arith)) (differ k e u (isEmpty (entryAt names k)) refl))
+            let d = differ k e u (isEmpty (entryAt names k)) refl in
+            rw (differ-unlike names (entryAt names i) (entryAt names k) 32 (i * 32) (k * 32) (entry-holds i l) (entry-holds k (omega arith)) d)
 
         go : (t : Bool) → isEmpty (entryAt names i) ≡ t → entryNew names i ≡ true
         go true e = rw e
         go false e = rw (e, all-of (differs names i) i (λ k u. apart k e u))
 
-    pub means-list : namesRight names ≡ true
+    means-list : namesRight names ≡ true
     unfolding namesRight entriesDistinct
     means-list =
         let w : length names % 32 ≡ 0 = let q = r .whole in omega arith in
         let c = list-counted in
         let a : 1 ≤ count names = let q = r .some in omega arith in
         let b : count names ≤ 512 = let q = r .few in omega arith in
-        rw
-        (eq-eqb _ 0 w, le-leb 1 (count names) a, le-leb (count names) 512 b, all-of (rightAt names) (count names) right-at, all-of (entryNew names) (count names) new-at)
+        let entries = all-of (rightAt names) (count names) right-at in
+        let apart = all-of (entryNew names) (count names) new-at in
+        rw (eq-eqb _ 0 w, le-leb 1 (count names) a, le-leb (count names) 512 b, entries, apart)
 
   pub list-exactly : (namesRight names ≡ true → NameList names) × (NameList names → namesRight names ≡ true)
   list-exactly = (list-means, means-list)

@@ -1,7 +1,7 @@
 -- Refusal 1, "box breaks a rule above", by the rules as document 01 has them (`demands` BoxRules).
 --     broken-exactly         the exported handler refuses by 1 exactly when the settings are no whole words or the box breaks a rule
 --     list-broken-exactly    the exported normaliser answers 1 exactly when the name list breaks a rule
-use Prim.Native.Nat.{ℕ, _%_, _≤_}
+use Prim.Native.Nat.{ℕ, _≤_}
 use mathlib.Core.Path.{_≡_, ap}
 use mathlib.Core.List.{List, _∷_}
 use mathlib.Core.Bool.{Bool, true, false, cond}
@@ -17,8 +17,8 @@ use Rattle.boxes.specs.Box.{Box}
 use Rattle.boxes.specs.declared.Call.{Call}
 use Rattle.normal.specs.Normal.{NormalAnswer, normalised}
 use Rattle.response.specs.declared.Kind.the-variants.{Refused}
-use Rattle.handler.specs.Bytes.{Stored, inWords, bytesOutcome}
-use Rattle.demands.specs.BoxRules.{NameList, BoxRules}
+use Rattle.handler.specs.Bytes.{Stored, bytesOutcome}
+use Rattle.demands.specs.BoxRules.{NameList, StoredRules}
 use Rattle.demands.specs.Call.{endIf, callChecks}
 use Rattle.demands.specs.Check.{Check, refuseIf, FirstIs}
 use Rattle.demands.specs.Check.Check.{passes, ends}
@@ -51,10 +51,6 @@ end-second datagram position {checks} rest = go (eqb position (length datagram))
     go false = pass rest
 
 module _ (box : Box) (stored : Stored) (call : Call) (datagram : List ℕ) (room : ℕ) where
-  -- whole words, and every rule kept
-  abbrev pub Kept : Type 0
-  Kept = (length (stored .settings) % 4 ≡ 0) × BoxRules box (inWords stored) call
-
   right-rows : Every Second (callChecks true box call datagram room)
   unfolding callChecks
   right-rows =
@@ -65,7 +61,7 @@ module _ (box : Box) (stored : Stored) (call : Call) (datagram : List ℕ) (room
       (end-second datagram (call .position)
       (row Second _ _ (omega arith) (row Second _ _ (omega arith) (weaker Late Second (λ why n. omega arith) (message-late box call _ _))))))))
 
-  not-kept : FirstIs R.Box (callChecks (storedRight box stored call) box call datagram room) → Kept → ⊥
+  not-kept : FirstIs R.Box (callChecks (storedRight box stored call) box call datagram room) → StoredRules box stored call → ⊥
   not-kept f kept =
       let right = stored-exactly box stored call .1 kept in
       let n = first-every Second R.Box (rw right at f) right-rows in
@@ -75,8 +71,8 @@ module _ (box : Box) (stored : Stored) (call : Call) (datagram : List ℕ) (room
   unfolding callChecks refuseIf
   first-broken wrong = rw wrong here
 
-  pub broken-exactly : (bytesOutcome box stored call datagram room .response .kind ≡ Refused R.Box → Kept → ⊥)
-      × ((Kept → ⊥) → bytesOutcome box stored call datagram room .response .kind ≡ Refused R.Box)
+  pub broken-exactly : (bytesOutcome box stored call datagram room .response .kind ≡ Refused R.Box → StoredRules box stored call → ⊥)
+      × ((StoredRules box stored call → ⊥) → bytesOutcome box stored call datagram room .response .kind ≡ Refused R.Box)
   broken-exactly =
       let exactly = refused-exactly box stored call datagram room R.Box in
       (λ e. not-kept (exactly .0 e), λ n. exactly .1 (first-broken (false-of _ (λ right. n (stored-exactly box stored call .0 right)))))
@@ -87,7 +83,8 @@ module _ (contents names : List ℕ) (room : ℕ) where
   list-rows right =
       rw right
       (first-passes
-      (row Second _ _ (omega arith) (row Second _ _ (omega arith) (weaker OfBitset Second (λ why n. from-two (numberOf why) n) (bitset-rows contents 0 names)))))
+      (row Second _ _ (omega arith)
+      (row Second _ _ (omega arith) (weaker OfBitset Second (λ why n. from-two (numberOf why) n) (bitset-rows contents 0 names)))))
     where
       from-two : (n : ℕ) → BitsetNumber n → 2 ≤ n
       from-two n (walking l u) = omega arith

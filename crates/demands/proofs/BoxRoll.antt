@@ -1,8 +1,9 @@
 -- The port roll as document 01 has it (`demands` BoxRules), and the reader of records by which the code is judged.
 --     read-whole       where no record is broken the roll is so many records of 21 bytes, each of kind 1
 --     whole-read       of such a roll the reader reads each record's index and name where document 01 has them
+--     ports-counted    so it reads as many ports as there are records
 --     roll-exactly     a roll is right exactly when it keeps `PortRoll`
---     ports-counted    the ports that are read are the records of the roll
+--     rules-counted    and then its ports are counted as there
 use Prim.Native.Nat.{ℕ, zero, suc, _+_, _*_, _≤_, _<_}
 use mathlib.Core.Path.{_≡_, refl, sym, ap, _∙_}
 use mathlib.Core.List.{List}
@@ -47,7 +48,9 @@ module _ (roll : List ℕ) where
     at-cut h c = turn roll at _ (record-cut roll at h 21 (size-port _ kind) (λ z. omega arith) (omega arith))
 
     at-port : at + 21 ≤ length roll → records roll at ≡ port (portHere at) (records roll (at + 21))
-    at-port c = turn roll at _ (record-port roll at (omega arith) 21 (size-port _ kind) (λ z. omega arith) (at + 1) (at + 5) (at + 21) refl refl refl (omega arith))
+    at-port c =
+        turn roll at _
+        (record-port roll at (omega arith) 21 (size-port _ kind) (λ z. omega arith) (at + 1) (at + 5) (at + 21) refl refl refl (omega arith))
 
   -- the roll from a place on: so many records of 21 bytes, each of kind 1
   pub record Whole (at : ℕ) : Type 0 where
@@ -147,15 +150,15 @@ module _ (roll : List ℕ) (w : Whole roll 0) where
     unfolding portAt portsOf
     port-is = let q : 0 + k * 21 ≡ k * 21 = omega arith in whole-read roll w .port k l _ ∙ ap (portHere roll) q
 
-    pub index-is : indexOf roll k ≡ u32At roll (k * 21 + 1)
+    index-is : indexOf roll k ≡ u32At roll (k * 21 + 1)
     unfolding indexOf
     index-is = ap (λ (p : Port). p .index) port-is
 
-    pub name-is : nameOf roll k ≡ nameAt roll (k * 21 + 5)
+    name-is : nameOf roll k ≡ nameAt roll (k * 21 + 5)
     unfolding nameOf
     name-is = ap (λ (p : Port). p .name) port-is
 
-    pub name-holds : Holds (nameOf roll k) roll (k * 21 + 5) 16
+    name-holds : Holds (nameOf roll k) roll (k * 21 + 5) 16
     unfolding nameAt
     name-holds j u =
         ap (λ (s : List ℕ). getD s j 0) name-is
@@ -177,7 +180,8 @@ module _ (roll : List ℕ) (right : rollRight roll ≡ true) where
       let a = both-true (not (eqb (getD (nameOf roll k) 0 0) 0)) (eqb (getD (nameOf roll k) 15 0) 0 && all 15 (nulThenNul (nameOf roll k))) n in
       let b = both-true (eqb (getD (nameOf roll k) 15 0) 0) (all 15 (nulThenNul (nameOf roll k))) (a .1) in
       let q : k * 21 + 5 + 0 ≡ k * 21 + 5 = omega arith in
-      (λ z. eqb-false _ 0 (not-true _ (a .0)) (same 0 (omega arith) ∙ ap (λ (x : ℕ). getD roll x 0) q ∙ z), pairs-field (nameOf roll k) roll (k * 21 + 5) 15 same (b .1) (b .0))
+      let first = same 0 (omega arith) ∙ ap (λ (x : ℕ). getD roll x 0) q in
+      (λ z. eqb-false _ 0 (not-true _ (a .0)) (first ∙ z), pairs-field (nameOf roll k) roll (k * 21 + 5) 15 same (b .1) (b .0))
 
   record-means : (k : ℕ) → k < whole-roll .ports → RollRecord roll (k * 21)
   record-means k l =
@@ -212,9 +216,11 @@ module _ (roll : List ℕ) (right : rollRight roll ≡ true) where
     names-differ : FieldsDiffer roll 16 (j * 21 + 5) (k * 21 + 5)
     unfolding sameName
     names-differ =
-        unlike-differ roll (nameOf roll j) (nameOf roll k) 16 (j * 21 + 5) (k * 21 + 5) (name-holds roll whole-roll j (omega arith)) (name-holds roll whole-roll k u) (others .1)
+        let a = name-holds roll whole-roll j (omega arith) in
+        let b = name-holds roll whole-roll k u in
+        unlike-differ roll (nameOf roll j) (nameOf roll k) 16 (j * 21 + 5) (k * 21 + 5) a b (others .1)
 
-  pub roll-means : PortRoll roll
+  roll-means : PortRoll roll
   roll-means =
       let r = R.right-means roll right in
       let c = ports-counted roll whole-roll in
@@ -264,17 +270,24 @@ module _ (roll : List ℕ) (r : PortRoll roll) where
       let e = index-is roll whole-of k l in
       rw (e, le-leb 1 _ (r .each k l .index-low), le-leb _ 2147483647 (r .each k l .index-high), name-right k l)
 
+  module _ (j k : ℕ) (l : j < k) (u : k < r .ports) where
+    index-other : eqb (indexOf roll j) (indexOf roll k) ≡ false
+    index-other = ne-eqb _ _ (λ q. r .indexes j k l u (sym (index-is roll whole-of j (omega arith)) ∙ q ∙ index-is roll whole-of k u))
+
+    name-other : sameName (nameOf roll j) (nameOf roll k) ≡ false
+    unfolding sameName
+    name-other =
+        let a = name-holds roll whole-of j (omega arith) in
+        let b = name-holds roll whole-of k u in
+        differ-unlike roll (nameOf roll j) (nameOf roll k) 16 (j * 21 + 5) (k * 21 + 5) a b (r .names j k l u)
+
   new-at : (k : ℕ) → k < portCount roll → isNew roll k ≡ true
-  unfolding isNew another sameName
+  unfolding isNew another
   new-at k u =
       let v : k < r .ports = rw rules-counted at u in
-      all-of (another roll (indexOf roll k) (nameOf roll k)) k
-      (λ j l. let i = ne-eqb (indexOf roll j) (indexOf roll k)
-      (λ q. r .indexes j k l v (sym (index-is roll whole-of j (omega arith)) ∙ q ∙ index-is roll whole-of k v)) in
-      let n = differ-unlike roll (nameOf roll j) (nameOf roll k) 16 (j * 21 + 5) (k * 21 + 5) (name-holds roll whole-of j (omega arith)) (name-holds roll whole-of k v) (r .names j k l v) in
-      rw (i, n))
+      all-of (another roll (indexOf roll k) (nameOf roll k)) k (λ j l. rw (index-other j k l v, name-other j k l v))
 
-  pub means-roll : rollRight roll ≡ true
+  means-roll : rollRight roll ≡ true
   unfolding rollRight portsDistinct
   means-roll = rw (listed, all-of (portRight roll) (portCount roll) right-at, all-of (isNew roll) (portCount roll) new-at)
 

@@ -7,7 +7,7 @@ use mathlib.Core.Path.{_≡_, refl, sym, ap, _∙_}
 use mathlib.Core.List.{List}
 use mathlib.Core.Bool.{true, false}
 use mathlib.Core.Logic.{⊎-elim}
-use lib.ListN.{length, getD}
+use lib.ListN.{getD}
 use native.Mathlib.Omega.{arith}
 use borrow.Author.Tests.{eq-eqb, ne-eqb, eqb-false, le-leb}
 use Rattle.basics.proofs.Order.{lt-or-ge}
@@ -29,10 +29,10 @@ use Rattle.boxes.proofs.rule.Meaning.{box-means}
 use Rattle.boxes.proofs.settings.Laws as S
 use Rattle.handler.specs.Bytes.{Stored, inWords}
 use Rattle.demands.specs.Stored.{storedRight}
-use Rattle.demands.specs.BoxRules.{NameList, PortRoll, ClearFrom, Settings, BoxRules}
+use Rattle.demands.specs.BoxRules.{NameList, PortRoll, ClearFrom, Settings, BoxRules, StoredRules}
 use Rattle.demands.proofs.StoredBox.{part-at, part-past, right-whole, right-box}
-use Rattle.demands.proofs.BoxNames.{list-means, means-list, list-counted}
-use Rattle.demands.proofs.BoxRoll.{roll-means, means-roll, rules-counted}
+use Rattle.demands.proofs.BoxNames.{list-exactly, list-counted}
+use Rattle.demands.proofs.BoxRoll.{roll-exactly, rules-counted}
 
 -- one bit
 bit-off : (x i : ℕ) → test x i ≡ false → bit x i ≡ 0
@@ -73,7 +73,7 @@ module _ (words : List ℕ) (ports : ℕ) (sizes : Sizes) (position : ℕ) (set 
 
 -- all sets of all ports
 module _ (words : List ℕ) (ports : ℕ) (sizes : Sizes) where
-  pub settings-means : settingsRight words ports sizes ≡ true → Settings ports (sizes .debug) (sizes .flags) words
+  settings-means : settingsRight words ports sizes ≡ true → Settings ports (sizes .debug) (sizes .flags) words
   unfolding totalWords portWords setPlace firstOf sizeOf
   settings-means h =
       let r = S.right-means words ports sizes h in
@@ -93,7 +93,7 @@ module _ (words : List ℕ) (ports : ℕ) (sizes : Sizes) where
     unfolding portClear
     port-at p l = each-every (setClear words ports sizes p) (clear-at p l)
 
-    pub means-settings : settingsRight words ports sizes ≡ true
+    means-settings : settingsRight words ports sizes ≡ true
     unfolding settingsRight totalWords portWords
     means-settings = rw (eq-eqb _ _ (r .exact), all-of (portClear words ports sizes) ports port-at)
 
@@ -117,9 +117,9 @@ module _ (box : Box) (state : State) (call : Call) where
   unfolding listOf
   rules-of h =
       let r = box-means box state call h in
-      let roll = roll-means (box .roll) (r .roll-right) in
-      let debug = list-means (box .names .debug) (r .names-right Debug) in
-      let flags = list-means (box .names .flags) (r .names-right Flags) in
+      let roll = roll-exactly (box .roll) .0 (r .roll-right) in
+      let debug = list-exactly (box .names .debug) .0 (r .names-right Debug) in
+      let flags = list-exactly (box .names .flags) .0 (r .names-right Flags) in
       record {
         family-low = r .family-low;
         family-high = r .family-high;
@@ -133,8 +133,12 @@ module _ (box : Box) (state : State) (call : Call) where
   of-rules : BoxRules box state call → boxRight box state call ≡ true
   unfolding boxRight familyRight adminRight listsRight everySet listOf
   of-rules r =
-      rw
-      (le-leb 16 (call .family) (r .family-low), le-leb (call .family) 65535 (r .family-high), le-leb (call .admin) 1 (r .admin), means-roll (box .roll) (r .roll), means-list (box .names .debug) (r .debug), means-list (box .names .flags) (r .flags))
+      let low = le-leb 16 (call .family) (r .family-low) in
+      let high = le-leb (call .family) 65535 (r .family-high) in
+      let admin = le-leb (call .admin) 1 (r .admin) in
+      let debug = list-exactly (box .names .debug) .1 (r .debug) in
+      let flags = list-exactly (box .names .flags) .1 (r .flags) in
+      rw (low, high, admin, roll-exactly (box .roll) .1 (r .roll), debug, flags)
       (means-settings (state .words) (portsIn box) (sizesIn box) (counted (r .roll) (r .debug) (r .flags) (r .settings)))
 
   pub box-exactly : (boxRight box state call ≡ true → BoxRules box state call) × (BoxRules box state call → boxRight box state call ≡ true)
@@ -142,8 +146,7 @@ module _ (box : Box) (state : State) (call : Call) where
 
 -- over bytes
 pub stored-exactly : (box : Box) (stored : Stored) (call : Call)
-    → (storedRight box stored call ≡ true → (length (stored .settings) % 4 ≡ 0) × BoxRules box (inWords stored) call)
-    × ((length (stored .settings) % 4 ≡ 0) × BoxRules box (inWords stored) call → storedRight box stored call ≡ true)
+    → (storedRight box stored call ≡ true → StoredRules box stored call) × (StoredRules box stored call → storedRight box stored call ≡ true)
 unfolding storedRight
 stored-exactly box stored call = (
   λ h. (right-whole box stored call h, box-exactly box (inWords stored) call .0 (right-box box stored call h)),

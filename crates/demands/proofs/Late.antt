@@ -1,4 +1,6 @@
 -- The rows that a message can meet have numbers from 5 on.
+--     message-late      so of every row
+--     message-number    so of the first that applies
 use Prim.Native.Nat.{ℕ, _%_, _≤_}
 use mathlib.Core.List.{List, _∷_}
 use mathlib.Core.Bool.{Bool, true, false, _||_, cond}

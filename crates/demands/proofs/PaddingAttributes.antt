@@ -1,4 +1,5 @@
 -- Two lists of bytes that are as long: what is read in them is the same where the bytes are, and each header being the same gives the same attributes.
+--     byte-in            a byte of a part is the byte at its place in the list
 --     part-of-part       a part of the bytes up to a place is that part of all
 --     attributes-same    the attributes from a place on, whatever is said of their payloads
 use Prim.Native.Nat.{ℕ, zero, suc, _+_, _-_, _≤_, _<_, min}

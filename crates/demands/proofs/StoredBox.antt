@@ -1,6 +1,8 @@
 -- A box that is right over bytes.
 --     few-bytes        its settings have at most 8,192 bytes: a length above the handler's cap never belongs to a right box
 --     right-within     so its settings are within the cap of the handler: 64 ports of two sets of at most 16 words
+--     part-at          a word of a set is the word at its place in the settings
+--     part-past        past a set's words there are none
 --     right-again      a right box stays right where its words are written as bytes and read again
 use Prim.Native.Nat.{ℕ, _+_, _/_, _%_, _≤_, _<_}
 use mathlib.Core.Path.{_≡_, refl, sym, ap, _∙_}

@@ -8,6 +8,7 @@ use Rattle.basics.specs.Numbers.{u32At}
 use Rattle.bits.specs.Bit.{bit}
 use Rattle.boxes.specs.Box.{Box, State}
 use Rattle.boxes.specs.declared.Call.{Call}
+use Rattle.handler.specs.Bytes.{Stored, inWords}
 
 -- the field of `width` bytes at a place holds a name: fewer bytes than the field has, none of them NUL, then NULs only
 pub record NameField (s : List ℕ) (at width : ℕ) : Type 0 where
@@ -69,3 +70,7 @@ pub record BoxRules (box : Box) (state : State) (call : Call) : Type 0 where
   pub debug : NameList (box .names .debug)
   pub flags : NameList (box .names .flags)
   pub settings : Settings (roll .ports) (debug .entries) (flags .entries) (state .words)
+
+-- the same rules where the settings are lent as bytes: these are whole words, and the box of their words keeps the rules
+abbrev pub StoredRules : Box → Stored → Call → Type 0
+StoredRules box stored call = (length (stored .settings) % 4 ≡ 0) × BoxRules box (inWords stored) call
