@@ -2,6 +2,7 @@
 -- leave the same settings. So the bytes between the stated end of an attribute, a nest or the message and what follows it decide nothing.
 --     padding-free          the call over words
 --     padding-free-bytes    the call over bytes, which C makes
+--     padding-free-normal   the normaliser: contents of one length that agree but for paddings are answered alike, and the same bytes are written
 use Prim.Native.Nat.{ℕ, _+_, _≤_, _<_, min}
 use mathlib.Core.Path.{_≡_, refl}
 use mathlib.Core.List.{List}
@@ -19,14 +20,16 @@ use Rattle.netlink_headers.specs.Headers.{messageHeader}
 use Rattle.netlink_headers.specs.Messages.{messageAt}
 use Rattle.netlink_headers.specs.declared.headers.MessageHeader.{MessageHeader}
 use Rattle.netlink_headers.specs.declared.messages.MessageRead.the-variants.{Message, Misstated, Cut, AtEnd, Outside}
+use Rattle.normal.specs.Normal.{normalised}
 use Rattle.boxes.specs.Box.{Box, State}
 use Rattle.boxes.specs.declared.Call.{Call}
 use Rattle.response.specs.Answer.{Outcome}
 use Rattle.handler.specs.Call.{messageOutcome, onMessage, positionOutcome, outcome}
 use Rattle.handler.specs.Bytes.{Stored, inWords, wordsOutcome, bytesOutcome}
 use Rattle.demands.specs.Call.{messageOf}
-use Rattle.demands.specs.Padding.{DatagramsAgree, MessagesAgree}
+use Rattle.demands.specs.Padding.{BitsetAgrees, DatagramsAgree, MessagesAgree}
 use Rattle.demands.proofs.PaddingAttributes.{u16-same, u32-same}
+use Rattle.demands.proofs.PaddingBitset.{bitset-same}
 use Rattle.demands.proofs.PaddingMessage.{message-same}
 
 module _ (box : Box) (state : State) (call : Call) where
@@ -93,3 +96,7 @@ pub padding-free-bytes : (box : Box) (stored : Stored) (call : Call) (d e : List
     → bytesOutcome box stored call e room ≡ bytesOutcome box stored call d room
 unfolding bytesOutcome wordsOutcome
 padding-free-bytes box stored call d e room agree = rw (padding-free box (inWords stored) call d e room agree)
+
+pub padding-free-normal : (s t names : List ℕ) (room : ℕ) → length s ≡ length t → BitsetAgrees s t 0 → normalised t names room ≡ normalised s names room
+unfolding normalised
+padding-free-normal s t names room size agree = rw (← size, bitset-same s t size names 0 agree)
