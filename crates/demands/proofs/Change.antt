@@ -159,13 +159,13 @@ module _ (box : Box) (stored : Stored) (call : Call) (datagram : List ℕ) (room
     pub done-normal : (page : ℕ) → 144 ≤ page → NormalisedAs (listOf (box .names) (d .done .named .command .set)) page (changeOf (d .done))
     done-normal = normalised-as box (inWords stored) call message (messageHeader datagram (call .position)) (asWords o) words-right message-short (d .done)
 
-    pub payload-reads : bitsetReading (changeOf (d .done) .payload) 0 (listOf (box .names) (d .done .named .command .set)) ≡ accepted (d .done .bits)
+    payload-reads : bitsetReading (changeOf (d .done) .payload) 0 (listOf (box .names) (d .done .named .command .set)) ≡ accepted (d .done .bits)
     payload-reads = alone box (inWords stored) call message (messageHeader datagram (call .position)) (asWords o) words-right message-short (d .done)
 
-    pub before-below : Below (count (listOf (box .names) (d .done .named .command .set))) (changeOf (d .done) .before)
+    before-below : Below (count (listOf (box .names) (d .done .named .command .set))) (changeOf (d .done) .before)
     before-below = found-below box (inWords stored) call message (messageHeader datagram (call .position)) (asWords o) words-right message-short (d .done)
 
-    pub list-right : namesRight (listOf (box .names) (d .done .named .command .set)) ≡ true
+    list-right : namesRight (listOf (box .names) (d .done .named .command .set)) ≡ true
     list-right = names-right box (inWords stored) call message (messageHeader datagram (call .position)) (asWords o) words-right message-short (d .done)
 
 -- the same, by its record

@@ -69,7 +69,7 @@ module _ (p : List Rule) (s : List ℕ) (from : ℕ) (whole : walked p s from .s
   beside : (i j : ℕ) → i < j → j < 8 → Disjoint (slot i) (slot j)
   beside i j l h = slots-disjoint p s from whole i j (omega arith) h (λ e. omega arith)
 
-  pub two-parts : PartsIn from (length s) (slot 1 ∷ slot 2 ∷ [])
+  two-parts : PartsIn from (length s) (slot 1 ∷ slot 2 ∷ [])
   two-parts = (inside 1 (omega arith), (beside 1 2 (omega arith) (omega arith), tt), (inside 2 (omega arith), tt, tt))
 
   pub three-parts : PartsIn from (length s) (slot 1 ∷ slot 2 ∷ slot 3 ∷ [])
