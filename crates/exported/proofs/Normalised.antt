@@ -44,4 +44,7 @@ module _ (c : NormalLent) (r : NormalLeft) (h : NormalLeaves c r) where
         accepted = form-left;
         back = λ a. h .number ∙ accepted-exactly (c .contents) (c .names) (length (c .page)) .1 a;
         refused = nothing-left;
+        refused-back =
+            λ why first. h .number
+            ∙ ap (λ (x : NormalAnswer). x .number) (normal-refused-exactly (c .contents) (c .names) (length (c .page)) .1 why first);
       }

@@ -19,7 +19,7 @@ use Rattle.response.specs.declared.Kind.{Kind}
 use Rattle.response.specs.declared.Kind.the-variants.{End, Skipped, Done, Refused}
 use Rattle.handler.specs.Call.{endsRun}
 use Rattle.handler.specs.Bytes.{Stored, bytesOutcome}
-use Rattle.demands.specs.Check.{AllPass}
+use Rattle.demands.specs.Check.{AllPass, FirstIs}
 use Rattle.demands.specs.Call.{nextOf}
 use Rattle.demands.specs.Request.{isSet}
 use Rattle.demands.proofs.Stored as S
@@ -87,6 +87,11 @@ module _ (c : Lent) (r : Left) (h : Leaves c r) where
         wrote = wrote _ (kept .1);
       }
 
+  refused-back : (why : Refusal) → FirstIs why (checksOf c) → (r .kind ≡ 3) × (r .refusal ≡ numberOf why)
+  refused-back why first =
+      let e = S.refused-exactly (c .box) (c .settings) (c .call) (c .datagram) (length (c .page)) why .1 first in
+      (kind-is e, refusal-is e)
+
   unrefused : r .kind ≤ 2 → r .refusal ≡ 0
   unrefused l = go (o .response .kind) refl
     where
@@ -153,6 +158,7 @@ module _ (c : Lent) (r : Left) (h : Leaves c r) where
         kinds = kinds;
         done-exactly = done-exactly;
         refused = refused-left;
+        refused-back = refused-back;
         unrefused = unrefused;
         quiet = quiet;
         set = set-left;

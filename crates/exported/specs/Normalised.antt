@@ -50,3 +50,4 @@ pub record NormalReturned (c : NormalLent) (r : NormalLeft) : Type 0 where
   pub accepted : r .number ≡ 0 → FormLeft c r
   pub back : Accepts (c .contents) (c .names) (length (c .page)) → r .number ≡ 0
   pub refused : 0 < r .number → NothingLeft c r
+  pub refused-back : (why : Refusal) → FirstIs why (normalChecks (c .contents) (c .names) (length (c .page))) → r .number ≡ numberOf why

@@ -78,12 +78,13 @@ pub record LeftGet (c : Lent) (r : Left) : Type 0 where
   pub done : DoneGet (c .box) (inWords (c .settings)) (messageIn c) (messageHeader (c .datagram) (c .call .position)) (asWords (record { response = response; state = r .settings }))
   pub wrote : Wrote c r (response .bytes)
 
--- what C gets back, by the kind: 2 exactly where every check passes; 3 with the number of the first that does not; 0 and 1 change and write nothing; and where
+-- what C gets back, by the kind: 2 exactly where every check passes; 3 exactly where one refuses, with the number of the first that does; 0 and 1 change and write nothing; and where
 -- to go on: the position itself for the end and for 1 to 4, else behind the message's step
 pub record Returned (c : Lent) (r : Left) : Type 0 where
   pub kinds : r .kind ≤ 3
   pub done-exactly : (r .kind ≡ 2 → AllPass (checksOf c)) × (AllPass (checksOf c) → r .kind ≡ 2)
   pub refused : r .kind ≡ 3 → LeftRefused c r
+  pub refused-back : (why : Refusal) → FirstIs why (checksOf c) → (r .kind ≡ 3) × (r .refusal ≡ numberOf why)
   pub unrefused : r .kind ≤ 2 → r .refusal ≡ 0
   pub quiet : r .kind ≤ 1 → (r .settings ≡ c .settings) × (r .page ≡ c .page) × (r .written ≡ 0)
   pub set : r .kind ≡ 2 → isSet (commandOf (byteAt (messageIn c) 16)) ≡ true → LeftSet c r
