@@ -1,4 +1,4 @@
--- Bytes of a name, behind which NULs stand (document 01: "bytes that aren't NUL, then NULs only").
+-- Bytes of a name, behind which NULs stand (document 01, "The box a call is given": "bytes that aren't NUL, then NULs only").
 use Prim.Native.Nat.{ℕ, _+_}
 use mathlib.Core.List.{List}
 use mathlib.Core.Bool.{Bool, _||_, not}

@@ -1,4 +1,4 @@
--- Sets of bits, and the 32-bit words that hold them, lowest first (document 01, "Port settings are lent as 32-bit words").
+-- Sets of bits, and the 32-bit words that hold them, lowest first (document 01, "The box a call is given": "Port settings are lent as 32-bit words").
 use Prim.Native.Nat.{ℕ, zero, suc, _+_, _*_, _/_, _%_}
 use mathlib.Core.Bool.{Bool, _&&_, _||_, not, cond}
 use mathlib.Core.List.{List, [], _∷_}
@@ -20,7 +20,7 @@ unfoldable pub wordsOf : ℕ → (ℕ → Bool) → List ℕ
 wordsOf zero f = []
 wordsOf (suc w) f = number 32 f ∷ wordsOf w (λ i. f (32 + i))
 
--- the words of a set of n bits (document 01, "N/32 rounded up")
+-- the words of a set of n bits (document 01, "The box a call is given": "N/32 rounded up")
 abbrev pub wordsFor : ℕ → ℕ
 wordsFor n = (n + 31) / 32
 
@@ -40,7 +40,7 @@ putBit n v s i = cond (eqb i n) v (s i)
 unfoldable pub clearFrom : ℕ → (ℕ → Bool) → ℕ → Bool
 clearFrom n f i = ltb i n || not (f i)
 
--- no bit of the words is at or past n (document 01, "bits from N on are 0")
+-- no bit of the words is at or past n (document 01, "The box a call is given": "bits from N on are 0")
 unfoldable pub noneFrom : List ℕ → ℕ → Bool
 noneFrom ws n = all (length ws * 32) (clearFrom n (has ws))
 
@@ -48,6 +48,6 @@ noneFrom ws n = all (length ws * 32) (clearFrom n (has ws))
 unfoldable pub past : ℕ → (ℕ → Bool) → ℕ → Bool
 past n f i = leb n i && f i
 
--- a bit i with n ≤ i < size is in the set (document 01, refusal 20 for a bitmap)
+-- a bit i with n ≤ i < size is in the set (document 01, "Bitsets", refusal 20 for a bitmap)
 unfoldable pub somePast : (ℕ → Bool) → ℕ → ℕ → Bool
 somePast f n size = any size (past n f)

@@ -1,4 +1,4 @@
--- The rule of the settings (document 01, "A set of N bits takes W words, N/32 rounded up, lowest first; bits from N on are 0. The slice
+-- The rule of the settings (document 01, "The box a call is given": "A set of N bits takes W words, N/32 rounded up, lowest first; bits from N on are 0. The slice
 -- holds exactly these words").
 use Prim.Native.Nat.{ℕ}
 use mathlib.Core.List.{List}

@@ -1,4 +1,4 @@
--- Document 01, "Padding has no meaning when read": two datagrams that agree but for paddings (specs/Padding) get the same answer, byte for byte, and
+-- Document 01, "Sizes on the wire": "Padding has no meaning when read": two datagrams that agree but for paddings (specs/Padding) get the same answer, byte for byte, and
 -- leave the same settings. So the bytes between the stated end of an attribute, a nest or the message and what follows it decide nothing.
 --     padding-free          the call over words
 --     padding-free-bytes    the call over bytes, which C makes

@@ -1,4 +1,4 @@
--- Document 01, "Padding has no meaning when read", and demand 2, "Each attribute is shown as its own part of the datagram, inside its parent": two
+-- Document 01, "Sizes on the wire": "Padding has no meaning when read", and demand 2, "Each attribute is shown as its own part of the datagram, inside its parent": two
 -- datagrams that agree but for paddings. Attribute by attribute, the four bytes of each header are the same; so is each payload, or, where it is a
 -- nest, it agrees again in this way. Nothing is said of the bytes between an attribute's stated end and the next attribute.
 use Prim.Native.Nat.{ℕ, _+_, _-_, min}

@@ -1,4 +1,4 @@
--- Lists of 32-byte entries (document 01, "Two bit-name lists .. 32 bytes an entry, N entries").
+-- Lists of 32-byte entries (document 01, "The box a call is given": "Two bit-name lists .. 32 bytes an entry, N entries").
 use Prim.Native.Nat.{ℕ, _*_, _/_}
 use mathlib.Core.Bool.{Bool, _||_, not, cond}
 use mathlib.Core.List.{List, []}
@@ -31,6 +31,6 @@ differs list i k = not (sameEntry (entryAt list i) (entryAt list k))
 unfoldable pub entryNew : List ℕ → ℕ → Bool
 entryNew list i = isEmpty (entryAt list i) || all i (differs list i)
 
--- the entries are distinct, those that are empty aside (document 01, "Empty entries .. may repeat; the others in one list are distinct")
+-- the entries are distinct, those that are empty aside (document 01, "The box a call is given": "Empty entries .. may repeat; the others in one list are distinct")
 unfoldable pub entriesDistinct : List ℕ → Bool
 entriesDistinct list = all (count list) (entryNew list)

@@ -1,4 +1,4 @@
--- Where a set lies (document 01, "Port settings are lent as 32-bit words: for each port in roll order its debug set, then its flags").
+-- Where a set lies (document 01, "The box a call is given": "Port settings are lent as 32-bit words: for each port in roll order its debug set, then its flags").
 -- No other definition says so.
 use Prim.Native.Nat.{ℕ, _+_, _*_}
 use mathlib.Core.List.{List}

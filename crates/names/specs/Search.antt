@@ -1,4 +1,4 @@
--- The search for a name (document 01, "A name is the entry that equals it .. an empty name matches none").
+-- The search for a name (document 01, "Bitsets": "A name is the entry that equals it .. an empty name matches none").
 use Prim.Native.Nat.{ℕ}
 use mathlib.Core.Bool.{Bool, true, false, _||_, cond}
 use mathlib.Core.List.{List}

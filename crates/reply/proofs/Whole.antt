@@ -20,7 +20,7 @@ heading = record { family = 25; flags = 0; sequence = 7; port = 9; command = 14 
 abbrev pub sw0 : List ℕ
 sw0 = 115 ∷ 119 ∷ 48 ∷ 0 ∷ 0 ∷ 0 ∷ 0 ∷ 0 ∷ 0 ∷ 0 ∷ 0 ∷ 0 ∷ 0 ∷ 0 ∷ 0 ∷ 0 ∷ []
 
--- the bytes of the paper
+-- the bytes of document 01
 abbrev pub wholeReply : List ℕ
 wholeReply =
     0x44 ∷ 0x00 ∷ 0x00 ∷ 0x00 ∷ 0x19 ∷ 0x00 ∷ 0x00 ∷ 0x00 ∷ 0x07 ∷ 0x00 ∷ 0x00 ∷ 0x00 ∷ 0x09 ∷ 0x00 ∷ 0x00 ∷ 0x00

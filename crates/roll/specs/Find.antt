@@ -1,4 +1,4 @@
--- The port of an index or of a name (document 01, refusal 16: "no such port, by index if given, else by name").
+-- The port of an index or of a name (document 01, "What a call says back", refusal 16: "no such port, by index if given, else by name").
 use Prim.Native.Nat.{ℕ}
 use mathlib.Core.List.{List}
 use mathlib.Core.Bool.{Bool, cond}

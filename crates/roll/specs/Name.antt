@@ -1,4 +1,4 @@
--- Names of ports (document 01, port roll: "name (16 bytes)").
+-- Names of ports (document 01, "The box a call is given", port roll: "name (16 bytes)").
 use Prim.Native.Nat.{ℕ, _+_}
 use mathlib.Core.List.{List}
 use mathlib.Core.Bool.{Bool, _&&_, not}

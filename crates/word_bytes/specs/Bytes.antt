@@ -1,4 +1,4 @@
--- Words as their little-endian bytes (document 01, "settings as the little-endian bytes of their words").
+-- Words as their little-endian bytes (document 01, "What the box reads and writes": "settings as the little-endian bytes of their words").
 use Prim.Native.Nat.{ℕ, zero, suc, _*_, _/_, _<_}
 use mathlib.Core.List.{List, [], _∷_, _++_}
 use lib.ListN.{length, getD}
