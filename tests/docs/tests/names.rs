@@ -132,7 +132,7 @@ fn names_stand_in_the_file_that_a_table_gives_for_them() {
     let mut held = 0;
     let mut wrong = Vec::new();
     for (page, text) in tree::documents() {
-        for segment in text.split(['|', ';', '(', '\n']) {
+        for segment in text.split(['|', ';', '(', ')', '\n']) {
             let Some((files, rest)) = places(segment) else { continue };
             let texts: Vec<String> = files.iter().map(|file| tree::read(file)).collect();
             for name in listed(rest) {
