@@ -24,9 +24,9 @@ held_back() {
 refused 75 -s quay1 wol g
 refused 75 -s quay1 sopass 00:11:22:33:44:55
 refused 75 -s quay1 speed 100
-refused 75 -s quay1 autoneg on
-refused 75 -s quay1 port tp
-refused 75 -s quay1 mdix auto
+for words in "duplex full" "lanes 1" "autoneg on" "advertise 1" "master-slave preferred-master" "port tp" "mdix auto" "phyad 1"; do
+    refused 75 -s quay1 $words
+done
 refused 1 -a quay1
 refused 76 -A quay1 rx on
 refused 1 -c quay1
@@ -46,11 +46,12 @@ refused 1 --show-tunnels quay1
 refused 1 --show-module quay1
 refused 83 --set-module quay1 power-mode-policy auto
 
-# These two ask for the names of a string set first.
+# These ask for the names of a string set first, but for `--groups`.
 expect_refusal "7 7" 92 "netlink error: Operation not supported
 netlink error: Operation not supported" -K quay1 gro on
 expect_refusal "7 7" 1 "netlink error: Operation not supported
 netlink error: Operation not supported" -S quay1 --all-groups
+refused 1 -S quay1 --groups eth-mac
 
 # Levels beside something that is not served: that goes first, is refused, and the levels stay.
 refused 75 -s quay1 msglvl 0x3 wol g
@@ -67,15 +68,26 @@ expect 1 "subcommand does not support wildcard dump" -k '*'
 held_back ioctl 71 "Cannot get driver information: Operation not supported" -i quay1
 held_back ioctl 72 "Cannot get driver information: Operation not supported" -d quay1
 held_back ioctl 74 "Cannot get driver information: Operation not supported" -e quay1
+held_back ioctl 74 "Cannot get driver information: Operation not supported" -E quay1 magic 1 offset 1 value 1
 held_back ioctl 255 "Cannot restart autonegotiation: Operation not supported" -r quay1
 held_back ioctl 255 "Cannot identify NIC: Operation not supported" -p quay1
 held_back ioctl 74 "Cannot get strings: Operation not supported" -t quay1
 held_back ioctl 96 "Cannot get stats strings information: Operation not supported" -S quay1
 held_back ioctl 96 "Cannot get stats strings information: Operation not supported" --phy-statistics quay1
+held_back ioctl 1 "Cannot get RX rings: Operation not supported
+rxclass: Cannot get RX class rule count: Operation not supported
+RX classification rule retrieval failed" -n quay1
+held_back ioctl 1 "rmgr: Cannot delete RX class rule: Operation not supported
+Cannot delete classification rule" -N quay1 delete 1
 held_back ioctl 1 "Cannot get RX ring count: Operation not supported" -x quay1
+held_back ioctl 1 "Cannot get RX ring count: Operation not supported" -X quay1 equal 2
+held_back ioctl 255 "Flashing failed: Operation not supported" -f quay1 firmware
 held_back ioctl 1 "Can not get dump level: Operation not supported" -w quay1
+held_back ioctl 1 "Can not set dump level: Operation not supported" -W quay1 1
 held_back ioctl 87 "Cannot Get PHY downshift count: Operation not supported" --get-phy-tunable quay1 downshift
+held_back ioctl 87 "Cannot Set PHY downshift count: Operation not supported" --set-phy-tunable quay1 downshift on
 held_back ioctl 255 "rx-copybreak: Cannot get tunable" --get-tunable quay1 rx-copybreak
+held_back ioctl 255 "rx-copybreak: Operation not supported" --set-tunable quay1 rx-copybreak 1
 held_back ioctl 1 "Cannot issue ETHTOOL_RESET: Operation not supported
 ETHTOOL_RESET 0xffffffff" --reset quay1 all
 held_back ioctl 242 "Cannot get number of queues: Operation not supported" -Q quay1 --show-coalesce
