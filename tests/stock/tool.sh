@@ -78,5 +78,5 @@ expect_refusal() {
     shift
     rm -f "$ETHNL_REFUSALS"
     expect "$@"
-    check "  refused by $numbers" "$(tr '\n' ' ' <"$ETHNL_REFUSALS")" "$numbers "
+    check "  refused by $numbers" "$(cat "$ETHNL_REFUSALS" 2>/dev/null | tr '\n' ' ')" "$numbers "
 }

@@ -17,7 +17,7 @@ held_back() {
     how=$1
     shift
     expect "$@"
-    check "  would ask by $how" "$(sort -u "$ETHNL_OUTSIDE")" "$how"
+    check "  would ask by $how" "$(sort -u "$ETHNL_OUTSIDE" 2>/dev/null)" "$how"
     check "  sends the library nothing" "$(ls "$ETHNL_SENT" 2>/dev/null)" ""
 }
 
