@@ -24,6 +24,9 @@ plays 75 "netlink error: Operation not supported
 try: refused by the library, number 20 (README.md, \"How to read an answer\")" -s quay3 msglvl 0x100
 plays 1 "netlink error: No such device
 try: refused by the library, number 16 (README.md, \"How to read an answer\")" --show-priv-flags quay9
+plays 75 "netlink error: No such device
+No data available
+try: refused by the library, number 7 16 (README.md, \"How to read an answer\")" quay9
 plays 71 "Cannot get driver information: Operation not supported
 try: ethtool asks no box for this, but the cards of the machine it runs on; held back" -i quay3
 plays 0 "Private flags for quay3:
@@ -41,8 +44,8 @@ plays 0 "Private flags for kai3:
 vlan-filter: on" --show-priv-flags kai3
 
 # Alone it tells how to use it, and what is in the box.
-check "try alone shows the ports" "$(ETHNL_BOX=$out/other.box "$here/try" | grep '^port')" \
-    "port    quay1 quay2 kai3 quay4 quay5 quay6 quay7 quay8"
+check "try alone shows the ports" "$(ETHNL_BOX=$out/other.box "$here/try" | grep '^ports')" \
+    "ports  quay1 quay2 kai3 quay4 quay5 quay6 quay7 quay8"
 check "try alone tells how to start over" "$("$here/try" | grep -c -- --new)" 1
 
 with="ETHNL_BOX=$out/none.box"

@@ -13,16 +13,11 @@ fn right_box() -> Setup {
     setup
 }
 
-fn check(setup: &Setup) -> (u32, u64) {
-    let Setup { family, admin, roll, debug_names, flag_names, settings, .. } = setup;
-    reader::check_box(*family, *admin, roll, debug_names, flag_names, settings)
-}
-
 /// What is told of the right box after a change.
 fn told(change: impl FnOnce(&mut Setup)) -> (u32, u64) {
     let mut setup = right_box();
     change(&mut setup);
-    check(&setup)
+    setup.check()
 }
 
 fn roll_of(records: &[Vec<u8>]) -> (u32, u64) {
@@ -43,8 +38,8 @@ fn many_ports(count: u32) -> Vec<Vec<u8>> {
 
 #[test]
 fn nothing_is_told_of_a_right_box() {
-    assert_eq!(check(&right_box()), (0, 0));
-    assert_eq!(check(&Setup::document()), (0, 0));
+    assert_eq!(right_box().check(), (0, 0));
+    assert_eq!(Setup::document().check(), (0, 0));
 }
 
 #[test]
@@ -209,6 +204,6 @@ fn parts_are_told_in_their_order() {
     let mut setup = right_box();
     for (earlier, (fault, place)) in faults.into_iter().enumerate().rev() {
         fault(&mut setup);
-        assert_eq!(check(&setup), (earlier as u32 + 1, place));
+        assert_eq!(setup.check(), (earlier as u32 + 1, place));
     }
 }
