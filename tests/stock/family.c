@@ -3,9 +3,9 @@
 #include <linux/genetlink.h>
 
 /*
- * Commands that are announced: every one that a tool may know (37 are known to ethtool 6.1, and it passes over the rest).
- * For a command that is not announced the tool turns to the cards of the machine that it runs on. A dump of the private
- * flags is announced, so that it is asked for.
+ * Commands that are announced: every one that a tool may know (ethtool 6.1 knows 37, and passes over the rest). For a
+ * command that is not announced the tool turns to the cards of the machine that it runs on. A dump of the private flags
+ * is announced, so that it is asked for.
  */
 enum { FIRST_COMMAND = 1, LAST_COMMAND = 127 };
 
