@@ -2,28 +2,21 @@
 
 #include <linux/genetlink.h>
 
-/* The tool sends a request only if its command is announced, and `ethtool DEV` only if all five of its GETs are. */
-static const struct {
-    uint32_t command, flags;
-} announced[] = {
-    {2, GENL_CMD_CAP_DO},  /* LINKINFO_GET: refused by the library with 7, as the next two and WOL_GET */
-    {4, GENL_CMD_CAP_DO},  /* LINKMODES_GET */
-    {6, GENL_CMD_CAP_DO},  /* LINKSTATE_GET */
-    {7, GENL_CMD_CAP_DO},  /* DEBUG_GET */
-    {8, GENL_CMD_CAP_DO},  /* DEBUG_SET */
-    {9, GENL_CMD_CAP_DO},  /* WOL_GET */
-    {13, GENL_CMD_CAP_DO | GENL_CMD_CAP_DUMP}, /* PRIVFLAGS_GET; a dump is announced, so that it is asked for */
-    {14, GENL_CMD_CAP_DO}, /* PRIVFLAGS_SET */
-};
+/*
+ * Commands that are announced: every one that a tool may know (ethtool 6.1 knows 37, and passes over the rest). For a
+ * command that is not announced the tool turns to the cards of the machine that it runs on. A dump of the private flags
+ * is announced, so that it is asked for.
+ */
+enum { FIRST_COMMAND = 1, LAST_COMMAND = 127 };
 
 static void put_commands(struct message *message)
 {
     size_t all = begin_nest(message, CTRL_ATTR_OPS);
 
-    for (size_t at = 0; at < sizeof announced / sizeof *announced; at++) {
-        size_t one = begin_nest(message, (uint16_t)(at + 1));
-        number(message, CTRL_ATTR_OP_ID, announced[at].command);
-        number(message, CTRL_ATTR_OP_FLAGS, announced[at].flags);
+    for (uint16_t command = FIRST_COMMAND; command <= LAST_COMMAND; command++) {
+        size_t one = begin_nest(message, command);
+        number(message, CTRL_ATTR_OP_ID, command);
+        number(message, CTRL_ATTR_OP_FLAGS, GENL_CMD_CAP_DO | (command == PRIVFLAGS_GET ? GENL_CMD_CAP_DUMP : 0));
         end_nest(message, one);
     }
     end_nest(message, all);
@@ -38,11 +31,20 @@ static void put_header(struct message *message, uint16_t type, const struct nlms
     put_u32(message, request->nlmsg_pid);
 }
 
+struct message error_message(const struct nlmsghdr *request, int error)
+{
+    struct message message = {.length = 0};
+
+    put_header(&message, NLMSG_ERROR, request);
+    put_u32(&message, (uint32_t)-error);
+    put(&message, request, sizeof *request);
+    end_request(&message);
+    return message;
+}
+
 struct message family_answer(const struct nlmsghdr *request, uint16_t family)
 {
-    struct message answer = {.length = 0};
-    uint32_t length;
-    size_t ack;
+    struct message answer = {.length = 0}, ack = error_message(request, 0);
 
     put_header(&answer, GENL_ID_CTRL, request);
     put(&answer, (uint8_t[4]){CTRL_CMD_NEWFAMILY, 2, 0, 0}, 4);
@@ -50,11 +52,6 @@ struct message family_answer(const struct nlmsghdr *request, uint16_t family)
     attribute(&answer, CTRL_ATTR_FAMILY_ID, &family, sizeof family);
     put_commands(&answer);
     end_request(&answer);
-    ack = answer.length;
-    put_header(&answer, NLMSG_ERROR, request);
-    put_u32(&answer, 0);
-    put(&answer, request, sizeof *request);
-    length = (uint32_t)(answer.length - ack);
-    memcpy(answer.bytes + ack, &length, sizeof length);
+    put(&answer, ack.bytes, ack.length);
     return answer;
 }

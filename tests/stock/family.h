@@ -1,4 +1,4 @@
-/* The look-up of the ethtool family, which is not the library's business. */
+/* What the kernel would answer beside the ethtool family: the look-up of that family, and errors. */
 #ifndef FAMILY_H
 #define FAMILY_H
 
@@ -6,7 +6,10 @@
 
 #include <linux/netlink.h>
 
-/* The family's number and the commands the tool wants to see, then an ACK. */
+/* The family's number and its commands, then an ACK. */
 struct message family_answer(const struct nlmsghdr *request, uint16_t family);
+
+/* An error message with this errno; with 0 it is an ACK. */
+struct message error_message(const struct nlmsghdr *request, int error);
 
 #endif

@@ -1,11 +1,13 @@
 /*
- * Preloaded into the stock ethtool: its generic netlink socket ends in wire_end.c instead of the kernel. Only the
- * functions of libc that libmnl calls for a socket are here; everything else of the tool is left alone.
+ * Preloaded into the stock ethtool: its generic netlink socket ends in wire_end.c instead of the kernel. The other ways
+ * to a network card, which lead to those of the machine that the tool runs on, are closed: ioctl and rtnetlink are
+ * refused as not supported. Everything else of the tool is left alone.
  *
  *   ETHNL_BOX       the box, in the format of examples/quay.box
  *   ETHNL_STATE     its settings: read if the file is there, written after each datagram
  *   ETHNL_SENT      gets each ethtool datagram that is sent, its 32-bit length before it
  *   ETHNL_REFUSALS  gets the number of each refusal, one a line
+ *   ETHNL_OUTSIDE   gets a line "ioctl" or "rtnetlink" for each time that the machine's own cards would have been asked
  *   ETHNL_LOSE      if set, the answers are lost; the tool, which would wait for ever, gets the error of a time limit
  */
 #define _GNU_SOURCE
@@ -15,7 +17,10 @@
 #include <errno.h>
 #include <fcntl.h>
 #include <linux/netlink.h>
+#include <linux/sockios.h>
+#include <stdarg.h>
 #include <string.h>
+#include <sys/ioctl.h>
 #include <sys/socket.h>
 #include <unistd.h>
 
@@ -24,22 +29,23 @@
 
 enum { SOCKETS = 64 };
 
-static char ours[SOCKETS];
+/* What a descriptor is to the tool. */
+static enum { NOT_OURS, TO_THE_BOX, TO_THE_CARDS } ours[SOCKETS];
 
 static int is_ours(int fd)
 {
-    return fd >= 0 && fd < SOCKETS && ours[fd];
+    return fd >= 0 && fd < SOCKETS && ours[fd] != NOT_OURS;
 }
 
 int socket(int domain, int type, int protocol)
 {
     int fd;
 
-    if (domain != AF_NETLINK || protocol != NETLINK_GENERIC)
+    if (domain != AF_NETLINK || (protocol != NETLINK_GENERIC && protocol != NETLINK_ROUTE))
         return NEXT(socket)(domain, type, protocol);
     fd = open("/dev/null", O_RDWR);
     if (fd >= 0 && fd < SOCKETS) {
-        ours[fd] = 1;
+        ours[fd] = protocol == NETLINK_GENERIC ? TO_THE_BOX : TO_THE_CARDS;
         open_box();
     }
     return fd;
@@ -48,8 +54,24 @@ int socket(int domain, int type, int protocol)
 int close(int fd)
 {
     if (is_ours(fd))
-        ours[fd] = 0;
+        ours[fd] = NOT_OURS;
     return NEXT(close)(fd);
+}
+
+/* The ioctls of sockets and network cards are numbered 0x8900 and up; SIOCETHTOOL is one of them. */
+int ioctl(int fd, unsigned long request, ...)
+{
+    va_list arguments;
+    void *argument;
+
+    va_start(arguments, request);
+    argument = va_arg(arguments, void *);
+    va_end(arguments);
+    if (request >> 8 != SIOCETHTOOL >> 8)
+        return NEXT(ioctl)(fd, request, argument);
+    record_outside("ioctl");
+    errno = EOPNOTSUPP;
+    return -1;
 }
 
 int bind(int fd, const struct sockaddr *address, socklen_t length)
@@ -77,7 +99,10 @@ ssize_t sendto(int fd, const void *bytes, size_t length, int flags, const struct
 {
     if (!is_ours(fd))
         return NEXT(sendto)(fd, bytes, length, flags, to, to_len);
-    take_datagram(bytes, length);
+    if (ours[fd] == TO_THE_BOX)
+        take_datagram(bytes, length);
+    else
+        refuse_datagram(bytes, length);
     return (ssize_t)length;
 }
 

@@ -1,15 +1,32 @@
-# Finding the tool, running it over the shim, comparing what it shows. Read by `run`.
+# Finding the tool, running it over the shim, comparing what it shows. Read by `run` and `try`.
 
-# Takes the installed tool, or unpacks Debian's package beside the other things that are built here.
+stop() {
+    echo "$(basename "$0"): $1" >&2
+    exit 2
+}
+
+need_archive() {
+    [ -f "$lib" ] || stop "no archive $lib: 'rt staticlib ethnl' makes it, ETHNL_LIB names another"
+}
+
+# Takes the tool that ETHTOOL names, or the installed one, or Debian's package unpacked beside the other things built here.
 find_tool() {
-    ethtool=$(PATH=$PATH:/usr/sbin:/sbin command -v ethtool) && return
-    (cd "$out" && { apt-get download ethtool libmnl0 || { timeout 60 apt-get update && apt-get download ethtool libmnl0; }; } &&
-        dpkg -x ethtool_*.deb package && dpkg -x libmnl0_*.deb package) >"$out/package.log" 2>&1
+    ethtool=${ETHTOOL:-$(PATH=$PATH:/usr/sbin:/sbin command -v ethtool)}
+    [ -z "$ethtool" ] || { [ -x "$ethtool" ]; return; }
+    unpacked || { fetch >"$out/package.log" 2>&1; unpacked; }
+}
+
+unpacked() {
     ethtool=$(find "$out/package" -path '*/sbin/ethtool' 2>/dev/null)
     LD_LIBRARY_PATH=$(echo "$out"/package/usr/lib/*-linux-gnu)
     export LD_LIBRARY_PATH
     [ -n "$ethtool" ]
 }
+
+fetch() (
+    cd "$out" && { apt-get download ethtool libmnl0 || { timeout 60 apt-get update && apt-get download ethtool libmnl0; }; } &&
+        dpkg -x libmnl0_*.deb package && dpkg -x ethtool_*.deb package
+)
 
 build() {
     flags="-O2 -Wall -Wextra -Werror -I$root/include -I$root/examples -I$root/tests/c"
@@ -24,8 +41,9 @@ begin() {
     ETHNL_STATE=$out/state
     ETHNL_SENT=$out/sent
     ETHNL_REFUSALS=$out/refusals
-    export ETHNL_BOX ETHNL_STATE ETHNL_SENT ETHNL_REFUSALS
-    rm -f "$ETHNL_STATE" "$ETHNL_SENT" "$ETHNL_REFUSALS"
+    ETHNL_OUTSIDE=$out/outside
+    export ETHNL_BOX ETHNL_STATE ETHNL_SENT ETHNL_REFUSALS ETHNL_OUTSIDE
+    rm -f "$ETHNL_STATE" "$ETHNL_SENT" "$ETHNL_REFUSALS" "$ETHNL_OUTSIDE"
 }
 
 tool() {
@@ -60,5 +78,5 @@ expect_refusal() {
     shift
     rm -f "$ETHNL_REFUSALS"
     expect "$@"
-    check "  refused by $numbers" "$(tr '\n' ' ' <"$ETHNL_REFUSALS")" "$numbers "
+    check "  refused by $numbers" "$(cat "$ETHNL_REFUSALS" 2>/dev/null | tr '\n' ' ')" "$numbers "
 }

@@ -3,6 +3,7 @@
 #include "box.h"
 #include "family.h"
 
+#include <errno.h>
 #include <linux/genetlink.h>
 #include <linux/netlink.h>
 #include <stdio.h>
@@ -58,14 +59,28 @@ static void record(const void *datagram, uint32_t length)
     fclose(sent);
 }
 
+/* Puts a line after the others of a file. */
+static void record_line(const char *variable, const char *line)
+{
+    FILE *lines = open_named(variable, "a");
+
+    if (lines == NULL)
+        return;
+    fprintf(lines, "%s\n", line);
+    fclose(lines);
+}
+
 static void record_refusal(uint32_t refusal)
 {
-    FILE *refusals = open_named("ETHNL_REFUSALS", "a");
+    char number[16];
 
-    if (refusals == NULL)
-        return;
-    fprintf(refusals, "%u\n", refusal);
-    fclose(refusals);
+    snprintf(number, sizeof number, "%u", refusal);
+    record_line("ETHNL_REFUSALS", number);
+}
+
+void record_outside(const char *how)
+{
+    record_line("ETHNL_OUTSIDE", how);
 }
 
 static void queue_answer(const void *bytes, size_t length)
@@ -108,6 +123,17 @@ void take_datagram(const void *datagram, size_t length)
     record(datagram, (uint32_t)length);
     serve(datagram, length);
     keep_settings();
+}
+
+void refuse_datagram(const void *datagram, size_t length)
+{
+    struct message error;
+
+    record_outside("rtnetlink");
+    if (length < sizeof(struct nlmsghdr))
+        return;
+    error = error_message(datagram, EOPNOTSUPP);
+    queue_answer(error.bytes, error.length);
 }
 
 long next_message(void *buffer, size_t room)

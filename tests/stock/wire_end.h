@@ -11,6 +11,12 @@ void open_box(void);
 /* Takes a datagram that the tool sends, and queues the answers to it. */
 void take_datagram(const void *datagram, size_t length);
 
+/* Takes a datagram that would have gone to the machine's own cards: not supported. */
+void refuse_datagram(const void *datagram, size_t length);
+
+/* Writes down that the machine's own cards would have been asked, and how. */
+void record_outside(const char *how);
+
 /* Hands out the next message of the queue into a buffer; -1 if there is none. */
 long next_message(void *buffer, size_t room);
 

@@ -8,7 +8,7 @@ pub fn damage(rng: &mut Rng, given: &mut BoxBytes, model: &Model) {
     let has_port = given.roll.len() >= 21;
     match rng.below(12) {
         0 => given.family = family(rng, given.family),
-        1 => given.admin = rng.pick(&[2, 3, 255, 256, 257, 0x1_0000, u32::MAX]),
+        1 => given.admin = admin(rng),
         2 if has_port => records(rng, &mut given.roll),
         3 if has_port => port_fields(rng, &mut given.roll),
         4 => repeated_port(rng, given, model),
@@ -20,7 +20,7 @@ pub fn damage(rng: &mut Rng, given: &mut BoxBytes, model: &Model) {
 }
 
 /// A family out of range, often one that is right in its lower 16 bits.
-fn family(rng: &mut Rng, family: u32) -> u32 {
+pub fn family(rng: &mut Rng, family: u32) -> u32 {
     match rng.below(3) {
         0 => rng.pick(&[0, 1, 2, 15]),
         1 => family + 0x1_0000,
@@ -28,8 +28,13 @@ fn family(rng: &mut Rng, family: u32) -> u32 {
     }
 }
 
+/// Neither yes nor no.
+pub fn admin(rng: &mut Rng) -> u32 {
+    rng.pick(&[2, 3, 255, 256, 257, 0x1_0000, u32::MAX])
+}
+
 /// Records of an unknown kind, cut short, or none.
-fn records(rng: &mut Rng, roll: &mut Vec<u8>) {
+pub fn records(rng: &mut Rng, roll: &mut Vec<u8>) {
     match rng.below(4) {
         0 => {
             let chosen = rng.below(roll.len() / 21);
@@ -45,7 +50,7 @@ fn records(rng: &mut Rng, roll: &mut Vec<u8>) {
 }
 
 /// An index or a name that a port can't have.
-fn port_fields(rng: &mut Rng, roll: &mut [u8]) {
+pub fn port_fields(rng: &mut Rng, roll: &mut [u8]) {
     let start = 21 * rng.below(roll.len() / 21);
     let (index, name) = roll[start + 1..start + 21].split_at_mut(4);
     match rng.below(5) {
@@ -61,7 +66,7 @@ fn port_fields(rng: &mut Rng, roll: &mut [u8]) {
 }
 
 /// Two ports with one index or one name; a second port is added where there is only one.
-fn repeated_port(rng: &mut Rng, given: &mut BoxBytes, model: &Model) {
+pub fn repeated_port(rng: &mut Rng, given: &mut BoxBytes, model: &Model) {
     let first = &model.ports[rng.below(model.ports.len())];
     let mut double = Port { index: first.index, name: first.name.clone() };
     if rng.coin() {
@@ -81,7 +86,7 @@ fn add_port(rng: &mut Rng, given: &mut BoxBytes, model: &Model, port: &Port) {
 }
 
 /// 65 ports or more, with all their settings.
-fn too_many_ports(rng: &mut Rng, given: &mut BoxBytes, model: &Model) {
+pub fn too_many_ports(rng: &mut Rng, given: &mut BoxBytes, model: &Model) {
     let count = rng.pick(&[65, 65, 66, 128]);
     for extra in model.ports.len()..count {
         let port = Port { index: 0x0200_0000 + extra as u32, name: format!("extra-{extra}").into_bytes() };
@@ -89,7 +94,7 @@ fn too_many_ports(rng: &mut Rng, given: &mut BoxBytes, model: &Model) {
     }
 }
 
-fn settings_length(rng: &mut Rng, settings: &mut Vec<u8>) {
+pub fn settings_length(rng: &mut Rng, settings: &mut Vec<u8>) {
     let by = rng.pick(&[1, 2, 3, 4, 4, 8]);
     match rng.coin() {
         true => settings.extend(vec![0; by]),
@@ -98,7 +103,7 @@ fn settings_length(rng: &mut Rng, settings: &mut Vec<u8>) {
 }
 
 /// A bit at or past N in some set of some port, where a word has room for one.
-fn settings_bit(rng: &mut Rng, given: &mut BoxBytes, model: &Model) {
+pub fn settings_bit(rng: &mut Rng, given: &mut BoxBytes, model: &Model) {
     let words = model.lists.each_ref().map(|list| list.len().div_ceil(32));
     let port = rng.below(model.ports.len());
     let set = rng.below(2);
@@ -113,7 +118,7 @@ fn settings_bit(rng: &mut Rng, given: &mut BoxBytes, model: &Model) {
 }
 
 /// A list of the box broken; settings follow where its number of bits changes.
-fn list_of_box(rng: &mut Rng, given: &mut BoxBytes, model: &Model) {
+pub fn list_of_box(rng: &mut Rng, given: &mut BoxBytes, model: &Model) {
     let chosen = rng.below(2);
     if rng.per_mille(100) {
         let bits = rng.pick(&[513, 513, 514, 1024]);

@@ -67,6 +67,21 @@ impl Model {
             20..90 => 2,
             _ => 1,
         };
+        Self::of(rng, family, count)
+    }
+
+    /// A box whose faults can stand at more than one port.
+    pub fn of_more_ports(rng: &mut Rng) -> Self {
+        let family = rng.pick(&[16, 17, 25, 256, 65_534, 65_535]);
+        let count = match rng.below(20) {
+            0 => rng.within(60, 64),
+            1..4 => 1,
+            _ => rng.within(2, 9),
+        };
+        Self::of(rng, family, count)
+    }
+
+    fn of(rng: &mut Rng, family: u16, count: usize) -> Self {
         let debug_bits = bits(rng);
         let flag_bits = if rng.coin() { debug_bits } else { bits(rng) };
         let lists = [list(rng, debug_bits), list(rng, flag_bits)];

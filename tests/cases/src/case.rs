@@ -27,20 +27,63 @@ pub struct NormaliseCase {
     pub page: Vec<u8>,
 }
 
+/// Inputs of the check of a box.
+#[derive(Clone, Debug, PartialEq, Eq)]
+pub struct CheckBoxCase {
+    pub family: u32,
+    pub admin: u32,
+    pub roll: Vec<u8>,
+    pub debug_names: Vec<u8>,
+    pub flag_names: Vec<u8>,
+    pub settings: Vec<u8>,
+}
+
 /// One call.
 #[derive(Clone, Debug, PartialEq, Eq)]
 pub enum Case {
     Handle(HandleCase),
     Normalise(NormaliseCase),
+    CheckBox(CheckBoxCase),
+}
+
+/// The box of a case.
+#[derive(Clone, Copy)]
+pub struct GivenBox<'a> {
+    pub family: u32,
+    pub admin: u32,
+    pub roll: &'a [u8],
+    pub debug_names: &'a [u8],
+    pub flag_names: &'a [u8],
+    pub settings: &'a [u8],
+}
+
+impl<'a> From<&'a HandleCase> for GivenBox<'a> {
+    fn from(case: &'a HandleCase) -> Self {
+        let HandleCase { family, admin, roll, debug_names, flag_names, settings, .. } = case;
+        GivenBox { family: *family, admin: *admin, roll, debug_names, flag_names, settings }
+    }
+}
+
+impl<'a> From<&'a CheckBoxCase> for GivenBox<'a> {
+    fn from(case: &'a CheckBoxCase) -> Self {
+        let CheckBoxCase { family, admin, roll, debug_names, flag_names, settings } = case;
+        GivenBox { family: *family, admin: *admin, roll, debug_names, flag_names, settings }
+    }
+}
+
+impl Display for GivenBox<'_> {
+    fn fmt(&self, out: &mut Formatter) -> Result {
+        writeln!(out, "family {}\nadmin {}", self.family, self.admin)?;
+        writeln!(out, "roll {}", hex(self.roll))?;
+        writeln!(out, "debug_names {}", hex(self.debug_names))?;
+        writeln!(out, "flag_names {}", hex(self.flag_names))?;
+        writeln!(out, "settings {}", hex(self.settings))
+    }
 }
 
 impl Display for HandleCase {
     fn fmt(&self, out: &mut Formatter) -> Result {
-        writeln!(out, "handle\nfamily {}\nadmin {}", self.family, self.admin)?;
-        writeln!(out, "roll {}", hex(&self.roll))?;
-        writeln!(out, "debug_names {}", hex(&self.debug_names))?;
-        writeln!(out, "flag_names {}", hex(&self.flag_names))?;
-        writeln!(out, "settings {}", hex(&self.settings))?;
+        write!(out, "handle\n{}", GivenBox::from(self))?;
         writeln!(out, "datagram {}", hex(&self.datagram))?;
         writeln!(out, "position {}", self.position)?;
         writeln!(out, "page {} bytes, {}", self.page.len(), hex(&self.page))
@@ -60,6 +103,7 @@ impl Display for Case {
         match self {
             Case::Handle(case) => case.fmt(out),
             Case::Normalise(case) => case.fmt(out),
+            Case::CheckBox(case) => write!(out, "check_box\n{}", GivenBox::from(case)),
         }
     }
 }

@@ -1,13 +1,15 @@
-//! Cases for the handler and the normaliser, each made from a seed and its number alone.
+//! Cases for the handler, the normaliser and the check of a box, each made from a seed and its number alone.
 //!
 //! A case begins as a right box and a valid request of one of the four commands, in one of its many forms. Then it is
 //! damaged none to three times: in the tree of attributes, in what the attributes say, in the message, in the datagram,
-//! in the page or in the box. Small boxes dominate; every hundredth or so is large.
+//! in the page or in the box. Small boxes dominate; every hundredth or so is large. A case for the check of a box has no
+//! request, more ports, and damage in any part and at any place of it.
 
 #![forbid(unsafe_code)]
 
 mod bad_box;
 mod bad_message;
+mod bad_parts;
 mod bad_tree;
 mod bad_words;
 pub mod bitsets;
@@ -21,6 +23,6 @@ pub mod requests;
 mod rng;
 pub mod tree;
 
-pub use case::{Case, HandleCase, NormaliseCase};
+pub use case::{Case, CheckBoxCase, GivenBox, HandleCase, NormaliseCase};
 pub use hex::hex;
 pub use making::case;

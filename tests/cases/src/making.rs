@@ -1,12 +1,12 @@
 //! One case from a seed and a number.
 
 use super::boxes::{self, BoxBytes, Model};
-use super::case::{Case, HandleCase, NormaliseCase};
+use super::case::{Case, CheckBoxCase, HandleCase, NormaliseCase};
 use super::datagrams;
 use super::requests::Request;
 use super::rng::Rng;
 use super::tree::write_all;
-use super::{bad_box, bad_message, bad_tree, bad_words, bitsets};
+use super::{bad_box, bad_message, bad_parts, bad_tree, bad_words, bitsets};
 
 /// Shortest answer page of the handler.
 const ANSWER_PAGE: usize = 32_768;
@@ -18,9 +18,10 @@ const LONGEST: usize = 32_768;
 /// The case with this number of a seed.
 pub fn case(seed: u64, number: u64) -> Case {
     let mut rng = Rng::new(seed, number);
-    match rng.per_mille(150) {
-        true => Case::Normalise(normalise(&mut rng)),
-        false => Case::Handle(handle(&mut rng)),
+    match rng.below(1000) {
+        0..150 => Case::Normalise(normalise(&mut rng)),
+        150..250 => Case::CheckBox(check_box(&mut rng)),
+        _ => Case::Handle(handle(&mut rng)),
     }
 }
 
@@ -129,6 +130,17 @@ fn normalise(rng: &mut Rng) -> NormaliseCase {
     write_all(&attributes, &mut contents);
     finish(rng, &mut contents, long);
     NormaliseCase { contents, names, page: contents_of_page(rng, page) }
+}
+
+fn check_box(rng: &mut Rng) -> CheckBoxCase {
+    let model = Model::of_more_ports(rng);
+    let mut given = model.lend(rng);
+    given.admin = rng.below(2) as u32;
+    for _ in 0..damages(rng) {
+        bad_parts::damage(rng, &mut given, &model);
+    }
+    let BoxBytes { family, admin, roll, lists: [debug_names, flag_names], settings } = given;
+    CheckBoxCase { family, admin, roll, debug_names, flag_names, settings }
 }
 
 /// A list with too many entries, or broken in another way.

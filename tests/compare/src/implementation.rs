@@ -1,6 +1,6 @@
-//! What is compared: anything that answers the handler's and the normaliser's calls.
+//! What is compared: anything that answers the calls of the handler, of the normaliser and of the check of a box.
 
-use cases::{HandleCase, NormaliseCase};
+use cases::{GivenBox, HandleCase, NormaliseCase};
 use reader::Answer;
 
 /// An implementation of document 01.
@@ -10,6 +10,9 @@ pub trait Implementation {
 
     /// Gives the number (0 if accepted) and the bytes written.
     fn normalise(&self, case: &NormaliseCase, page: &mut [u8]) -> (u32, u64);
+
+    /// Gives the number of the part at fault (0 if none) and the offset.
+    fn check_box(&self, given: GivenBox) -> (u32, u64);
 }
 
 /// The reader of this workspace.
@@ -32,5 +35,10 @@ impl Implementation for Reader {
 
     fn normalise(&self, case: &NormaliseCase, page: &mut [u8]) -> (u32, u64) {
         reader::normalise(&case.contents, &case.names, page)
+    }
+
+    fn check_box(&self, given: GivenBox) -> (u32, u64) {
+        let GivenBox { family, admin, roll, debug_names, flag_names, settings } = given;
+        reader::check_box(family, admin, roll, debug_names, flag_names, settings)
     }
 }

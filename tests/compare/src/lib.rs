@@ -1,5 +1,6 @@
 //! Two implementations of document 01 over the same cases: kind, number, next position, count, every byte of the page
-//! and every byte of the settings.
+//! and every byte of the settings; part and offset that the check of a box tells, and that it tells of a part exactly
+//! where the handler refuses the box.
 
 mod implementation;
 mod outcome;
@@ -16,7 +17,8 @@ pub use tally::Tally;
 
 use cases::Case;
 
-/// The first case on which two implementations differ, and what each of them did.
+/// The first case on which two implementations differ, or the left one's check of the box and its handler do, and what
+/// each of them did.
 pub struct Difference {
     pub number: u64,
     pub case: Case,
@@ -35,7 +37,7 @@ pub fn compare(
     for number in 0..cases {
         let case = cases::case(seed, number);
         let (left, right) = (outcome(left, &case), outcome(right, &case));
-        if left != right {
+        if left != right || !left.agrees_on_the_box() {
             return Some(Box::new(Difference { number, case, left, right }));
         }
         tally.count(&left);

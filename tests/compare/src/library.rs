@@ -1,7 +1,7 @@
-//! The proved library behind its C boundary (`ethnl_handle`, `ethnl_normalise`).
+//! The proved library behind its C boundary (`ethnl_handle`, `ethnl_normalise`, `ethnl_check_box`).
 
 use super::Implementation;
-use cases::{HandleCase, NormaliseCase};
+use cases::{GivenBox, HandleCase, NormaliseCase};
 use reader::Answer;
 
 #[cfg(feature = "library")]
@@ -27,6 +27,20 @@ extern "C" {
         next: *mut u64,
         written: *mut u64,
     );
+
+    fn ethnl_check_box(
+        family: u32,
+        admin: u32,
+        roll: *const u8,
+        roll_len: usize,
+        debug_names: *const u8,
+        debug_names_len: usize,
+        flag_names: *const u8,
+        flag_names_len: usize,
+        settings: *const u8,
+        settings_len: usize,
+        offset: *mut u64,
+    ) -> u32;
 }
 
 extern "C" {
@@ -96,5 +110,33 @@ impl Implementation for Library {
             )
         };
         (number, written)
+    }
+
+    #[cfg(not(feature = "library"))]
+    fn check_box(&self, given: GivenBox) -> (u32, u64) {
+        super::Reader.check_box(given)
+    }
+
+    #[cfg(feature = "library")]
+    fn check_box(&self, given: GivenBox) -> (u32, u64) {
+        let GivenBox { family, admin, roll, debug_names, flag_names, settings } = given;
+        let mut offset = u64::MAX;
+        // SAFETY: each pointer comes from a live slice or place and is followed by that slice's length.
+        let part = unsafe {
+            ethnl_check_box(
+                family,
+                admin,
+                roll.as_ptr(),
+                roll.len(),
+                debug_names.as_ptr(),
+                debug_names.len(),
+                flag_names.as_ptr(),
+                flag_names.len(),
+                settings.as_ptr(),
+                settings.len(),
+                &mut offset,
+            )
+        };
+        (part, offset)
     }
 }

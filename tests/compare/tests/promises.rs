@@ -11,7 +11,9 @@ fn handled() -> impl Iterator<Item = (HandleCase, Answer, Vec<u8>, Vec<u8>)> {
     (0..CASES).filter_map(|number| {
         let case = cases::case(SEED, number);
         match (outcome(&Reader, &case), case) {
-            (Outcome::Handled { answer, settings, page }, Case::Handle(case)) => Some((case, answer, settings, page)),
+            (Outcome::Handled { answer, settings, page, .. }, Case::Handle(case)) => {
+                Some((case, answer, settings, page))
+            }
             _ => None,
         }
     })

@@ -1,6 +1,6 @@
 //! The cases reach every answer, are the same on every run, and a difference is seen wherever it is.
 
-use cases::{Case, HandleCase, NormaliseCase};
+use cases::{Case, GivenBox, HandleCase, NormaliseCase};
 use compare::{compare, outcome, Implementation, Reader, Tally};
 use reader::Answer;
 use std::io::{stdout, Write};
@@ -56,6 +56,27 @@ impl Implementation for Altered {
     fn normalise(&self, case: &NormaliseCase, page: &mut [u8]) -> (u32, u64) {
         Reader.normalise(case, page)
     }
+
+    fn check_box(&self, given: GivenBox) -> (u32, u64) {
+        Reader.check_box(given)
+    }
+}
+
+/// The reader with another check of a box.
+struct OtherCheck(fn(GivenBox) -> (u32, u64));
+
+impl Implementation for OtherCheck {
+    fn handle(&self, case: &HandleCase, settings: &mut [u8], page: &mut [u8]) -> Answer {
+        Reader.handle(case, settings, page)
+    }
+
+    fn normalise(&self, case: &NormaliseCase, page: &mut [u8]) -> (u32, u64) {
+        Reader.normalise(case, page)
+    }
+
+    fn check_box(&self, given: GivenBox) -> (u32, u64) {
+        (self.0)(given)
+    }
 }
 
 #[test]
@@ -70,5 +91,22 @@ fn every_part_of_an_outcome_is_compared() {
     ];
     for alteration in alterations {
         assert!(compare(&Altered(alteration), &Reader, 1, 20, &mut Tally::default()).is_some());
+    }
+}
+
+#[test]
+fn part_and_offset_of_a_checked_box_are_compared() {
+    let other_part = OtherCheck(|given| (Reader.check_box(given).0 ^ 8, Reader.check_box(given).1));
+    let other_offset = OtherCheck(|given| (Reader.check_box(given).0, Reader.check_box(given).1 ^ 1 << 40));
+    for other in [other_part, other_offset] {
+        assert!(compare(&other, &Reader, 1, 200, &mut Tally::default()).is_some());
+    }
+}
+
+#[test]
+fn a_check_that_does_not_agree_with_the_handler_is_seen() {
+    for answer in [|_: GivenBox| (0, 0), |_: GivenBox| (3, 0)] {
+        let constant = OtherCheck(answer);
+        assert!(compare(&constant, &constant, 1, 200, &mut Tally::default()).is_some());
     }
 }

@@ -4,9 +4,11 @@
 //! 1 handle: family, admin (u32); roll, debug names, flag names, settings, datagram (bytes); position (u64); length of
 //!   the page (u32); then the answer: kind, refusal (u32), next (u64), what was written, settings afterwards (bytes).
 //! 2 normalise: contents, names (bytes); length of the page (u32); then the number (u32) and the form (bytes).
+//! 3 check_box: family, admin (u32); roll, debug names, flag names, settings (bytes); then the part at fault (u32) and the
+//!   offset (u64).
 //! 0 no more cases.
 
-use cases::{Case, HandleCase, NormaliseCase};
+use cases::{Case, CheckBoxCase, HandleCase, NormaliseCase};
 use std::env;
 use std::io::{self, BufWriter, Write};
 use std::process::ExitCode;
@@ -45,6 +47,7 @@ fn dump(out: &mut impl Write, cases: u64, seed: u64) -> io::Result<()> {
         match cases::case(seed, number) {
             Case::Handle(case) => handled(out, case)?,
             Case::Normalise(case) => normalised(out, case)?,
+            Case::CheckBox(case) => checked(out, &case)?,
         }
     }
     put_u32(out, 0)?;
@@ -95,4 +98,17 @@ fn normalised(out: &mut impl Write, mut case: NormaliseCase) -> io::Result<()> {
     let (number, written) = reader::normalise(&case.contents, &case.names, &mut case.page);
     put_u32(out, number)?;
     put_bytes(out, &case.page[..written as usize])
+}
+
+fn checked(out: &mut impl Write, case: &CheckBoxCase) -> io::Result<()> {
+    let CheckBoxCase { family, admin, roll, debug_names, flag_names, settings } = case;
+    put_u32(out, 3)?;
+    put_u32(out, *family)?;
+    put_u32(out, *admin)?;
+    for bytes in [roll, debug_names, flag_names, settings] {
+        put_bytes(out, bytes)?;
+    }
+    let (part, offset) = reader::check_box(*family, *admin, roll, debug_names, flag_names, settings);
+    put_u32(out, part)?;
+    out.write_all(&offset.to_le_bytes())
 }

@@ -1,14 +1,15 @@
 //! An independent reader of ethtool netlink requests, written from document 01 alone.
 //!
 //! It answers the same calls as the proved library: one message at a time ([`handle`]), one bitset at a time
-//! ([`normalise`]), or a whole datagram for a fixed box ([`run`]). Inputs are plain numbers and byte slices; every
-//! input has an answer. Nothing here allocates but [`answers`], [`answers_to`] and [`run`].
+//! ([`normalise`]), one box at a time ([`check_box`]), or a whole datagram for a fixed box ([`run`]). Inputs are plain
+//! numbers and byte slices; every input has an answer. [`handle`] and [`normalise`] allocate nothing.
 
 #![forbid(unsafe_code)]
 
 mod attribute;
 mod bit_list;
 mod bitset;
+mod box_check;
 mod command;
 mod fault;
 mod framing;
@@ -25,6 +26,7 @@ mod switch_box;
 mod text;
 pub mod wire;
 
+pub use box_check::check_box;
 pub use handler::{handle, Answer, DONE, END, REFUSED, SKIPPED};
 pub use normaliser::normalise;
 pub use program::{answers, answers_to, run};

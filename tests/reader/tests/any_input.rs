@@ -26,6 +26,10 @@ fn any_bytes_in_any_place() {
             4 => setup.page = some_bytes(state, 300),
             _ => {}
         }
+        let (part, offset) = setup.check();
+        let lengths =
+            [0, 0, 0, setup.roll.len(), setup.debug_names.len(), setup.flag_names.len(), setup.settings.len()];
+        assert!(offset <= lengths[part as usize] as u64);
         let datagram = some_bytes(state, 200);
         let position = [0, 0, next(state) as u64 % 250, u64::MAX, 1 << 32][next(state) % 5];
         let answer = setup.call_at(&datagram, position);

@@ -1,6 +1,6 @@
 //! Altered readers: each is the reader with one usual mistake or other reading put in (`edits/`).
 
-use cases::{HandleCase, NormaliseCase};
+use cases::{GivenBox, HandleCase, NormaliseCase};
 use compare::Implementation;
 use reader::Answer;
 
@@ -11,6 +11,7 @@ pub struct Slip {
     pub what: &'static str,
     handle: fn(&HandleCase, &mut [u8], &mut [u8]) -> Answer,
     normalise: fn(&NormaliseCase, &mut [u8]) -> (u32, u64),
+    check_box: fn(GivenBox) -> (u32, u64),
 }
 
 impl Implementation for Slip {
@@ -20,6 +21,10 @@ impl Implementation for Slip {
 
     fn normalise(&self, case: &NormaliseCase, page: &mut [u8]) -> (u32, u64) {
         (self.normalise)(case, page)
+    }
+
+    fn check_box(&self, given: GivenBox) -> (u32, u64) {
+        (self.check_box)(given)
     }
 }
 
@@ -46,6 +51,10 @@ macro_rules! slip {
                 Answer { kind, refusal, next, written }
             },
             normalise: |case, page| $module::normalise(&case.contents, &case.names, page),
+            check_box: |given| {
+                let GivenBox { family, admin, roll, debug_names, flag_names, settings } = given;
+                $module::check_box(family, admin, roll, debug_names, flag_names, settings)
+            },
         }
     };
 }

@@ -1,4 +1,4 @@
-//! The reader behind the two functions of `include/ethnl.h`, so that a C program can be run over either of the two
+//! The reader behind the functions of `include/ethnl.h`, so that a C program can be run over either of the two
 //! implementations by naming another archive.
 
 use std::slice::{from_raw_parts, from_raw_parts_mut};
@@ -68,4 +68,35 @@ pub unsafe extern "C" fn ethnl_normalise(
     );
     *written = count;
     number
+}
+
+/// As `ethnl_check_box` of `include/ethnl.h`.
+///
+/// # Safety
+/// Each pointer is valid for the length after it; what is written overlaps nothing else.
+#[no_mangle]
+#[allow(clippy::too_many_arguments)]
+pub unsafe extern "C" fn ethnl_check_box(
+    family: u32,
+    admin: u32,
+    roll: *const u8,
+    roll_len: usize,
+    debug_names: *const u8,
+    debug_names_len: usize,
+    flag_names: *const u8,
+    flag_names_len: usize,
+    settings: *const u8,
+    settings_len: usize,
+    offset: *mut u64,
+) -> u32 {
+    let (part, place) = reader::check_box(
+        family,
+        admin,
+        from_raw_parts(roll, roll_len),
+        from_raw_parts(debug_names, debug_names_len),
+        from_raw_parts(flag_names, flag_names_len),
+        from_raw_parts(settings, settings_len),
+    );
+    *offset = place;
+    part
 }

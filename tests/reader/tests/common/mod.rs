@@ -144,6 +144,12 @@ impl Setup {
         self.call_at(datagram, 0)
     }
 
+    /// The part of the box that is at fault, and where.
+    pub fn check(&self) -> (u32, u64) {
+        let Setup { family, admin, roll, debug_names, flag_names, settings, .. } = self;
+        reader::check_box(*family, *admin, roll, debug_names, flag_names, settings)
+    }
+
     /// The refusal number and the bytes written.
     pub fn refusal(&mut self, datagram: &[u8]) -> (u32, Vec<u8>) {
         let before = self.settings.clone();
