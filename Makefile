@@ -1,5 +1,5 @@
-# make example: the library's job on a ready example. make test: every test. make bent: bends that a theorem refuses. make install PREFIX=..: header,
-# archive, pkg-config file.
+# make example: the library's job on a ready example. make test: every test. make bent: bends that a theorem refuses. make install PREFIX=..: see
+# install.mk.
 .PHONY: example test bent
 
 example:

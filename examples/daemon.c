@@ -85,10 +85,12 @@ static int is_right(const struct ethnl_box *lent, const char *path)
 {
     struct ethnl_fault fault = ethnl_box_check(lent);
 
-    if (fault.part != ETHNL_PART_NONE)
-        fprintf(stderr, "daemon: %s: %s It is right up to byte %lu.\n", path, ethnl_strpart(fault.part),
-                (unsigned long)fault.offset);
-    return fault.part == ETHNL_PART_NONE;
+    if (fault.part == ETHNL_PART_NONE)
+        return 1;
+    fprintf(stderr, "daemon: %s: %s\n", path, ethnl_strpart(fault.part));
+    if (fault.part >= ETHNL_PART_ROLL)
+        fprintf(stderr, "daemon: the fault begins at byte %lu of it\n", (unsigned long)fault.offset);
+    return 0;
 }
 
 int main(int argc, char **argv)

@@ -33,7 +33,8 @@
  *                      flag_names, flag_names_len, settings, settings_len,
  *                      datagram, datagram_len, position, page, page_len,
  *                      &kind, &refusal, &next, &written);
- *         if (kind == ETHNL_END || (kind == ETHNL_REFUSED && refusal <= ETHNL_LAST_SILENT))
+ *         if (kind == ETHNL_END ||
+ *             (kind == ETHNL_REFUSED && refusal <= ETHNL_LAST_SILENT))
  *             break;
  *         send_messages(page, written);
  *     }
@@ -75,6 +76,7 @@ extern "C" {
 #define ETHNL_PORT_NAME_LEN 16   /* a port's name with its NULs */
 #define ETHNL_NAME_LEN 32        /* one entry of a name list */
 #define ETHNL_STACK_MAX 32768    /* the most stack that a call needs */
+#define ETHNL_SET_LEN(bits) (4 * (((size_t)(bits) + 31) / 32)) /* bytes of one port's set of N bits: W words, N/32 rounded up */
 
 /* Other limits of a box. */
 #define ETHNL_FAMILY_MIN 16
@@ -83,9 +85,6 @@ extern "C" {
 #define ETHNL_INDEX_MAX 2147483647
 #define ETHNL_BITS_MAX 512
 #define ETHNL_ROLL_PORT 1 /* kind byte of a port's record */
-
-/* Bytes of one port's set of N bits: W words, N/32 rounded up. */
-#define ETHNL_SET_LEN(bits) (4 * (((size_t)(bits) + 31) / 32))
 
 /* Kinds of an answer. */
 #define ETHNL_END 0     /* the position is the datagram's end */
@@ -124,11 +123,11 @@ extern "C" {
 #define ETHNL_LAST_SILENT 4             /* the last refusal that writes nothing */
 #define ETHNL_LAST_REFUSAL 22
 
-/* Attributes of an error message that linux/netlink.h has from Linux 6.1 on only (NLMSGERR_ATTR_MISS_). */
+/* Attributes of an error message. linux/netlink.h has them from Linux 6.1 on only (NLMSGERR_ATTR_MISS_). */
 #define ETHNL_MISS_TYPE 5 /* u32: the type of the attribute that is missing */
 #define ETHNL_MISS_NEST 6 /* u32: the offset of the nest that lacks it; absent where the top level does */
 
-/* Parts of a box, as ethnl_check_box tells them. */
+/* Parts of a box. ethnl_check_box returns one of them. */
 #define ETHNL_PART_NONE 0        /* no call with this box is refused by 1 */
 #define ETHNL_PART_FAMILY 1      /* family is not 16 to 65535 */
 #define ETHNL_PART_ADMIN 2       /* admin is not 0 or 1 */
