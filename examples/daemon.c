@@ -2,8 +2,8 @@
  * daemon BOXFILE: serves ethtool requests for the ports of a box.
  *
  * Standard input is a run of datagrams, each after its length as a 32-bit little-endian number. Standard output
- * gets the answers likewise, one for each message that is answered with any byte. Settings live as long as the
- * program does. Standard error tells of every refusal, by its number in ethnl.h and a sentence.
+ * gets the messages that answer them likewise; a reply and its ACK are two. Settings live as long as the program
+ * does. Standard error tells of every refusal, by its number in ethnl.h and a sentence.
  *
  *     cc -o daemon daemon.c box.c $(pkg-config --cflags --libs ethnl)
  */
@@ -15,6 +15,11 @@
 static struct box box;
 static uint8_t datagram[ETHNL_DATAGRAM_MAX];
 static uint8_t page[ETHNL_PAGE_MIN];
+
+static uint32_t number_at(const uint8_t *bytes)
+{
+    return (uint32_t)bytes[3] << 24 | (uint32_t)bytes[2] << 16 | (uint32_t)bytes[1] << 8 | bytes[0];
+}
 
 /* Reads the next datagram's length; 0 at the end of the input. */
 static int read_length(uint32_t *length)
@@ -28,7 +33,7 @@ static int read_length(uint32_t *length)
         fputs("daemon: input ends inside a length\n", stderr);
         exit(1);
     }
-    *length = (uint32_t)bytes[3] << 24 | (uint32_t)bytes[2] << 16 | (uint32_t)bytes[1] << 8 | bytes[0];
+    *length = number_at(bytes);
     return 1;
 }
 
@@ -44,16 +49,18 @@ static void read_datagram(uint32_t length)
     }
 }
 
-static void write_answer(uint64_t written)
+/* Writes the messages of the page. Each begins with its length, which stands before it too. */
+static void write_messages(uint64_t written)
 {
-    uint8_t length[4];
-    int byte;
+    uint64_t at;
+    uint32_t length;
 
-    for (byte = 0; byte < 4; byte++)
-        length[byte] = (uint8_t)(written >> 8 * byte);
-    if (fwrite(length, 1, 4, stdout) < 4 || fwrite(page, 1, written, stdout) < written) {
-        perror("daemon: standard output");
-        exit(1);
+    for (at = 0; at < written; at += length) {
+        length = number_at(page + at);
+        if (fwrite(page + at, 1, 4, stdout) < 4 || fwrite(page + at, 1, length, stdout) < length) {
+            perror("daemon: standard output");
+            exit(1);
+        }
     }
 }
 
@@ -75,8 +82,7 @@ static void serve(const struct ethnl_box *lent, uint32_t length)
             tell_refusal(answer.refusal, position);
         if (answer.kind == ETHNL_END || (answer.kind == ETHNL_REFUSED && answer.refusal <= ETHNL_LAST_SILENT))
             return;
-        if (answer.written > 0)
-            write_answer(answer.written);
+        write_messages(answer.written);
     }
 }
 

@@ -107,7 +107,7 @@ extern "C" {
 #define ETHNL_REFUSAL_COMMAND 7         /* EOPNOTSUPP: command isn't one of the four */
 #define ETHNL_REFUSAL_DUMP 8            /* EOPNOTSUPP: a dump, both DUMP flags */
 #define ETHNL_REFUSAL_ADMIN 9           /* EPERM: a SET, and the sender isn't admin */
-#define ETHNL_REFUSAL_ATTRIBUTE_LEN 10  /* EINVAL: attribute length below 4 or more than is left, or only 1 to 3 bytes left; OFFS there */
+#define ETHNL_REFUSAL_ATTRIBUTE_LEN 10  /* EINVAL: attribute length below 4 or more than is left, or 1 to 3 bytes left; OFFS there */
 #define ETHNL_REFUSAL_ATTRIBUTE_TYPE 11 /* EINVAL: attribute type not listed here; OFFS attribute */
 #define ETHNL_REFUSAL_PAYLOAD 12        /* EINVAL: attribute's payload or type bits wrong; OFFS attribute */
 #define ETHNL_REFUSAL_MISSING 13        /* EINVAL: required attribute absent; ETHNL_MISS_TYPE, ETHNL_MISS_NEST */

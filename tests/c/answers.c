@@ -103,11 +103,31 @@ static void acknowledged_set(void)
     check(answer.kind == ETHNL_DONE && is_error(&request, 0, 0), "a SET that asks for it gets an ACK");
 }
 
+/* The page is a run of messages, each as long as its first four bytes say. */
+static void reply_and_ack(void)
+{
+    struct message request;
+    uint32_t reply_length, ack_length;
+
+    fresh_box();
+    begin_request(&request, DEBUG_GET, REQUEST | ACK, 3, 0);
+    end_request(&request);
+    handle(&request);
+    memcpy(&reply_length, page, 4);
+    memcpy(&ack_length, page + reply_length, 4);
+    check(answer.written == reply_length + ack_length && reply_length % 4 == 0 && ack_length == 36,
+          "a GET that asks for it gets a reply, then an ACK");
+    memmove(page, page + reply_length, ack_length);
+    answer.written -= reply_length;
+    check(is_error(&request, 0, 0), "the ACK begins where the reply ends");
+}
+
 int main(void)
 {
     whole_reply();
     refusals_that_write_nothing();
     refusals_with_a_message();
     acknowledged_set();
+    reply_and_ack();
     return checked();
 }

@@ -5,3 +5,5 @@ build answers "$here/answers.c" "$lib"
 add "whole reply, ACK, refusals" answers
 build stack -pthread "$here/stack.c" "$lib"
 add "stack of the largest box" stack
+build threads -pthread "$here/threads.c" "$lib"
+add "threads that call at once" threads
