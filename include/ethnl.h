@@ -121,7 +121,6 @@ extern "C" {
 #define ETHNL_REFUSAL_UNKNOWN_BIT 21    /* EOPNOTSUPP: bit name unknown; OFFS NAME */
 #define ETHNL_REFUSAL_NO_BIT 22         /* EINVAL: a BIT with neither index nor name; OFFS BIT */
 #define ETHNL_LAST_SILENT 4             /* the last refusal that writes nothing */
-#define ETHNL_LAST_REFUSAL 22
 
 /* Attributes of an error message. linux/netlink.h has them from Linux 6.1 on only (NLMSGERR_ATTR_MISS_). */
 #define ETHNL_MISS_TYPE 5 /* u32: the type of the attribute that is missing */

@@ -119,7 +119,7 @@ ETHNL_INLINE const char *ethnl_strerror(uint32_t refusal)
         "A bit has neither index nor name.",
     };
 
-    return refusal <= ETHNL_LAST_REFUSAL ? sentences[refusal] : "The number is not that of a refusal.";
+    return refusal < sizeof sentences / sizeof *sentences ? sentences[refusal] : "The number is not that of a refusal.";
 }
 
 /* A sentence for a part of ethnl_check_box; for every other number too. */
@@ -135,7 +135,7 @@ ETHNL_INLINE const char *ethnl_strpart(uint32_t part)
         "The settings have a wrong length, or a bit past the end of its set.",
     };
 
-    return part <= ETHNL_PART_SETTINGS ? sentences[part] : "The number is not that of a part.";
+    return part < sizeof sentences / sizeof *sentences ? sentences[part] : "The number is not that of a part.";
 }
 
 #endif

@@ -23,3 +23,4 @@ check "daemon tells where its input ends too early" $?
 build same "$root/examples/same.c" "$lib"
 "$out/same" >"$out/same.txt"
 check "the example's two requests have one normal form" $?
+check_same "  which is neither of them" "$(sed -n 's/.*(\(.*\) bytes)/\1/p' "$out/same.txt" | tr '\n' ' ')" "32 24 68 24 "

@@ -2,10 +2,11 @@
 stage=$out/stage
 far=/opt/ethnl-test
 
-# installs WORDS..: make, with the archive under test; no file of the caller's PREFIX or the like.
+unset PREFIX LIBDIR INCLUDEDIR DATADIR MANDIR DOCDIR DESTDIR MAKEFLAGS
+
+# installs WORDS..: make, with the archive under test.
 installs() {
-    (cd "$root" && env -u PREFIX -u LIBDIR -u INCLUDEDIR -u DATADIR -u MANDIR -u DOCDIR -u DESTDIR \
-        make -s -f install.mk ETHNL_LIB="$lib" "$@")
+    (cd "$root" && make -s -f install.mk ETHNL_LIB="$lib" "$@")
 }
 
 # files DIRECTORY: what stands below it.

@@ -1,6 +1,6 @@
 # The Debian package: of the header's version, and complete enough to build an example with it.
 check_same "the changelog has the header's version" "$(sed -n '1s/^ethnl (\(.*\)) .*/\1/p' "$root/debian/changelog")" "$version"
-if command -v dpkg-buildpackage >/dev/null && command -v dh >/dev/null; then
+if dpkg-checkbuilddeps "$root/debian/control" 2>/dev/null; then
     rm -rf "$out/package"
     mkdir -p "$out/package/ethnl"
     cp -r "$root/debian" "$root/include" "$root/examples" "$root/install.mk" "$root/LICENSE" "$root/crates.txt" \
@@ -14,5 +14,5 @@ if command -v dpkg-buildpackage >/dev/null && command -v dh >/dev/null; then
     check "what is in it builds the example" $?
     serves daemon-packaged
 else
-    skip "no debhelper to make the package with"
+    skip "no dpkg-buildpackage and debhelper to make the package with"
 fi

@@ -59,6 +59,5 @@ int main(void)
 {
     rows(refusals, sizeof refusals / sizeof *refusals, ethnl_strerror);
     rows(parts, sizeof parts / sizeof *parts, ethnl_strpart);
-    check(ETHNL_LAST_REFUSAL == sizeof refusals / sizeof *refusals - 1, "the last refusal is the table's last");
     return checked();
 }
