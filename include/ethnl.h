@@ -14,7 +14,8 @@
  * Threads. Several may call at once, also on the same roll and name lists, as long as none uses a buffer that
  * another's call writes: settings, page and results.
  *
- * Stack. A call needs at most ETHNL_STACK_MAX bytes of it.
+ * Stack. A call needs at most ETHNL_STACK_MAX bytes of it: about twice what was measured on the largest box. This is
+ * tested, not proved.
  *
  * Names. The kernel's headers have those of the message header, its flags and the error message
  * (linux/netlink.h), of the generic header (linux/genetlink.h), and of commands, attributes and header flags
