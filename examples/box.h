@@ -2,7 +2,7 @@
 #ifndef BOX_H
 #define BOX_H
 
-#include "ethnl.h"
+#include "ethnl_box.h"
 
 struct box {
     uint32_t family, admin;
@@ -13,16 +13,17 @@ struct box {
     size_t roll_len, debug_names_len, flag_names_len, settings_len;
 };
 
-struct answer {
-    uint32_t kind, refusal;
-    uint64_t next, written;
-};
-
-/* Reads the file; returns 0, or -1 after telling on standard error what is wrong. */
+/*
+ * Reads the file; returns 0, or -1 after telling on standard error what is wrong. Each line is judged by itself: what
+ * several lines make together, as two ports of one name, is for ethnl_box_check to tell.
+ */
 int box_read(struct box *box, const char *path);
 
+/* The box as the library takes it: its buffers, lent. */
+struct ethnl_box box_lent(struct box *box);
+
 /* Answers the message at a position of the datagram, into a page of ETHNL_PAGE_MIN bytes. */
-struct answer box_handle(struct box *box, const uint8_t *datagram, size_t length, uint64_t position,
-                         uint8_t *page);
+struct ethnl_answer box_handle(struct box *box, const uint8_t *datagram, size_t length, uint64_t position,
+                               uint8_t *page);
 
 #endif

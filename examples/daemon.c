@@ -2,10 +2,10 @@
  * daemon BOXFILE: serves ethtool requests for the ports of a box.
  *
  * Standard input is a run of datagrams, each after its length as a 32-bit little-endian number. Standard output
- * gets the answers likewise, one for each message that is answered with any byte. Settings live as long as the
- * program does. Standard error tells of every refusal, by its number in ethnl.h.
+ * gets the messages that answer them likewise; a reply and its ACK are two. Settings live as long as the program
+ * does. Standard error tells of every refusal, by its number in ethnl.h and a sentence.
  *
- *     cc -std=c11 -o daemon daemon.c box.c $(pkg-config --cflags --libs ethnl)
+ *     cc -o daemon daemon.c box.c $(pkg-config --cflags --libs ethnl)
  */
 #include "box.h"
 
@@ -15,6 +15,11 @@
 static struct box box;
 static uint8_t datagram[ETHNL_DATAGRAM_MAX];
 static uint8_t page[ETHNL_PAGE_MIN];
+
+static uint32_t number_at(const uint8_t *bytes)
+{
+    return (uint32_t)bytes[3] << 24 | (uint32_t)bytes[2] << 16 | (uint32_t)bytes[1] << 8 | bytes[0];
+}
 
 /* Reads the next datagram's length; 0 at the end of the input. */
 static int read_length(uint32_t *length)
@@ -28,7 +33,7 @@ static int read_length(uint32_t *length)
         fputs("daemon: input ends inside a length\n", stderr);
         exit(1);
     }
-    *length = (uint32_t)bytes[3] << 24 | (uint32_t)bytes[2] << 16 | (uint32_t)bytes[1] << 8 | bytes[0];
+    *length = number_at(bytes);
     return 1;
 }
 
@@ -44,36 +49,59 @@ static void read_datagram(uint32_t length)
     }
 }
 
-static void write_answer(uint64_t written)
+/* Writes the messages of the page. Each begins with its length, which stands before it too. */
+static void write_messages(uint64_t written)
 {
-    uint8_t length[4] = {(uint8_t)written, (uint8_t)(written >> 8), (uint8_t)(written >> 16),
-                         (uint8_t)(written >> 24)};
+    uint64_t at;
+    uint32_t length;
 
-    if (fwrite(length, 1, 4, stdout) < 4 || fwrite(page, 1, written, stdout) < written) {
-        perror("daemon: standard output");
-        exit(1);
+    for (at = 0; at < written; at += length) {
+        length = number_at(page + at);
+        if (fwrite(page + at, 1, 4, stdout) < 4 || fwrite(page + at, 1, length, stdout) < length) {
+            perror("daemon: standard output");
+            exit(1);
+        }
     }
 }
 
-/* Answers each message in turn, up to the end or a refusal that says nothing can follow. */
-static void serve(uint32_t length)
+static void tell_refusal(uint32_t refusal, uint64_t position)
 {
-    struct answer answer;
+    fprintf(stderr, "daemon: refusal %lu at byte %lu of the datagram: %s\n", (unsigned long)refusal,
+            (unsigned long)position, ethnl_strerror(refusal));
+}
 
-    for (uint64_t position = 0;; position = answer.next) {
-        answer = box_handle(&box, datagram, length, position, page);
+/* Answers each message in turn, up to the end or a refusal that says nothing can follow. */
+static void serve(const struct ethnl_box *lent, uint32_t length)
+{
+    struct ethnl_answer answer;
+    uint64_t position;
+
+    for (position = 0;; position = answer.next) {
+        answer = ethnl_box_handle(lent, datagram, length, position, page, sizeof page);
         if (answer.kind == ETHNL_REFUSED)
-            fprintf(stderr, "daemon: refusal %u at byte %llu of the datagram\n", answer.refusal,
-                    (unsigned long long)position);
+            tell_refusal(answer.refusal, position);
         if (answer.kind == ETHNL_END || (answer.kind == ETHNL_REFUSED && answer.refusal <= ETHNL_LAST_SILENT))
             return;
-        if (answer.written > 0)
-            write_answer(answer.written);
+        write_messages(answer.written);
     }
+}
+
+/* Whether the box keeps every rule; tells which part does not, and where. */
+static int is_right(const struct ethnl_box *lent, const char *path)
+{
+    struct ethnl_fault fault = ethnl_box_check(lent);
+
+    if (fault.part == ETHNL_PART_NONE)
+        return 1;
+    fprintf(stderr, "daemon: %s: %s\n", path, ethnl_strpart(fault.part));
+    if (fault.part >= ETHNL_PART_ROLL)
+        fprintf(stderr, "daemon: the fault begins at byte %lu of it\n", (unsigned long)fault.offset);
+    return 0;
 }
 
 int main(int argc, char **argv)
 {
+    struct ethnl_box lent;
     uint32_t length;
 
     if (argc != 2) {
@@ -82,14 +110,12 @@ int main(int argc, char **argv)
     }
     if (box_read(&box, argv[1]) != 0)
         return 1;
-    /* An empty datagram is answered by its end, unless the box breaks a rule. */
-    if (box_handle(&box, datagram, 0, 0, page).kind != ETHNL_END) {
-        fprintf(stderr, "daemon: %s breaks a rule of ethnl.h\n", argv[1]);
+    lent = box_lent(&box);
+    if (!is_right(&lent, argv[1]))
         return 1;
-    }
     while (read_length(&length)) {
         read_datagram(length);
-        serve(length);
+        serve(&lent, length);
         fflush(stdout);
     }
     return 0;

@@ -3,12 +3,27 @@
  *
  * Four commands are served: DEBUG_GET (7), DEBUG_SET (8), PRIVFLAGS_GET (13), PRIVFLAGS_SET (14).
  * The library opens nothing, allocates nothing and keeps nothing between calls: all state is lent by
- * the caller. Every input has an answer; nothing needs to be checked before a call.
+ * the caller. Every input has an answer; nothing needs to be checked before a call. ethnl_box.h has the same
+ * functions over one struct instead of a row of buffers, and a sentence for each refusal.
  *
  * Pointers. Each is followed by its length in bytes and must be valid for that many bytes. It must not be
  * null, not even where the length is 0. Buffers that are written (settings, page, results) must not overlap
  * any other buffer of the call; those that are only read may overlap each other. No alignment is needed.
  * All numbers inside buffers are little-endian.
+ *
+ * Threads. Several may call at once, also on the same roll and name lists, as long as none uses a buffer that
+ * another's call writes: settings, page and results.
+ *
+ * Stack. A call needs at most ETHNL_STACK_MAX bytes of it: about twice what was measured on the largest box. This is
+ * tested, not proved.
+ *
+ * Names. The kernel's headers have those of the message header, its flags and the error message
+ * (linux/netlink.h), of the generic header (linux/genetlink.h), and of commands, attributes and header flags
+ * (linux/ethtool_netlink.h: ETHTOOL_MSG_, ETHTOOL_A_, ETHTOOL_FLAG_).
+ *
+ * Receiving. Have a buffer of ETHNL_DATAGRAM_MAX bytes. A datagram that is longer than the buffer arrives cut,
+ * and recv with MSG_TRUNC then returns more than the buffer holds: drop it, and don't pass on what did arrive
+ * as if it were whole.
  *
  * Answering a datagram, message by message:
  *
@@ -19,9 +34,19 @@
  *                      flag_names, flag_names_len, settings, settings_len,
  *                      datagram, datagram_len, position, page, page_len,
  *                      &kind, &refusal, &next, &written);
- *         if (kind == ETHNL_END || (kind == ETHNL_REFUSED && refusal <= ETHNL_LAST_SILENT))
+ *         if (kind == ETHNL_END ||
+ *             (kind == ETHNL_REFUSED && refusal <= ETHNL_LAST_SILENT))
  *             break;
- *         send_bytes(page, written);        // written may be 0: nothing is to be sent
+ *         send_messages(page, written);
+ *     }
+ *
+ * Sending. The page may hold no message, one, or two: a GET that asks for an ACK gets its reply and right behind
+ * it the ACK. Each begins with its own length as 32 bits, a multiple of 4, and goes out as a datagram of its own,
+ * as the kernel sends them:
+ *
+ *     for (at = 0; at < written; at += length) {
+ *         memcpy(&length, page + at, 4);
+ *         send(socket, page + at, length, 0);
  *     }
  */
 #ifndef ETHNL_H
@@ -34,6 +59,16 @@
 extern "C" {
 #endif
 
+/* The version of this header. */
+#define ETHNL_VERSION_MAJOR 0
+#define ETHNL_VERSION_MINOR 2
+#define ETHNL_VERSION_PATCH 0
+#define ETHNL_VERSION (10000 * ETHNL_VERSION_MAJOR + 100 * ETHNL_VERSION_MINOR + ETHNL_VERSION_PATCH) /* a number for #if */
+#define ETHNL_VERSION_STRING ETHNL_DOTTED(ETHNL_VERSION_MAJOR, ETHNL_VERSION_MINOR, ETHNL_VERSION_PATCH) /* major.minor.patch */
+#define ETHNL_DOTTED(major, minor, patch) ETHNL_DOTTED_TEXT(major, minor, patch)
+#define ETHNL_DOTTED_TEXT(major, minor, patch) #major "." #minor "." #patch
+#define ETHNL_LEVEL 0 /* the number of the highest later request in the library; 0: none */
+
 /* Sizes in bytes. */
 #define ETHNL_PAGE_MIN 32768     /* shortest answer page of ethnl_handle */
 #define ETHNL_DATAGRAM_MAX 32768 /* longest datagram, and longest contents of ethnl_normalise */
@@ -41,6 +76,8 @@ extern "C" {
 #define ETHNL_ROLL_RECORD 21     /* one port of the roll: kind 1, index (4), name (16) */
 #define ETHNL_PORT_NAME_LEN 16   /* a port's name with its NULs */
 #define ETHNL_NAME_LEN 32        /* one entry of a name list */
+#define ETHNL_STACK_MAX 32768    /* the most stack that a call needs */
+#define ETHNL_SET_LEN(bits) (4 * (((size_t)(bits) + 31) / 32)) /* bytes of one port's set of N bits: W words, N/32 rounded up */
 
 /* Other limits of a box. */
 #define ETHNL_FAMILY_MIN 16
@@ -50,49 +87,54 @@ extern "C" {
 #define ETHNL_BITS_MAX 512
 #define ETHNL_ROLL_PORT 1 /* kind byte of a port's record */
 
-/* Bytes of one port's set of N bits: W words, N/32 rounded up. */
-#define ETHNL_SET_LEN(bits) (4 * (((size_t)(bits) + 31) / 32))
-
 /* Kinds of an answer. */
 #define ETHNL_END 0     /* the position is the datagram's end */
 #define ETHNL_SKIPPED 1 /* message type below 16, or not a request: nothing written */
 #define ETHNL_DONE 2    /* served: a reply, an ACK, both, or nothing was written */
 #define ETHNL_REFUSED 3 /* see the refusal number */
 
-/* Refusals 1 to 4 write nothing and stay at the position; 5 to 22 write one error message. */
-#define ETHNL_LAST_SILENT 4
-
 /*
- * Refusal numbers. The errno stands in the error message as a negative number; after the quoted request
- * header there may be a detail: OFFS (attribute 2), where in the request the fault stands, or MISS_TYPE (5)
- * and perhaps MISS_NEST (6), what is missing and in which nest.
- *
- *   no. errno       meaning                                             detail
- *    1  -           the box breaks a rule (see ethnl_handle)            -
- *    2  -           page too short                                      -
- *    3  -           datagram too long, position past its end,           -
- *                   or 1 to 15 bytes left
- *    4  -           message length below 16 or more than is left        -
- *    5  ENOENT      message type isn't the family                       none
- *    6  EINVAL      message length 16 to 19                             none
- *    7  EOPNOTSUPP  command isn't one of the four                       none
- *    8  EOPNOTSUPP  a dump: both DUMP flags                             none
- *    9  EPERM       a SET, and the sender isn't admin                   none
- *   10  EINVAL      1 to 3 bytes left in a parent, attribute length     OFFS there
- *                   below 4 or more than is left
- *   11  EINVAL      attribute type not listed here                      OFFS attribute
- *   12  EINVAL      attribute's payload or type bits wrong              OFFS attribute
- *   13  EINVAL      required attribute absent                           MISS
- *   14  EINVAL      neither index nor name of a port                    OFFS header nest
- *   15  EOPNOTSUPP  header flag other than 1 (compact), 2 (omit reply)  OFFS flags
- *   16  ENODEV      no such port                                        OFFS index or name
- *   17  ENODEV      index found, but its port has another name          OFFS header nest
- *   18  EINVAL      bitmap and bit list mixed, or NOMASK with MASK      OFFS VALUE or MASK
- *   19  EINVAL      bitmap too short for SIZE                           OFFS VALUE or MASK
- *   20  EOPNOTSUPP  bit number at or past N                             OFFS INDEX, VALUE or MASK
- *   21  EOPNOTSUPP  bit name unknown                                    OFFS NAME
- *   22  EINVAL      a BIT with neither index nor name                   OFFS BIT
+ * Refusals. The first four write nothing and hand back the position given; the others write one error message.
+ * The errno stands in it as a negative number. Behind the request's header, which it quotes, there may be a
+ * detail: OFFS (NLMSGERR_ATTR_OFFS), where in the request the fault stands, or ETHNL_MISS_TYPE and perhaps
+ * ETHNL_MISS_NEST, what is missing and in which nest.
  */
+#define ETHNL_REFUSAL_BOX 1             /* the box or a list breaks a rule; ethnl_check_box tells where */
+#define ETHNL_REFUSAL_PAGE 2            /* page too short */
+#define ETHNL_REFUSAL_DATAGRAM 3        /* datagram or contents too long, position past its end, or 1 to 15 bytes left */
+#define ETHNL_REFUSAL_MESSAGE_LEN 4     /* message length below 16 or more than is left */
+#define ETHNL_REFUSAL_FAMILY 5          /* ENOENT: message type isn't the family */
+#define ETHNL_REFUSAL_GENERIC_HEADER 6  /* EINVAL: message length 16 to 19 */
+#define ETHNL_REFUSAL_COMMAND 7         /* EOPNOTSUPP: command isn't one of the four */
+#define ETHNL_REFUSAL_DUMP 8            /* EOPNOTSUPP: a dump, both DUMP flags */
+#define ETHNL_REFUSAL_ADMIN 9           /* EPERM: a SET, and the sender isn't admin */
+#define ETHNL_REFUSAL_ATTRIBUTE_LEN 10  /* EINVAL: attribute length below 4 or more than is left, or 1 to 3 bytes left; OFFS there */
+#define ETHNL_REFUSAL_ATTRIBUTE_TYPE 11 /* EINVAL: attribute type not listed here; OFFS attribute */
+#define ETHNL_REFUSAL_PAYLOAD 12        /* EINVAL: attribute's payload or type bits wrong; OFFS attribute */
+#define ETHNL_REFUSAL_MISSING 13        /* EINVAL: required attribute absent; ETHNL_MISS_TYPE, ETHNL_MISS_NEST */
+#define ETHNL_REFUSAL_NO_PORT 14        /* EINVAL: neither index nor name of a port; OFFS header nest */
+#define ETHNL_REFUSAL_HEADER_FLAGS 15   /* EOPNOTSUPP: header flag other than 1 (compact), 2 (omit reply); OFFS flags */
+#define ETHNL_REFUSAL_UNKNOWN_PORT 16   /* ENODEV: no such port; OFFS index or name */
+#define ETHNL_REFUSAL_OTHER_PORT 17     /* ENODEV: index found, but its port has another name; OFFS header nest */
+#define ETHNL_REFUSAL_FORMS_MIXED 18    /* EINVAL: bitmap and bit list mixed, or NOMASK with MASK; OFFS VALUE or MASK */
+#define ETHNL_REFUSAL_BITMAP_LEN 19     /* EINVAL: bitmap too short for SIZE; OFFS VALUE or MASK */
+#define ETHNL_REFUSAL_BIT_PAST_END 20   /* EOPNOTSUPP: bit number at or past N; OFFS INDEX, VALUE or MASK */
+#define ETHNL_REFUSAL_UNKNOWN_BIT 21    /* EOPNOTSUPP: bit name unknown; OFFS NAME */
+#define ETHNL_REFUSAL_NO_BIT 22         /* EINVAL: a BIT with neither index nor name; OFFS BIT */
+#define ETHNL_LAST_SILENT 4             /* the last refusal that writes nothing */
+
+/* Attributes of an error message. linux/netlink.h has them from Linux 6.1 on only (NLMSGERR_ATTR_MISS_). */
+#define ETHNL_MISS_TYPE 5 /* u32: the type of the attribute that is missing */
+#define ETHNL_MISS_NEST 6 /* u32: the offset of the nest that lacks it; absent where the top level does */
+
+/* Parts of a box. ethnl_check_box returns one of them. */
+#define ETHNL_PART_NONE 0        /* no call with this box is refused by 1 */
+#define ETHNL_PART_FAMILY 1      /* family is not 16 to 65535 */
+#define ETHNL_PART_ADMIN 2       /* admin is not 0 or 1 */
+#define ETHNL_PART_ROLL 3        /* the roll */
+#define ETHNL_PART_DEBUG_NAMES 4 /* the list of debug names */
+#define ETHNL_PART_FLAG_NAMES 5  /* the list of flag names */
+#define ETHNL_PART_SETTINGS 6    /* the settings */
 
 /*
  * Answers the one message at a position of a datagram.
@@ -118,9 +160,9 @@ extern "C" {
  * The answer:
  *   page         at least ETHNL_PAGE_MIN bytes; the answer goes to its start, bytes past `written` stay
  *   kind         ETHNL_END, ETHNL_SKIPPED, ETHNL_DONE or ETHNL_REFUSED
- *   refusal      0, or a number of the table above where kind is ETHNL_REFUSED
+ *   refusal      0, or the number of the refusal where kind is ETHNL_REFUSED
  *   next         the position of the next message; for ETHNL_END and the refusals 1 to 4 the one given
- *   written      bytes written to the page
+ *   written      bytes written to the page: the lengths of its messages together
  */
 void ethnl_handle(uint32_t family, uint32_t admin,
                   const uint8_t *roll, size_t roll_len,
@@ -141,12 +183,43 @@ void ethnl_handle(uint32_t family, uint32_t admin,
  *   page         at least ETHNL_FORM_MAX bytes; the form goes to its start, bytes past `written` stay
  *   written      bytes of the form, 16 + 2 * ETHNL_SET_LEN(N); 0 if refused
  *
- * The form is the contents of a compact bitset: SIZE N, VALUE, MASK. Returns 0 if accepted, else a number of the
- * table: 1 (names), 2 (page), 3 (contents too long), 10 to 13, 18 to 22.
+ * The form is the contents of a compact bitset: SIZE N, VALUE, MASK. Returns 0 if accepted, else the number of a
+ * refusal: 1 (names), 2 (page), 3 (contents too long), 10 to 13, 18 to 22.
  */
 uint32_t ethnl_normalise(const uint8_t *contents, size_t contents_len,
                          const uint8_t *names, size_t names_len,
                          uint8_t *page, size_t page_len, uint64_t *written);
+
+/*
+ * Tells which part of a box breaks a rule (those by which ethnl_handle refuses by 1), and where. Returns the first
+ * part at fault, in the order of the ETHNL_PART_ numbers, or ETHNL_PART_NONE.
+ *
+ *   roll         offset: where its longest right beginning ends, the start of the first record at fault; 0 where no
+ *                beginning is right
+ *   debug_names  offset: where the list's longest right beginning ends, the start of the first entry at fault; 0
+ *                where no beginning is right
+ *   flag_names   likewise
+ *   settings     see below
+ *   offset       set to the offset in the part at fault; 0 for family and admin, and for a box without a fault
+ *
+ * A beginning of a roll or list is its first n bytes; it is right if it would keep the rule of a roll (list) by
+ * itself. So the offset is the start of: a record of unknown kind, a record cut short, one whose index or name is
+ * bad, one that repeats the index or the name of a port before it, the 65th; in a list an entry cut short, one that
+ * is not a name and then NULs, one that repeats the name of an entry before it, the 513th. An empty roll or list: 0.
+ *
+ * Settings are judged only where roll and both lists are right, so their right length is known: 4 bytes for each
+ * word of all ports' sets. If their length is another: the offset is the smaller of the two lengths (where they end,
+ * or where they should). Else it is where the longest beginning of whole words ends that, with zeros behind it up to
+ * the right length, is right: the start of the first word that holds a bit at or past N of its set.
+ *
+ * The settings are only read; nothing but `*offset` is written.
+ */
+uint32_t ethnl_check_box(uint32_t family, uint32_t admin,
+                         const uint8_t *roll, size_t roll_len,
+                         const uint8_t *debug_names, size_t debug_names_len,
+                         const uint8_t *flag_names, size_t flag_names_len,
+                         const uint8_t *settings, size_t settings_len,
+                         uint64_t *offset);
 
 #ifdef __cplusplus
 }

@@ -14,11 +14,12 @@ static void whole_reply(void)
     begin_request(&request, PRIVFLAGS_GET, REQUEST, 3, 1);
     end_request(&request);
     handle(&request);
-    check(kind == ETHNL_DONE && refusal == 0 && written == sizeof reply, "whole reply: done, 68 bytes");
+    check(answer.kind == ETHNL_DONE && answer.refusal == 0 && answer.written == sizeof reply,
+          "whole reply: done, 68 bytes");
     check(memcmp(page, reply, sizeof reply) == 0, "whole reply: the stated bytes");
     check(page[sizeof reply] == 0xAA && page[sizeof page - 1] == 0xAA, "whole reply: the page past it stays");
-    handle_at(request.bytes, request.length, next, 1, sizeof page);
-    check(kind == ETHNL_END && written == 0 && next == request.length, "then the end");
+    handle_at(request.bytes, request.length, answer.next, 1, sizeof page);
+    check(answer.kind == ETHNL_END && answer.written == 0 && answer.next == request.length, "then the end");
 }
 
 /* An ACK or error message: errno, the quoted header, an OFFS detail or none. */
@@ -34,7 +35,14 @@ static int is_error(const struct message *request, int32_t errno_value, uint32_t
     put(&error, request->bytes, 16);
     if (offset != 0)
         number(&error, 2, offset);
-    return written == error.length && memcmp(page, error.bytes, error.length) == 0;
+    return answer.written == error.length && memcmp(page, error.bytes, error.length) == 0;
+}
+
+/* Whether the call was refused by this number, stayed at its position and wrote nothing. */
+static int is_silent(uint32_t refusal, uint64_t position)
+{
+    return answer.kind == ETHNL_REFUSED && answer.refusal == refusal && answer.next == position &&
+           answer.written == 0 && page[0] == 0xAA;
 }
 
 static void refusals_that_write_nothing(void)
@@ -45,16 +53,17 @@ static void refusals_that_write_nothing(void)
     begin_request(&request, PRIVFLAGS_GET, REQUEST | ACK, 3, 0);
     end_request(&request);
     handle_at(request.bytes, request.length, 0, 2, sizeof page);
-    check(kind == ETHNL_REFUSED && refusal == 1 && written == 0 && next == 0, "refusal 1: admin 2");
+    check(is_silent(ETHNL_REFUSAL_BOX, 0), "refusal 1: admin 2");
     handle_at(request.bytes, request.length, 0, 1, sizeof page - 1);
-    check(kind == ETHNL_REFUSED && refusal == 2 && written == 0, "refusal 2: page of 32,767 bytes");
+    check(is_silent(ETHNL_REFUSAL_PAGE, 0), "refusal 2: page of 32,767 bytes");
     handle_at(request.bytes, request.length, request.length - 4, 1, sizeof page);
-    check(kind == ETHNL_REFUSED && refusal == 3 && next == request.length - 4, "refusal 3: 4 bytes left");
+    check(is_silent(ETHNL_REFUSAL_DATAGRAM, request.length - 4), "refusal 3: 4 bytes left");
     handle_at(request.bytes, request.length - 1, 0, 1, sizeof page);
-    check(kind == ETHNL_REFUSED && refusal == 4 && written == 0, "refusal 4: message longer than the datagram");
+    check(is_silent(ETHNL_REFUSAL_MESSAGE_LEN, 0), "refusal 4: message longer than the datagram");
     request.bytes[6] = 0;
     handle(&request);
-    check(kind == ETHNL_SKIPPED && refusal == 0 && written == 0 && next == request.length, "skipped: not a request");
+    check(answer.kind == ETHNL_SKIPPED && answer.refusal == 0 && answer.written == 0 && answer.next == request.length,
+          "skipped: not a request");
 }
 
 static void refusals_with_a_message(void)
@@ -65,19 +74,21 @@ static void refusals_with_a_message(void)
     begin_request(&request, 1, REQUEST, 3, 0);
     end_request(&request);
     handle(&request);
-    check(refusal == 7 && is_error(&request, 95, 0), "refusal 7: EOPNOTSUPP, no detail");
+    check(answer.refusal == ETHNL_REFUSAL_COMMAND && is_error(&request, 95, 0), "refusal 7: EOPNOTSUPP, no detail");
     begin_request(&request, PRIVFLAGS_SET, REQUEST, 3, 0);
     end_request(&request);
     handle_at(request.bytes, request.length, 0, 0, sizeof page);
-    check(refusal == 9 && is_error(&request, 1, 0), "refusal 9: EPERM");
+    check(answer.refusal == ETHNL_REFUSAL_ADMIN && is_error(&request, 1, 0), "refusal 9: EPERM");
     begin_request(&request, DEBUG_GET, REQUEST, 4, 0);
     end_request(&request);
     handle(&request);
-    check(refusal == 16 && is_error(&request, 19, 24), "refusal 16: ENODEV, OFFS of the index");
+    check(answer.refusal == ETHNL_REFUSAL_UNKNOWN_PORT && is_error(&request, 19, 24),
+          "refusal 16: ENODEV, OFFS of the index");
     begin_request(&request, DEBUG_GET, REQUEST, 3, 4);
     end_request(&request);
     handle(&request);
-    check(refusal == 15 && is_error(&request, 95, 32), "refusal 15: EOPNOTSUPP, OFFS of the flags");
+    check(answer.refusal == ETHNL_REFUSAL_HEADER_FLAGS && is_error(&request, 95, 32),
+          "refusal 15: EOPNOTSUPP, OFFS of the flags");
 }
 
 static void acknowledged_set(void)
@@ -89,7 +100,26 @@ static void acknowledged_set(void)
     attribute(&request, BITSET | NESTED, contents.bytes, contents.length);
     end_request(&request);
     handle(&request);
-    check(kind == ETHNL_DONE && is_error(&request, 0, 0), "a SET that asks for it gets an ACK");
+    check(answer.kind == ETHNL_DONE && is_error(&request, 0, 0), "a SET that asks for it gets an ACK");
+}
+
+/* The page is a run of messages, each as long as its first four bytes say. */
+static void reply_and_ack(void)
+{
+    struct message request;
+    uint32_t reply_length, ack_length;
+
+    fresh_box();
+    begin_request(&request, DEBUG_GET, REQUEST | ACK, 3, 0);
+    end_request(&request);
+    handle(&request);
+    memcpy(&reply_length, page, 4);
+    memcpy(&ack_length, page + reply_length, 4);
+    check(answer.written == reply_length + ack_length && reply_length % 4 == 0 && ack_length == 36,
+          "a GET that asks for it gets a reply, then an ACK");
+    memmove(page, page + reply_length, ack_length);
+    answer.written -= reply_length;
+    check(is_error(&request, 0, 0), "the ACK begins where the reply ends");
 }
 
 int main(void)
@@ -98,5 +128,6 @@ int main(void)
     refusals_that_write_nothing();
     refusals_with_a_message();
     acknowledged_set();
+    reply_and_ack();
     return checked();
 }

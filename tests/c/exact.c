@@ -6,11 +6,9 @@
 #include "ethnl.h"
 #include "lend.h"
 
-#include <signal.h>
 #include <stdio.h>
 #include <stdlib.h>
 #include <string.h>
-#include <unistd.h>
 
 /* Bytes that were read from standard input. */
 struct bytes {
@@ -143,33 +141,49 @@ static void normalise_case(void)
     free(contents.at), free(names.at), free(form.at);
 }
 
-static void touched_a_guard(int signal_number)
+static void check_box_case(void)
 {
-    (void)signal_number;
-    printf("FAILED: case %lu touches a byte outside of a lent buffer\n0 passed, 1 failed\n", cases);
-    fflush(stdout);
-    _exit(1);
+    uint32_t family = read_u32(), admin = read_u32();
+    struct bytes roll = read_bytes(), debug_names = read_bytes(), flag_names = read_bytes(), settings = read_bytes();
+    uint32_t expected = read_u32();
+    uint64_t expected_offset = read_u64();
+    uint8_t *lent_roll = lend_bytes(ROLL, roll), *lent_debug = lend_bytes(DEBUG_NAMES, debug_names);
+    uint8_t *lent_flags = lend_bytes(FLAG_NAMES, flag_names), *lent_settings = lend_bytes(SETTINGS, settings);
+    uint64_t *offset = lend(OFFSET, NULL, sizeof *offset);
+    uint32_t part = ethnl_check_box(family, admin, lent_roll, roll.length, lent_debug, debug_names.length, lent_flags,
+                                    flag_names.length, lent_settings, settings.length, offset);
+
+    judge(part == expected && *offset == expected_offset && same(lent_roll, roll) && same(lent_debug, debug_names) &&
+              same(lent_flags, flag_names) && same(lent_settings, settings),
+          "check_box");
+    free(roll.at), free(debug_names.at), free(flag_names.at), free(settings.at);
+}
+
+/* Takes up a case of the given sort; 0 if there is none such. */
+static int take_case(uint32_t sort)
+{
+    if (sort == 1)
+        handle_case();
+    else if (sort == 2)
+        normalise_case();
+    else if (sort == 3)
+        check_box_case();
+    else
+        return 0;
+    return 1;
 }
 
 int main(int argc, char **argv)
 {
-    const char *how = argc == 2 ? argv[1] : "";
+    uint32_t sort;
 
-    if (strcmp(how, "heap") == 0)
-        lend_by(HEAP);
-    else if (strcmp(how, "end") == 0)
-        lend_by(AT_END);
-    else if (strcmp(how, "start") == 0)
-        lend_by(AT_START);
-    else
+    if (argc != 2 || !lend_by(argv[1]))
         return 2;
-    if (strcmp(how, "heap") != 0)
-        signal(SIGSEGV, touched_a_guard);
-    for (uint32_t sort = read_u32(); sort != 0; sort = read_u32()) {
-        if (sort == 1)
-            handle_case();
-        else
-            normalise_case();
+    for (sort = read_u32(); take_case(sort); sort = read_u32())
+        ;
+    if (sort != 0) {
+        fprintf(stderr, "exact: no sort of case has the number %u\n", sort);
+        return 2;
     }
     printf("%lu passed, %lu failed\n", cases - failed, failed);
     return failed != 0;

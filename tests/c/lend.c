@@ -1,16 +1,27 @@
 #define _DEFAULT_SOURCE
 #include "lend.h"
 
+#include <signal.h>
 #include <stdio.h>
 #include <stdlib.h>
 #include <string.h>
 #include <sys/mman.h>
+#include <unistd.h>
 
 enum { GUARD = 4096, ROOM = 64 * GUARD };
 
-static enum lending lending;
+static enum { HEAP, AT_END, AT_START } lending;
 static uint8_t *rooms[SLOTS];
 static void *lent[SLOTS];
+static unsigned long cases;
+
+static void touched_a_guard(int signal_number)
+{
+    (void)signal_number;
+    printf("FAILED: case %lu touches a byte outside of a lent buffer\n0 passed, 1 failed\n", cases);
+    fflush(stdout);
+    _exit(1);
+}
 
 /* Room for one buffer between two pages that can't be touched. */
 static uint8_t *guarded_room(void)
@@ -24,11 +35,17 @@ static uint8_t *guarded_room(void)
     return start + GUARD;
 }
 
-void lend_by(enum lending how)
+int lend_by(const char *how)
 {
-    lending = how;
-    for (int slot = 0; how != HEAP && slot < SLOTS; slot++)
+    if (strcmp(how, "heap") == 0)
+        return 1;
+    lending = strcmp(how, "end") == 0 ? AT_END : AT_START;
+    if (lending == AT_START && strcmp(how, "start") != 0)
+        return 0;
+    for (int slot = 0; slot < SLOTS; slot++)
         rooms[slot] = guarded_room();
+    signal(SIGSEGV, touched_a_guard);
+    return 1;
 }
 
 void *lend(enum slot slot, const void *bytes, size_t length)
@@ -50,6 +67,7 @@ void *lend(enum slot slot, const void *bytes, size_t length)
 
 void take_back(void)
 {
+    cases++;
     for (int slot = 0; slot < SLOTS; slot++) {
         free(lent[slot]);
         lent[slot] = NULL;

@@ -15,8 +15,13 @@ enum { BIT = 1, BIT_INDEX = 1, BIT_NAME = 2, BIT_VALUE = 3 };
 enum { DEBUG_GET = 7, DEBUG_SET = 8, PRIVFLAGS_GET = 13, PRIVFLAGS_SET = 14 };
 enum { REQUEST = 1, ACK = 4, DUMP = 0x300 };
 
+/* A test of long messages asks for more. */
+#ifndef MESSAGE_ROOM
+#define MESSAGE_ROOM 4096
+#endif
+
 struct message {
-    uint8_t bytes[4096];
+    uint8_t bytes[MESSAGE_ROOM];
     size_t length;
 };
 

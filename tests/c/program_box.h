@@ -2,7 +2,7 @@
 #ifndef PROGRAM_BOX_H
 #define PROGRAM_BOX_H
 
-#include "ethnl.h"
+#include "ethnl_box.h"
 #include "message.h"
 
 enum { N = 40 };
@@ -14,8 +14,7 @@ static uint8_t flag_names[N * ETHNL_NAME_LEN];
 static uint32_t settings[4];
 static uint8_t page[ETHNL_PAGE_MIN];
 
-static uint32_t kind, refusal;
-static uint64_t next, written;
+static struct ethnl_answer answer;
 
 static inline void fresh_box(void)
 {
@@ -25,10 +24,11 @@ static inline void fresh_box(void)
 
 static inline void handle_at(const void *datagram, size_t length, uint64_t position, uint32_t admin, size_t page_len)
 {
+    struct ethnl_box box = {25, admin, roll, sizeof roll, debug_names, sizeof debug_names, flag_names,
+                            sizeof flag_names, (uint8_t *)settings, sizeof settings};
+
     memset(page, 0xAA, sizeof page);
-    ethnl_handle(25, admin, roll, sizeof roll, debug_names, sizeof debug_names, flag_names, sizeof flag_names,
-                 (uint8_t *)settings, sizeof settings, datagram, length, position, page, page_len, &kind,
-                 &refusal, &next, &written);
+    answer = ethnl_box_handle(&box, datagram, length, position, page, page_len);
 }
 
 static inline void handle(const struct message *message)

@@ -56,8 +56,8 @@ static void expect_set(const char *what, struct message contents, uint32_t expec
     attribute(&request, BITSET | NESTED, contents.bytes, contents.length);
     end_request(&request);
     handle(&request);
-    check(kind == (expected_refusal != 0 ? ETHNL_REFUSED : ETHNL_DONE) && refusal == expected_refusal &&
-              next == request.length && settings[0] == 0 && settings[1] == 0 && settings[2] == low &&
+    check(answer.kind == (expected_refusal != 0 ? ETHNL_REFUSED : ETHNL_DONE) && answer.refusal == expected_refusal &&
+              answer.next == request.length && settings[0] == 0 && settings[1] == 0 && settings[2] == low &&
               settings[3] == high,
           what);
 }
@@ -85,15 +85,12 @@ static void sheet(void)
 static void expect_form(const char *what, struct message contents, const uint32_t *value, const uint32_t *mask)
 {
     struct message form = compact(0, N, 2, value, mask);
-    uint8_t first[ETHNL_FORM_MAX], second[ETHNL_FORM_MAX];
-    uint64_t first_len = 0, second_len = 0;
-    uint32_t refused;
+    struct ethnl_form first = ethnl_form_of(contents.bytes, contents.length, flag_names, sizeof flag_names);
+    struct ethnl_form second = ethnl_form_of(first.bytes, first.written, flag_names, sizeof flag_names);
 
-    refused = ethnl_normalise(contents.bytes, contents.length, flag_names, sizeof flag_names, first, sizeof first,
-                              &first_len);
-    check(refused == 0 && first_len == form.length && memcmp(first, form.bytes, form.length) == 0, what);
-    refused = ethnl_normalise(first, first_len, flag_names, sizeof flag_names, second, sizeof second, &second_len);
-    check(refused == 0 && second_len == form.length && memcmp(second, first, form.length) == 0, "  its own form");
+    check(first.refusal == 0 && first.written == form.length && memcmp(first.bytes, form.bytes, form.length) == 0, what);
+    check(second.refusal == 0 && second.written == form.length && memcmp(second.bytes, form.bytes, form.length) == 0,
+          "  its own form");
 }
 
 static void normal_forms(void)

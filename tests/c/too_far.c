@@ -1,5 +1,13 @@
-/* A library that touches one byte too far, to show that `exact` tells: TOO_FAR is an offset from the datagram. */
+/*
+ * A library that touches one byte too far, to show that `exact` and `faults` tell: past the end of a buffer, or before its
+ * start (-DPAST_END=1, 0).
+ */
 #include "ethnl.h"
+
+static uint8_t too_far(const volatile uint8_t *bytes, size_t length)
+{
+    return PAST_END ? bytes[length] : bytes[-1];
+}
 
 void ethnl_handle(uint32_t family, uint32_t admin, const uint8_t *roll, size_t roll_len, const uint8_t *debug_names,
                   size_t debug_names_len, const uint8_t *flag_names, size_t flag_names_len, uint8_t *settings,
@@ -8,8 +16,8 @@ void ethnl_handle(uint32_t family, uint32_t admin, const uint8_t *roll, size_t r
 {
     (void)family, (void)admin, (void)roll, (void)roll_len, (void)debug_names, (void)debug_names_len;
     (void)flag_names, (void)flag_names_len, (void)settings, (void)settings_len, (void)page, (void)page_len;
-    (void)datagram_len, (void)position;
-    *kind = *(const volatile uint8_t *)(datagram + (TOO_FAR));
+    (void)position;
+    *kind = too_far(datagram, datagram_len);
     *refusal = 0;
     *next = *written = 0;
 }
@@ -19,5 +27,15 @@ uint32_t ethnl_normalise(const uint8_t *contents, size_t contents_len, const uin
 {
     (void)contents, (void)contents_len, (void)names, (void)names_len, (void)page, (void)page_len;
     *written = 0;
+    return 0;
+}
+
+uint32_t ethnl_check_box(uint32_t family, uint32_t admin, const uint8_t *roll, size_t roll_len, const uint8_t *debug_names,
+                         size_t debug_names_len, const uint8_t *flag_names, size_t flag_names_len,
+                         const uint8_t *settings, size_t settings_len, uint64_t *offset)
+{
+    (void)family, (void)admin, (void)debug_names, (void)debug_names_len, (void)flag_names, (void)flag_names_len;
+    (void)settings, (void)settings_len;
+    *offset = too_far(roll, roll_len);
     return 0;
 }

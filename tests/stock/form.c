@@ -77,7 +77,7 @@ static void print_set(const struct box *box, struct part message, uint32_t refus
 static void print_sets(struct box *box, struct part datagram)
 {
     static uint8_t page[ETHNL_PAGE_MIN];
-    struct answer answer;
+    struct ethnl_answer answer;
     uint32_t length;
 
     for (uint64_t position = 0;; position = answer.next) {

@@ -97,7 +97,7 @@ static void queue_answer(const void *bytes, size_t length)
 static void serve(const uint8_t *datagram, size_t length)
 {
     static uint8_t page[ETHNL_PAGE_MIN];
-    struct answer answer;
+    struct ethnl_answer answer;
 
     for (uint64_t position = 0;; position = answer.next) {
         answer = box_handle(&box, datagram, length, position, page);

@@ -1,0 +1,26 @@
+# The example daemon: its answers to a script of requests, what it tells of refusals and of its input.
+
+# serves PROGRAM
+serves() {
+    "$out/frames" pack <"$here/daemon/requests.txt" >"$out/requests"
+    "$out/$1" "$here/daemon/program.box" <"$out/requests" >"$out/frames-back" 2>"$out/errors"
+    check "$1 ends well" $?
+    check_same "$1 answers as stated" "$("$out/frames" unpack <"$out/frames-back")" "$(cat "$here/daemon/answers.txt")"
+    check_same "$1 tells its refusals" "$(cat "$out/errors")" "$(cat "$here/daemon/errors.txt")"
+}
+
+build frames "$here/frames.c"
+build daemon "$root/examples/daemon.c" "$root/examples/box.c" "$lib"
+sanitized daemon-sanitized "$root/examples/daemon.c" "$root/examples/box.c" "$lib"
+serves daemon
+serves daemon-sanitized
+
+printf '\001\200\000\000' | "$out/daemon" "$here/daemon/program.box" 2>&1 | grep -q 'datagram of 32769 bytes'
+check "daemon refuses a datagram of 32,769 bytes" $?
+printf '\024\000\000\000\024' | "$out/daemon" "$here/daemon/program.box" 2>&1 | grep -q 'inside a datagram'
+check "daemon tells where its input ends too early" $?
+
+build same "$root/examples/same.c" "$lib"
+"$out/same" >"$out/same.txt"
+check "the example's two requests have one normal form" $?
+check_same "  which is neither of them" "$(sed -n 's/.*(\(.*\) bytes)/\1/p' "$out/same.txt" | tr '\n' ' ')" "32 24 68 24 "
