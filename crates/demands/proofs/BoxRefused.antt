@@ -1,5 +1,6 @@
 -- Refusal 1, "box breaks a rule above", by the rules as document 01 has them (`demands` BoxRules).
 --     broken-exactly         the exported handler refuses by 1 exactly when the settings are no whole words or the box breaks a rule
+--     kept-second            so a box that keeps the rules is refused by no number below 2
 --     list-broken-exactly    the exported normaliser answers 1 exactly when the name list breaks a rule
 use Prim.Native.Nat.{ℕ, _≤_}
 use mathlib.Core.Path.{_≡_, ap}
@@ -61,11 +62,11 @@ module _ (box : Box) (stored : Stored) (call : Call) (datagram : List ℕ) (room
       (end-second datagram (call .position)
       (row Second _ _ (omega arith) (row Second _ _ (omega arith) (weaker Late Second (λ why n. omega arith) (message-late box call _ _))))))))
 
-  not-kept : FirstIs R.Box (callChecks (storedRight box stored call) box call datagram room) → StoredRules box stored call → ⊥
-  not-kept f kept =
+  -- a box that keeps the rules is not refused by 1
+  pub kept-second : StoredRules box stored call → (why : Refusal) → bytesOutcome box stored call datagram room .response .kind ≡ Refused why → 2 ≤ numberOf why
+  kept-second kept why e =
       let right = stored-exactly box stored call .1 kept in
-      let n = first-every Second R.Box (rw right at f) right-rows in
-      omega (arith, n)
+      first-every Second why (rw right at (refused-exactly box stored call datagram room why .0 e)) right-rows
 
   first-broken : storedRight box stored call ≡ false → FirstIs R.Box (callChecks (storedRight box stored call) box call datagram room)
   unfolding callChecks refuseIf
@@ -73,9 +74,10 @@ module _ (box : Box) (stored : Stored) (call : Call) (datagram : List ℕ) (room
 
   pub broken-exactly : (bytesOutcome box stored call datagram room .response .kind ≡ Refused R.Box → StoredRules box stored call → ⊥)
       × ((StoredRules box stored call → ⊥) → bytesOutcome box stored call datagram room .response .kind ≡ Refused R.Box)
-  broken-exactly =
-      let exactly = refused-exactly box stored call datagram room R.Box in
-      (λ e. not-kept (exactly .0 e), λ n. exactly .1 (first-broken (false-of _ (λ right. n (stored-exactly box stored call .0 right)))))
+  broken-exactly = (
+    λ e kept. let n = kept-second kept R.Box e in omega arith,
+    λ n. refused-exactly box stored call datagram room R.Box .1 (first-broken (false-of _ (λ right. n (stored-exactly box stored call .0 right)))),
+  )
 
 module _ (contents names : List ℕ) (room : ℕ) where
   list-rows : namesRight names ≡ true → Every Second (normalChecks contents names room)

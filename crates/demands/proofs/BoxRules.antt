@@ -101,17 +101,18 @@ module _ (words : List ℕ) (ports : ℕ) (sizes : Sizes) where
       × (Settings ports (sizes .debug) (sizes .flags) words → settingsRight words ports sizes ≡ true)
   settings-exactly = (settings-means, means-settings)
 
+-- the numbers that the roll and the lists tell are those by which the code places the sets
+module _ (box : Box) (roll : PortRoll (box .roll)) (debug : NameList (box .names .debug)) (flags : NameList (box .names .flags)) (P : ℕ → ℕ → ℕ → Type 0) where
+  pub told : P (portsIn box) (sizesIn box .debug) (sizesIn box .flags) → P (roll .ports) (debug .entries) (flags .entries)
+  told s = rw (← rules-counted (box .roll) roll, ← list-counted (box .names .debug) debug, ← list-counted (box .names .flags) flags) s
+
+  pub counted : P (roll .ports) (debug .entries) (flags .entries) → P (portsIn box) (sizesIn box .debug) (sizesIn box .flags)
+  counted s = rw (rules-counted (box .roll) roll, list-counted (box .names .debug) debug, list-counted (box .names .flags) flags) s
+
 -- the box
 module _ (box : Box) (state : State) (call : Call) where
-  -- the numbers that the roll and the lists tell are those by which the code places the sets
-  module _ (roll : PortRoll (box .roll)) (debug : NameList (box .names .debug)) (flags : NameList (box .names .flags)) where
-    told : Settings (portsIn box) (sizesIn box .debug) (sizesIn box .flags) (state .words)
-        → Settings (roll .ports) (debug .entries) (flags .entries) (state .words)
-    told s = rw (← rules-counted (box .roll) roll, ← list-counted (box .names .debug) debug, ← list-counted (box .names .flags) flags) s
-
-    counted : Settings (roll .ports) (debug .entries) (flags .entries) (state .words)
-        → Settings (portsIn box) (sizesIn box .debug) (sizesIn box .flags) (state .words)
-    counted s = rw (rules-counted (box .roll) roll, list-counted (box .names .debug) debug, list-counted (box .names .flags) flags) s
+  abbrev Sets : ℕ → ℕ → ℕ → Type 0
+  Sets ports debug flags = Settings ports debug flags (state .words)
 
   rules-of : boxRight box state call ≡ true → BoxRules box state call
   unfolding listOf
@@ -127,7 +128,7 @@ module _ (box : Box) (state : State) (call : Call) where
         roll = roll;
         debug = debug;
         flags = flags;
-        settings = told roll debug flags (settings-means (state .words) (portsIn box) (sizesIn box) (r .settings-right));
+        settings = told box roll debug flags Sets (settings-means (state .words) (portsIn box) (sizesIn box) (r .settings-right));
       }
 
   of-rules : BoxRules box state call → boxRight box state call ≡ true
@@ -139,7 +140,7 @@ module _ (box : Box) (state : State) (call : Call) where
       let debug = list-exactly (box .names .debug) .1 (r .debug) in
       let flags = list-exactly (box .names .flags) .1 (r .flags) in
       rw (low, high, admin, roll-exactly (box .roll) .1 (r .roll), debug, flags)
-      (means-settings (state .words) (portsIn box) (sizesIn box) (counted (r .roll) (r .debug) (r .flags) (r .settings)))
+      (means-settings (state .words) (portsIn box) (sizesIn box) (counted box (r .roll) (r .debug) (r .flags) Sets (r .settings)))
 
   pub box-exactly : (boxRight box state call ≡ true → BoxRules box state call) × (BoxRules box state call → boxRight box state call ≡ true)
   box-exactly = (rules-of, of-rules)

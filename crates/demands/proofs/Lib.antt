@@ -34,3 +34,5 @@ pub mod BoxNames
 pub mod BoxRoll
 pub mod BoxRules
 pub mod BoxRefused
+pub mod BoxBeginnings
+pub mod BoxFault

@@ -14,6 +14,7 @@ pub mod Parts
 pub mod Says
 pub mod Stored
 pub mod BoxRules
+pub mod BoxFault
 pub mod Change
 pub mod Example
 pub mod Padding

@@ -5,14 +5,19 @@ use mathlib.Core.List.{List}
 use Rattle.word_bytes.specs.Bytes.{Bytes}
 use Rattle.normal.specs.Normal as N
 use Rattle.normal.specs.declared.Normal.{Normal}
+use Rattle.box_fault.specs.Fault.{partNumber}
+use Rattle.box_fault.specs.declared.Fault.{Fault}
 use Rattle.response.specs.Answer.{Outcome, Performs, kindNumber, refusalNumber}
 use Rattle.response.specs.declared.Answer.{Answer}
 use Rattle.handler.specs.Bytes.{Stored}
-use Rattle.ethnl.specs.Exported.{Normalise, Handle}
+use Rattle.ethnl.specs.Exported.{Normalise, CheckBox, Handle}
 
 pub normalise-returns : (o : N.NormalAnswer) (P Q : List ℕ) (x : Normal) → N.Normalised o P Q x → Normalise o P Q (x .written) (x .number)
 normalise-returns o P Q x h =
     record { number = ap (λ (y : Normal). y .number) (h .result); count = ap (λ (y : Normal). y .written) (h .result); page = h .page }
+
+pub check-returns : (f x : Fault) (o r : ℕ) → x ≡ f → o ≡ x .offset → r ≡ partNumber (x .part) → CheckBox f o r
+check-returns f x o r e eo er = record { part = er ∙ ap (λ (y : Fault). partNumber (y .part)) e; place = eo ∙ ap (λ (y : Fault). y .offset) e }
 
 pub handle-returns : (o : Outcome Stored) (lent stored : Stored) (P Q : List ℕ) (x : Answer) (k f : ℕ) → Bytes (lent .settings) → Performs o P Q stored x
     → k ≡ kindNumber (x .kind) → f ≡ refusalNumber (x .kind) → Handle o lent stored P Q k f (x .next) (x .written)

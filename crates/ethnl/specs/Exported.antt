@@ -6,6 +6,8 @@ use lib.ListN.{length}
 use Rattle.basics.specs.Put.{put}
 use Rattle.word_bytes.specs.Bytes.{Bytes}
 use Rattle.normal.specs.Normal as N
+use Rattle.box_fault.specs.Fault.{partNumber}
+use Rattle.box_fault.specs.declared.Fault.{Fault}
 use Rattle.response.specs.Answer.{Outcome, kindNumber, refusalNumber}
 use Rattle.handler.specs.Bytes.{Stored}
 
@@ -14,6 +16,11 @@ pub record Normalise (o : N.NormalAnswer) (before after : List ℕ) (written r :
   pub number : r ≡ o .number
   pub count : written ≡ length (o .bytes)
   pub page : after ≡ put before (o .bytes)
+
+-- ethnl_check_box: the number of the part, and the offset in it behind its pointer
+pub record CheckBox (f : Fault) (offset r : ℕ) : Type 0 where
+  pub part : r ≡ partNumber (f .part)
+  pub place : offset ≡ f .offset
 
 -- ethnl_handle: kind, refusal number, next position and count behind their pointers; the settings that are lent are bytes
 pub record Handle (o : Outcome Stored) (lent stored : Stored) (before after : List ℕ) (k f n w : ℕ) : Type 0 where

@@ -3,8 +3,10 @@ ghost use mathlib.Core.Path.{_≡_};
 ghost use lib.ListN.{length};
 ghost use Rattle.normal.specs.Normal.{normalised};
 ghost use Rattle.boxes.specs.Box.{boxOf};
+ghost use Rattle.box_fault.specs.Fault.{boxFault};
 ghost use Rattle.handler.specs.Bytes.{storedOf, bytesOutcome};
-ghost use Rattle.ethnl.specs.Exported.{Normalise, Handle};
+ghost use Rattle.ethnl.specs.Exported.{Normalise, CheckBox, Handle};
+use box_fault::box_fault;
 use boxes::Call;
 use handler::bytes::handle_bytes;
 
@@ -21,6 +23,25 @@ pub extern "C" fn ethnl_normalise(
     let normal = normal::normalise(contents, names, page);
     *written = normal.written as u64;
     normal.number
+}
+
+// Tells which part of a box breaks a rule first, and where: returns the part's number, 0 if none does, and leaves the offset in it.
+#[no_mangle]
+pub extern "C" fn ethnl_check_box(
+    family: u32,
+    admin: u32,
+    roll: &[u8],
+    debug: &[u8],
+    flags: &[u8],
+    settings: &[u8],
+    offset: &mut u64,
+) -> u32
+    ensures { λ r. ⌜ CheckBox (boxFault family admin (boxOf (now (roll .entry)) (now (debug .entry)) (now (flags .entry))) (now (settings .entry))) (now (offset .exit)) r ⌝ }
+{
+    let fault = box_fault(family, admin, roll, debug, flags, settings);
+    let part = fault.part;
+    *offset = fault.offset as u64;
+    part.number()
 }
 
 // Takes one message from a datagram, answers it, and keeps the settings, which are the little-endian bytes of their words. Settings that are

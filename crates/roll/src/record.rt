@@ -20,6 +20,9 @@ pub enum RecordRead {
     End,
 }
 
+// The most bytes that a record takes.
+pub const MOST_BYTES: usize = 21;
+
 // How many bytes a record of a kind takes, its kind byte with them; 0 for a kind that no record has.
 fn record_size(kind: u8) -> usize
     ensures { λ r. ⌜ (r ≡ recordSize kind) × SizeFits r ⌝ }

@@ -12,7 +12,7 @@ use native.Mathlib.Omega.{arith}
 use borrow.Author.Tests.{le-leb, lt-leb, leb-true}
 use Rattle.basics.specs.Numbers.{u32At}
 use Rattle.basics.proofs.Order.{lt-or-ge}
-use Rattle.basics.proofs.Truth.{both-true}
+use Rattle.basics.proofs.Truth.{both-true, clash}
 use Rattle.netlink_attributes.proofs.Laws.{part-in, part-past}
 use lib.ListN.{length-take, length-drop}
 use Rattle.roll.specs.Name.{nameAt}
@@ -172,6 +172,25 @@ listed-some roll h =
     let a = both-true _ _ h in
     let b = both-true (leb 1 (portCount roll)) (leb (portCount roll) 64) (a .1) in
     (a .0, leb-true 1 _ (b .0), leb-true _ 64 (b .1))
+
+-- whole records have no more bytes than so many of the longest
+records-room : (roll : List ℕ) (k at : ℕ) → allWhole (recordsUpTo k roll at) ≡ true
+    → length roll ≤ at + mostBytes * length (recordPorts (recordsUpTo k roll at))
+unfolding recordsUpTo allWhole recordPorts
+records-room roll zero at w = absurd (clash w refl)
+records-room roll (suc k) at w = go (recordAt roll at) (bounded roll at) w (λ next. records-room roll k next)
+  where
+    go : (r : RecordRead) → Bounded roll at r → allWhole (onRecord roll r (λ next. recordsUpTo k roll next)) ≡ true
+        → ((next : ℕ) → allWhole (recordsUpTo k roll next) ≡ true → length roll ≤ next + mostBytes * length (recordPorts (recordsUpTo k roll next)))
+        → length roll ≤ at + mostBytes * length (recordPorts (onRecord roll r (λ next. recordsUpTo k roll next)))
+    go R.End b w f = omega arith
+    go R.Unknown b w f = absurd (clash w refl)
+    go R.Cut b w f = absurd (clash w refl)
+    go (R.Port p) b w f = let rest = f (p .end) w in omega arith
+
+pub listed-room : (roll : List ℕ) → portsListed roll ≡ true → length roll ≤ 64 * mostBytes
+unfolding portCount portsOf records
+listed-room roll h = let l = listed-some roll h in let room = records-room roll (suc (length roll)) 0 (l .0) in let few = l .2 in omega arith
 
 -- the name of each port is a whole field
 module _ (roll : List ℕ) where
