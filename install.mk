@@ -22,7 +22,7 @@ ETHNL_INSTALLED = $(addprefix $(INCLUDEDIR)/,$(notdir $(ETHNL_HEADERS))) $(LIBDI
 .PHONY: install uninstall
 
 $(ETHNL_BUILT): $(shell find crates crates.txt -type f -not -path '*/must-fail/*')
-	@tests/archive
+	@tools/archive
 
 install: $(ETHNL_LIB)
 	install -d $(addprefix $(DESTDIR),$(INCLUDEDIR) $(LIBDIR)/pkgconfig $(MANDIR)/man3 $(DOCDIR)/examples)

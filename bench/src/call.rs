@@ -16,6 +16,8 @@ enum Input {
     /// A position at the datagram's end: the answer comes right after the box check.
     End,
     Contents(Vec<u8>),
+    /// The box by itself, and the part that is at fault.
+    Parts(u32),
 }
 
 pub struct Call {
@@ -66,24 +68,32 @@ impl Call {
         Self::new(&name, 1, bits, Input::Contents(requests::list(entries, bits)))
     }
 
+    /// Which part of the largest box is at fault, and where; `spoil` makes it so.
+    pub fn parts(name: &str, part: u32, spoil: impl Fn(&mut Lent)) -> Self {
+        let mut call = Self::new(name, 64, 512, Input::Parts(part));
+        spoil(&mut call.lent);
+        call
+    }
+
     /// Bytes of the datagram or contents.
     pub fn input_bytes(&self) -> usize {
         match &self.input {
             Input::Message(bytes) | Input::Contents(bytes) => bytes.len(),
-            Input::End => 0,
+            Input::End | Input::Parts(_) => 0,
         }
     }
 
-    /// The kind that an answered message has, or the number of accepted contents.
+    /// The kind that an answered message has, the number of accepted contents, or the part at fault.
     pub fn expected(&self) -> u32 {
         match &self.input {
             Input::Message(_) => reader::DONE,
             Input::End => reader::END,
             Input::Contents(_) => 0,
+            Input::Parts(part) => *part,
         }
     }
 
-    /// Makes the call; the kind (or number) and the bytes written.
+    /// Makes the call; the kind (or number, or part) and the bytes written (or the offset).
     #[inline(never)]
     pub fn make(&mut self, made: Made) -> (u32, u64) {
         let Call { lent, input, page, .. } = self;
@@ -94,6 +104,10 @@ impl Call {
             (Input::Message(datagram), Made::Reader) => read(lent, datagram, page),
             (Input::End, Made::Library) => library::handle(lent, &[], 0, page),
             (Input::End, Made::Reader) => read(lent, &[], page),
+            (Input::Parts(_), Made::Library) => library::check_box(lent),
+            (Input::Parts(_), Made::Reader) => {
+                reader::check_box(25, 1, &lent.roll, &lent.debug_names, &lent.flag_names, &lent.settings)
+            }
         }
     }
 }

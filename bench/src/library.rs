@@ -34,6 +34,20 @@ extern "C" {
         page_len: usize,
         written: *mut u64,
     ) -> u32;
+
+    fn ethnl_check_box(
+        family: u32,
+        admin: u32,
+        roll: *const u8,
+        roll_len: usize,
+        debug_names: *const u8,
+        debug_names_len: usize,
+        flag_names: *const u8,
+        flag_names_len: usize,
+        settings: *const u8,
+        settings_len: usize,
+        offset: *mut u64,
+    ) -> u32;
 }
 
 /// Kind and bytes written.
@@ -82,4 +96,26 @@ pub fn normalise(contents: &[u8], names: &[u8], page: &mut [u8]) -> (u32, u64) {
         )
     };
     (number, written)
+}
+
+/// The part at fault and the offset.
+pub fn check_box(lent: &Lent) -> (u32, u64) {
+    let mut offset = 0;
+    // SAFETY: each pointer comes from a live slice or place and is followed by that slice's length.
+    let part = unsafe {
+        ethnl_check_box(
+            25,
+            1,
+            lent.roll.as_ptr(),
+            lent.roll.len(),
+            lent.debug_names.as_ptr(),
+            lent.debug_names.len(),
+            lent.flag_names.as_ptr(),
+            lent.flag_names.len(),
+            lent.settings.as_ptr(),
+            lent.settings.len(),
+            &mut offset,
+        )
+    };
+    (part, offset)
 }

@@ -21,7 +21,9 @@ fn main() -> ExitCode {
     }
     let (mut compared, mut growing) = (compared(), growing());
     let mut distinct = [64, 512].map(Call::list_check);
-    if let Some(name) = compared.iter_mut().chain(&mut growing).chain(&mut distinct).find_map(differs) {
+    let mut parts = parts();
+    let calls = compared.iter_mut().chain(&mut growing).chain(&mut distinct).chain(&mut parts);
+    if let Some(name) = calls.into_iter().find_map(differs) {
         eprintln!("bench: library and reader differ: {name}");
         return ExitCode::FAILURE;
     }
@@ -29,6 +31,7 @@ fn main() -> ExitCode {
     tables::compared(&mut compared, runs);
     tables::distinct(&mut distinct, runs);
     tables::growth(&mut growing, runs);
+    tables::parts(&mut parts, runs);
     ExitCode::SUCCESS
 }
 
@@ -45,6 +48,18 @@ fn compared() -> Vec<Call> {
     };
     let checks = [(1, 40), (1, 512), (8, 512), (64, 512)].map(|(ports, bits)| Call::box_check(ports, bits));
     over(1, 40).into_iter().chain(over(64, 512)).chain(checks).collect()
+}
+
+/// The largest box judged part by part: right, and with a fault that is found soon or late.
+fn parts() -> [Call; 4] {
+    const ROLL: u32 = 3;
+    const FLAG_NAMES: u32 = 5;
+    [
+        Call::parts("a right box", 0, |_| {}),
+        Call::parts("the last flag's name repeated", FLAG_NAMES, |lent| lent.flag_names.copy_within(..32, 511 * 32)),
+        Call::parts("the first flag's name bad", FLAG_NAMES, |lent| lent.flag_names[31] = 1),
+        Call::parts("the first port's index 0", ROLL, |lent| lent.roll[1..5].fill(0)),
+    ]
 }
 
 /// Calls over boxes with more and more names and ports, then with longer and longer datagrams.

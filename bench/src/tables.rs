@@ -55,3 +55,9 @@ pub fn growth(calls: &mut [Call], runs: usize) {
     println!("How it grows with names, with ports, with the length of the datagram:\n");
     table(calls, runs);
 }
+
+/// What it costs to tell which part of the largest box is at fault.
+pub fn parts(calls: &mut [Call], runs: usize) {
+    println!("Which part of a box is at fault, and where:\n");
+    table(calls, runs);
+}

@@ -31,20 +31,26 @@ check_same "make install into directories of their own" "$(ls "$stage$far" | tr 
 installs uninstall DESTDIR="$stage" $directories
 check_same "make uninstall leaves none of them" "$(files "$stage")" ""
 
-# An archive that is missing or older than the crates is built first; a fake rt tells that it was asked.
+# An archive that is missing or older than the crates is built first; a fake rt writes down what it was asked.
 rm -rf "$out/tree"
 mkdir -p "$out/tree/bin" "$out/tree/crates"
-cp -r "$root/include" "$root/examples" "$root/install.mk" "$root/LICENSE" "$root/crates.txt" "$out/tree"
-printf '#!/bin/sh\necho "rt $*"\nmkdir -p target/staticlib\necho archive >target/staticlib/libethnl.a\n' >"$out/tree/bin/rt"
+cp -r "$root/include" "$root/examples" "$root/tools" "$root/install.mk" "$root/LICENSE" "$root/crates.txt" "$out/tree"
+cat >"$out/tree/bin/rt" <<'END'
+#!/bin/sh
+echo "$*" >>asked
+mkdir -p target/staticlib
+echo archive >target/staticlib/libethnl.a
+END
 chmod +x "$out/tree/bin/rt"
 builds() {
-    (cd "$out/tree" && unset ETHNL_LIB && PATH=$PWD/bin:$PATH make -s -f install.mk install DESTDIR="$stage" | grep '^rt ')
+    (cd "$out/tree" && rm -f asked && unset ETHNL_LIB && PATH=$PWD/bin:$PATH make -s -f install.mk install DESTDIR="$stage" >/dev/null &&
+        grep '^staticlib' asked 2>/dev/null)
 }
-check_same "a missing archive is built" "$(builds)" "rt staticlib ethnl"
+check_same "a missing archive is built" "$(builds)" "staticlib ethnl"
 check_same "one that is there is not built again" "$(builds)" ""
 touch -d '1 hour ago' "$out/tree/target/staticlib/libethnl.a"
 touch "$out/tree/crates/changed.rt"
-check_same "one that is older than the crates is" "$(builds)" "rt staticlib ethnl"
+check_same "one that is older than the crates is" "$(builds)" "staticlib ethnl"
 
 if command -v pkg-config >/dev/null; then
     installs install PREFIX="$out/prefix" LIBDIR="$out/prefix/lib64"

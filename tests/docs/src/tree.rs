@@ -41,7 +41,7 @@ pub fn documents() -> Vec<(String, String)> {
 
 /// The text of every file of the sources, the documents left out; the bytes of those that are no text are passed over.
 pub fn sources() -> Vec<(PathBuf, String)> {
-    let folders = ["crates", "tests", "include", "examples", "bench"];
+    let folders = ["crates", "tests", "include", "examples", "bench", "tools"];
     let own = Path::new(env!("CARGO_MANIFEST_DIR"));
     folders
         .iter()
