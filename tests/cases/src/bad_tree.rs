@@ -134,7 +134,9 @@ fn payload_resized(rng: &mut Rng, attributes: &mut Vec<Attribute>) {
         1 => payload.push(b'x'),
         2 => drop(payload.pop()),
         3 => payload.clear(),
+        // a name of one NUL, often too long for its place
         4 => {
+            payload.retain(|byte| *byte != 0);
             payload.resize(length, b'y');
             payload.push(0);
         }
