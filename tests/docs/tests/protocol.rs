@@ -12,21 +12,40 @@ fn bytes(text: &str) -> Vec<u8> {
     text.split_whitespace().map(|pair| u8::from_str_radix(pair, 16).expect("a byte in hexadecimal")).collect()
 }
 
-/// The annotated dumps in order: of each line what stands before the first run of two blanks.
+/// The annotated dumps in order: of each line what stands before the first run of two blanks. Blocks of C are passed over.
 fn dumps(page: &str) -> Vec<Vec<u8>> {
     let block = |text: &str| text.lines().flat_map(|line| bytes(line.split("  ").next().unwrap_or(""))).collect();
-    page.split("```").skip(1).step_by(2).map(block).collect()
+    page.split("```").skip(1).step_by(2).filter(|text| !text.starts_with("c\n")).map(block).collect()
 }
 
 #[test]
-fn dumps_are_an_error_a_request_and_its_reply() {
+fn dumps_are_requests_and_their_answers() {
     let found = dumps(&page());
-    let [error, request, reply] = &found[..] else { panic!("{} dumps", found.len()) };
+    let [error, lacking, missing, request, reply, two, answers] = &found[..] else { panic!("{} dumps", found.len()) };
+    assert_eq!(&reader::run(lacking), missing);
     assert_eq!(&reader::run(request), reply);
+    assert_eq!(&reader::run(two), answers);
     let mut faulty = request.clone();
     faulty[6] = 5;
     faulty[FIRST_ATTRIBUTE + 2] = 9;
     assert_eq!(&reader::run(&faulty), error);
+}
+
+/// A declaration without its line ends and without what blanks are doubled.
+fn in_one_line(text: &str) -> String {
+    text.split_whitespace().collect::<Vec<_>>().join(" ")
+}
+
+#[test]
+fn prototypes_are_those_of_the_header() {
+    let header = in_one_line(&tree::read("include/ethnl.h"));
+    let page = page();
+    let block = page.split("```c\n").nth(1).and_then(|rest| rest.split("```").next()).expect("a block of C");
+    let prototypes: Vec<String> = block.split_inclusive(';').map(in_one_line).filter(|text| !text.is_empty()).collect();
+    assert_eq!(prototypes.len(), 3);
+    for prototype in prototypes {
+        assert!(header.contains(&prototype), "not in the header: {prototype}");
+    }
 }
 
 /// The cells of the sheet's rows.

@@ -2,7 +2,8 @@
 
 use docs::tree;
 
-const LACKING: [&str; 7] = ["the paper", "this paper", "source document", "document 001", "12 minutes", "our other family", "later request"];
+const LACKING: [&str; 7] =
+    ["the paper", "this paper", "source document", "document 001", "12 minutes", "our other family", "later request"];
 
 #[test]
 fn no_word_that_a_stranger_lacks() {
@@ -10,7 +11,12 @@ fn no_word_that_a_stranger_lacks() {
     for (page, text) in tree::documents() {
         for (at, line) in text.lines().enumerate() {
             let plain = line.to_lowercase();
-            wrong.extend(LACKING.iter().filter(|word| plain.contains(**word)).map(|word| format!("{page}:{}: \"{word}\"", at + 1)));
+            wrong.extend(
+                LACKING
+                    .iter()
+                    .filter(|word| plain.contains(**word))
+                    .map(|word| format!("{page}:{}: \"{word}\"", at + 1)),
+            );
         }
     }
     assert!(wrong.is_empty(), "{}", wrong.join("\n"));
@@ -18,7 +24,9 @@ fn no_word_that_a_stranger_lacks() {
 
 #[test]
 fn every_page_leads_to_the_protocol() {
-    for page in ["README.md", "docs/PROMISES.md", "docs/DECISIONS.md", "docs/PLAN.md", "docs/READING.md", "docs/NETLINK.md"] {
+    for page in
+        ["README.md", "docs/PROMISES.md", "docs/DECISIONS.md", "docs/PLAN.md", "docs/READING.md", "docs/NETLINK.md"]
+    {
         assert!(tree::read(page).contains("PROTOCOL.md"), "{page} does not lead to docs/PROTOCOL.md");
     }
 }
@@ -42,7 +50,9 @@ fn named(page: &str) -> Vec<(String, String)> {
 fn every_file_of_definitions_has_its_place_in_the_reading_order() {
     let named = named(&tree::read("docs/READING.md"));
     let mut missing = Vec::new();
-    for path in tree::files("crates").iter().filter(|path| path.parent().is_some_and(|folder| folder.ends_with("specs"))) {
+    for path in
+        tree::files("crates").iter().filter(|path| path.parent().is_some_and(|folder| folder.ends_with("specs")))
+    {
         let file = path.file_stem().expect("a file's name").to_string_lossy().into_owned();
         let inside = path.strip_prefix(tree::root().join("crates")).expect("a file of a crate");
         let holder = inside.iter().next().expect("a crate").to_string_lossy().into_owned();
