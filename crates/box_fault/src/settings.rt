@@ -68,16 +68,17 @@ pub fn settings_fault(settings: &[u8], ports: usize, sizes: Sizes) -> Fault
     ensures { λ r. ⌜ r ≡ settingsFault (now (settings .entry)) ports sizes ⌝ }
 {
     let n = words_of(ports, sizes);
-    if settings.len() < n * 4 {
+    let right = n * 4;
+    if settings.len() < right {
         return Fault {
             part: Part::Settings,
             offset: settings.len(),
         };
     }
-    if n * 4 < settings.len() {
+    if right < settings.len() {
         return Fault {
             part: Part::Settings,
-            offset: n * 4,
+            offset: right,
         };
     }
     let mut room = [0u32; WORDS];

@@ -34,28 +34,28 @@ use Rattle.netlink_write.proofs.attributes.Laws.{nest-wrote}
 use Rattle.netlink_error.specs.Error.{errorMessage}
 use Rattle.netlink_error.specs.declared.Detail.{Detail}
 use Rattle.netlink_error.specs.declared.Detail.the-variants.{Nothing, Offset, MissTop, MissIn}
-use Rattle.echo.specs.Echo.{policy, refusedAtStop, numberReading, nestReading, topReading, onGeneric, requestReading, numberReply, answerBytes, answerWritten}
+use Rattle.echo.specs.Echo.{commandNumber, headerType, numberType, policy, refusedAtStop, numberReading, nestReading, topReading, onGeneric, requestReading, numberReply, answerBytes, answerWritten}
 use Rattle.echo.specs.declared.RequestRead.{RequestRead}
 use Rattle.echo.specs.declared.RequestRead.the-variants.{Number, Refused}
 
-module _ (request : List ℕ) (nest : Slot) (c : List ℕ) (ec : c ≡ partOf request 0 (nest .end)) (p : List Rule) (ep : p ≡ policy R.Number)
+module _ (request : List ℕ) (nest : Slot) (c : List ℕ) (ec : c ≡ partOf request 0 (nest .end)) (p : List Rule) (ep : p ≡ policy numberType R.Number)
     (w : Walked) (ew : w ≡ walked p c (nest .start)) where
-  in-nest : nestReading request nest ≡ refusedAtStop (w .stop) (numberReading c (nest .start - 4) (getD (w .slots) 1 absent))
+  in-nest : nestReading request nest ≡ refusedAtStop (w .stop) (numberReading c (nest .start - 4) (getD (w .slots) numberType absent))
   unfolding nestReading
-  in-nest = rw (← ec) (sym (ap (λ (x : Walked). refusedAtStop (x .stop) (numberReading c (nest .start - 4) (getD (x .slots) 1 absent))) (ew ∙ ap (λ (x : List Rule). walked x c (nest .start)) ep)))
+  in-nest = rw (← ec) (sym (ap (λ (x : Walked). refusedAtStop (x .stop) (numberReading c (nest .start - 4) (getD (x .slots) numberType absent))) (ew ∙ ap (λ (x : List Rule). walked x c (nest .start)) ep)))
 
   pub nest-fault : (f : Fault) (at : ℕ) → w .stop ≡ At f at → Refused 22 (Offset at) ≡ nestReading request nest
-  nest-fault f at q = sym (in-nest ∙ ap (λ (x : Stop). refusedAtStop x (numberReading c (nest .start - 4) (getD (w .slots) 1 absent))) q)
+  nest-fault f at q = sym (in-nest ∙ ap (λ (x : Stop). refusedAtStop x (numberReading c (nest .start - 4) (getD (w .slots) numberType absent))) q)
 
   module _ (q : w .stop ≡ Whole) where
-    whole-nest : nestReading request nest ≡ numberReading c (nest .start - 4) (getD (w .slots) 1 absent)
-    whole-nest = in-nest ∙ ap (λ (x : Stop). refusedAtStop x (numberReading c (nest .start - 4) (getD (w .slots) 1 absent))) q
+    whole-nest : nestReading request nest ≡ numberReading c (nest .start - 4) (getD (w .slots) numberType absent)
+    whole-nest = in-nest ∙ ap (λ (x : Stop). refusedAtStop x (numberReading c (nest .start - 4) (getD (w .slots) numberType absent))) q
 
-    pub nest-missing : (at : ℕ) → at ≡ nest .start - 4 → not (getD (w .slots) 1 absent .present) ≡ true → Refused 22 (MissIn 1 at) ≡ nestReading request nest
+    pub nest-missing : (at : ℕ) → at ≡ nest .start - 4 → not (getD (w .slots) numberType absent .present) ≡ true → Refused 22 (MissIn numberType at) ≡ nestReading request nest
     unfolding numberReading
     nest-missing at ea h = rw ea (sym (whole-nest ∙ rw h))
 
-    pub nest-number : (x : ℕ) → not (getD (w .slots) 1 absent .present) ≡ false → x ≡ slotNumber c (getD (w .slots) 1 absent) → Number x ≡ nestReading request nest
+    pub nest-number : (x : ℕ) → not (getD (w .slots) numberType absent .present) ≡ false → x ≡ slotNumber c (getD (w .slots) numberType absent) → Number x ≡ nestReading request nest
     unfolding numberReading
     nest-number x h ex = rw ex (sym (whole-nest ∙ rw h))
 
@@ -65,29 +65,29 @@ module _ (request : List ℕ) (g : GenericHeaderRead) (eg : g ≡ genericHeaderA
   request-short q = sym (ap (onGeneric request) (sym eg ∙ q))
 
   module _ (h : GenericHeader) (q : g ≡ G.Header h) where
-    pub request-command : (h .command ≡ 1 → ⊥) → Refused 95 Nothing ≡ requestReading request
+    pub request-command : (h .command ≡ commandNumber → ⊥) → Refused 95 Nothing ≡ requestReading request
     unfolding requestReading onGeneric
-    request-command n = sym (ap (onGeneric request) (sym eg ∙ q) ∙ rw (ne-eqb (h .command) 1 n))
+    request-command n = sym (ap (onGeneric request) (sym eg ∙ q) ∙ rw (ne-eqb (h .command) commandNumber n))
 
-    module _ (one : h .command ≡ 1) (p : List Rule) (ep : p ≡ policy R.Nest) (w : Walked) (ew : w ≡ walked p request 20) where
-      top : requestReading request ≡ refusedAtStop (w .stop) (topReading request (getD (w .slots) 1 absent))
+    module _ (one : h .command ≡ commandNumber) (p : List Rule) (ep : p ≡ policy headerType R.Nest) (w : Walked) (ew : w ≡ walked p request 20) where
+      top : requestReading request ≡ refusedAtStop (w .stop) (topReading request (getD (w .slots) headerType absent))
       unfolding requestReading onGeneric
       top =
-          ap (onGeneric request) (sym eg ∙ q) ∙ rw (eq-eqb (h .command) 1 one)
-          (sym (ap (λ (x : Walked). refusedAtStop (x .stop) (topReading request (getD (x .slots) 1 absent))) (ew ∙ ap (λ (x : List Rule). walked x request 20) ep)))
+          ap (onGeneric request) (sym eg ∙ q) ∙ rw (eq-eqb (h .command) commandNumber one)
+          (sym (ap (λ (x : Walked). refusedAtStop (x .stop) (topReading request (getD (x .slots) headerType absent))) (ew ∙ ap (λ (x : List Rule). walked x request 20) ep)))
 
       pub request-fault : (f : Fault) (at : ℕ) → w .stop ≡ At f at → Refused 22 (Offset at) ≡ requestReading request
-      request-fault f at z = sym (top ∙ ap (λ (x : Stop). refusedAtStop x (topReading request (getD (w .slots) 1 absent))) z)
+      request-fault f at z = sym (top ∙ ap (λ (x : Stop). refusedAtStop x (topReading request (getD (w .slots) headerType absent))) z)
 
       module _ (z : w .stop ≡ Whole) where
-        whole-top : requestReading request ≡ topReading request (getD (w .slots) 1 absent)
-        whole-top = top ∙ ap (λ (x : Stop). refusedAtStop x (topReading request (getD (w .slots) 1 absent))) z
+        whole-top : requestReading request ≡ topReading request (getD (w .slots) headerType absent)
+        whole-top = top ∙ ap (λ (x : Stop). refusedAtStop x (topReading request (getD (w .slots) headerType absent))) z
 
-        pub request-missing : not (getD (w .slots) 1 absent .present) ≡ true → Refused 22 (MissTop 1) ≡ requestReading request
+        pub request-missing : not (getD (w .slots) headerType absent .present) ≡ true → Refused 22 (MissTop headerType) ≡ requestReading request
         unfolding topReading
         request-missing m = sym (whole-top ∙ rw m)
 
-        pub request-nest : (r : RequestRead) → not (getD (w .slots) 1 absent .present) ≡ false → r ≡ nestReading request (getD (w .slots) 1 absent)
+        pub request-nest : (r : RequestRead) → not (getD (w .slots) headerType absent .present) ≡ false → r ≡ nestReading request (getD (w .slots) headerType absent)
             → r ≡ requestReading request
         unfolding topReading
         request-nest r m e = e ∙ sym (whole-top ∙ rw m)
@@ -95,24 +95,24 @@ module _ (request : List ℕ) (g : GenericHeaderRead) (eg : g ≡ genericHeaderA
 pub ruleset request-laws = (request-short, request-command, request-fault, request-missing, request-nest)
 
 -- the nest around the number
-pub number-nest-wrote : (P A B : List ℕ) (x n r : ℕ) → 12 ≤ length P → Wrote (attr 1 (le32 x)) (take (length P - 4) (drop 4 P)) A n → r ≡ n + 4
-    → B ≡ put (putMid 4 (length P - 4) P A) (attributeHeaderBytes (n + 4) 32769) → Wrote (nest 1 (attr 1 (le32 x))) P B r
-number-nest-wrote P A B x n r room w er q = nest-wrote P A B (attr 1 (le32 x)) 1 n r (omega arith) w er q
+pub number-nest-wrote : (P A B : List ℕ) (x n r : ℕ) → 12 ≤ length P → Wrote (attr numberType (le32 x)) (take (length P - 4) (drop 4 P)) A n → r ≡ n + 4
+    → B ≡ put (putMid 4 (length P - 4) P A) (attributeHeaderBytes (n + 4) 32769) → Wrote (nest headerType (attr numberType (le32 x))) P B r
+number-nest-wrote P A B x n r room w er q = nest-wrote P A B (attr numberType (le32 x)) headerType n r (omega arith) w er q
 
 -- three writers in a row
 pub reply-wrote : (P : List ℕ) (h : MessageHeader) (x n : ℕ) (A B C : List ℕ) → 52 ≤ length P
     → A ≡ put P (messageHeaderBytes (record { length = 32; kind = h .kind; flags = 0; sequence = h .sequence; port = h .port }))
-    → B ≡ put (take (length A - 16) (drop 16 A)) (genericHeaderBytes (record { command = 1; version = 1; reserved = 0 }))
-    → Wrote (nest 1 (attr 1 (le32 x))) (take (length (putMid 16 (length A - 16) A B) - 20) (drop 20 (putMid 16 (length A - 16) A B))) C n
+    → B ≡ put (take (length A - 16) (drop 16 A)) (genericHeaderBytes (record { command = commandNumber; version = 1; reserved = 0 }))
+    → Wrote (nest headerType (attr numberType (le32 x))) (take (length (putMid 16 (length A - 16) A B) - 20) (drop 20 (putMid 16 (length A - 16) A B))) C n
     → Wrote (numberReply h x) P (putMid 20 (length (putMid 16 (length A - 16) A B) - 20) (putMid 16 (length A - 16) A B) C) (n + 20)
 unfolding numberReply messageHeaderBytes genericHeaderBytes
 reply-wrote P h x n A B C room a b w =
     let head = messageHeaderBytes (record { length = 32; kind = h .kind; flags = 0; sequence = h .sequence; port = h .port }) in
-    let generic = genericHeaderBytes (record { command = 1; version = 1; reserved = 0 }) in
+    let generic = genericHeaderBytes (record { command = commandNumber; version = 1; reserved = 0 }) in
     let two = then-rest P head generic 16 refl (omega arith) a b in
     record {
       count = omega (arith, w .count);
-      page = then-rest P (head ++ generic) (nest 1 (attr 1 (le32 x))) 20 refl (omega arith) two (w .page);
+      page = then-rest P (head ++ generic) (nest headerType (attr numberType (le32 x))) 20 refl (omega arith) two (w .page);
     }
 
 module _ (request before : List ℕ) where

@@ -2,7 +2,7 @@
 use Prim.Native.Nat.{ℕ, _-_}
 use mathlib.Core.List.{List, [], _∷_, _++_}
 use mathlib.Core.Bool.{cond, not}
-use lib.ListN.{getD}
+use lib.ListN.{getD, set, replicate}
 use lib.Dec.{eqb, ltb}
 use Rattle.basics.specs.Numbers.{le32}
 use Rattle.netlink_headers.specs.Headers.{messageHeaderAt, genericHeaderAt}
@@ -25,9 +25,21 @@ use Rattle.netlink_error.specs.declared.Detail.the-variants.{Nothing, Offset, M
 use Rattle.echo.specs.declared.RequestRead.{RequestRead}
 use Rattle.echo.specs.declared.RequestRead.the-variants.{Number, Refused}
 
--- type 1 alone, by this rule
-abbrev pub policy : Rule → List Rule
-policy first = R.Unlisted ∷ first ∷ R.Unlisted ∷ R.Unlisted ∷ R.Unlisted ∷ R.Unlisted ∷ R.Unlisted ∷ R.Unlisted ∷ []
+-- the family's one command
+abbrev pub commandNumber : ℕ
+commandNumber = 1
+
+-- the attribute at the top level: the header nest
+abbrev pub headerType : ℕ
+headerType = 1
+
+-- the attribute in the header nest: the number
+abbrev pub numberType : ℕ
+numberType = 1
+
+-- one type alone, by its rule
+abbrev pub policy : ℕ → Rule → List Rule
+policy kind rule = set (replicate 8 R.Unlisted) kind rule
 
 -- a walk that stops: errno 22 and the place of the attribute
 abbrev pub refusedAtStop : Stop → RequestRead → RequestRead
@@ -36,25 +48,25 @@ refusedAtStop (At fault at) rest = Refused 22 (Offset at)
 
 -- the header nest is walked in the request cut at the nest's end; its number is required
 unfoldable pub numberReading : List ℕ → ℕ → Slot → RequestRead
-numberReading contents at number = cond (not (number .present)) (Refused 22 (MissIn 1 at)) (Number (slotNumber contents number))
+numberReading contents at number = cond (not (number .present)) (Refused 22 (MissIn numberType at)) (Number (slotNumber contents number))
 
 -- what the header nest asks
 unfoldable pub nestReading : List ℕ → Slot → RequestRead
 nestReading request nest =
-    refusedAtStop (walked (policy R.Number) (partOf request 0 (nest .end)) (nest .start) .stop)
+    refusedAtStop (walked (policy numberType R.Number) (partOf request 0 (nest .end)) (nest .start) .stop)
     (numberReading (partOf request 0 (nest .end)) (nest .start - 4)
-    (getD (walked (policy R.Number) (partOf request 0 (nest .end)) (nest .start) .slots) 1 absent))
+    (getD (walked (policy numberType R.Number) (partOf request 0 (nest .end)) (nest .start) .slots) numberType absent))
 
 -- the top level is walked whole; the header nest is required
 unfoldable pub topReading : List ℕ → Slot → RequestRead
-topReading request nest = cond (not (nest .present)) (Refused 22 (MissTop 1)) (nestReading request nest)
+topReading request nest = cond (not (nest .present)) (Refused 22 (MissTop headerType)) (nestReading request nest)
 
--- what the request asks by its generic header: its one command is 1
+-- what the request asks by its generic header
 unfoldable pub onGeneric : List ℕ → GenericHeaderRead → RequestRead
 onGeneric request G.Short = Refused 22 Nothing
 onGeneric request (G.Header h) =
-    cond (eqb (h .command) 1)
-    (refusedAtStop (walked (policy R.Nest) request 20 .stop) (topReading request (getD (walked (policy R.Nest) request 20 .slots) 1 absent)))
+    cond (eqb (h .command) commandNumber)
+    (refusedAtStop (walked (policy headerType R.Nest) request 20 .stop) (topReading request (getD (walked (policy headerType R.Nest) request 20 .slots) headerType absent)))
     (Refused 95 Nothing)
 
 -- what a request asks
@@ -65,7 +77,7 @@ requestReading request = onGeneric request (genericHeaderAt request 16)
 unfoldable pub numberReply : MessageHeader → ℕ → List ℕ
 numberReply h number =
     messageHeaderBytes (record { length = 32; kind = h .kind; flags = 0; sequence = h .sequence; port = h .port })
-    ++ (genericHeaderBytes (record { command = 1; version = 1; reserved = 0 }) ++ nest 1 (attr 1 (le32 number)))
+    ++ (genericHeaderBytes (record { command = commandNumber; version = 1; reserved = 0 }) ++ nest headerType (attr numberType (le32 number)))
 
 -- the reply, or the error message
 abbrev pub readAnswer : RequestRead → List ℕ → MessageHeader → List ℕ

@@ -1,11 +1,11 @@
 // A made-up family over netlink alone: its one command takes a header nest with a number, and is answered with that number.
 ghost use mathlib.Core.Path.{_≡_};
-ghost use Prim.Native.Nat.{_≤_};
+ghost use Prim.Native.Nat.{_≤_, _<_};
 ghost use lib.ListN.{length};
 ghost use Rattle.basics.specs.Numbers.{le32};
 ghost use Rattle.page.specs.Page.{Wrote};
 ghost use Rattle.netlink_write.specs.Attributes.{attr, nest};
-ghost use Rattle.echo.specs.Echo.{policy, nestReading, requestReading, numberReply, answerWritten};
+ghost use Rattle.echo.specs.Echo.{headerType, numberType, policy, nestReading, requestReading, numberReply, answerWritten};
 use netlink::policy::Rule;
 use netlink::walk::Slot;
 use netlink::walk::Stop;
@@ -25,18 +25,34 @@ use netlink_write::attributes::put_number;
 use netlink_write::headers::put_generic_header;
 use netlink_write::headers::put_message_header;
 
+// The family's one command.
+pub const COMMAND: u8 = 1;
+
+// The attribute at the top level: the header nest.
+pub const HEADER: u16 = 1;
+
+// The attribute in the header nest: the number.
+pub const NUMBER: u16 = 1;
+
+// Their slots.
+const HEADER_SLOT: usize = HEADER as usize;
+
+const NUMBER_SLOT: usize = NUMBER as usize;
+
 // What a request asks: the number, or why it is refused.
 pub enum RequestRead {
     Number(u32),
     Refused(u32, Detail),
 }
 
-// Type 1 alone: at the top level the header nest, in it the number.
-fn policy(first: Rule) -> [Rule; 8]
-    ensures { λ r. ⌜ r ≡ policy first ⌝ }
+// One type alone, by its rule.
+fn policy(kind: usize, rule: Rule) -> [Rule; 8]
+    requires { ⌜ kind < 8 ⌝ }
+    ensures { λ r. ⌜ r ≡ policy kind rule ⌝ }
 {
-    let no = Rule::Unlisted;
-    [no, first, no, no, no, no, no, no]
+    let mut rules = [Rule::Unlisted; 8];
+    rules[kind] = rule;
+    rules
 }
 
 // Reads the header nest. A place in it counts from the request's start, since the nest is walked in the request cut at its end.
@@ -44,14 +60,14 @@ fn read_nest(request: &[u8], nest: Slot) -> RequestRead
     ensures { λ r. ⌜ r ≡ nestReading (now (request .entry)) nest ⌝ }
 {
     let contents = payload(request, 0, nest.end);
-    let walked = walk(policy(Rule::Number), contents, nest.start);
+    let walked = walk(policy(NUMBER_SLOT, Rule::Number), contents, nest.start);
     let stop = walked.stop;
     if let Stop::At { fault: _, at } = stop {
         return RequestRead::Refused(22, Detail::Offset(at));
     }
-    let number = walked.slots[1];
+    let number = walked.slots[NUMBER_SLOT];
     if !number.present {
-        return RequestRead::Refused(22, Detail::MissIn(1, place(nest.start)));
+        return RequestRead::Refused(22, Detail::MissIn(NUMBER_SLOT, place(nest.start)));
     }
     RequestRead::Number(slot_number(contents, number))
 }
@@ -62,17 +78,17 @@ fn read_request(request: &[u8]) -> RequestRead
     let GenericHeaderRead::Header(generic) = GenericHeader::read(request, 16) else {
         return RequestRead::Refused(22, Detail::Nothing);
     };
-    if generic.command != 1 {
+    if generic.command != COMMAND {
         return RequestRead::Refused(95, Detail::Nothing);
     }
-    let walked = walk(policy(Rule::Nest), request, 20);
+    let walked = walk(policy(HEADER_SLOT, Rule::Nest), request, 20);
     let stop = walked.stop;
     if let Stop::At { fault: _, at } = stop {
         return RequestRead::Refused(22, Detail::Offset(at));
     }
-    let nest = walked.slots[1];
+    let nest = walked.slots[HEADER_SLOT];
     if !nest.present {
-        return RequestRead::Refused(22, Detail::MissTop(1));
+        return RequestRead::Refused(22, Detail::MissTop(HEADER_SLOT));
     }
     read_nest(request, nest)
 }
@@ -95,7 +111,7 @@ fn put_number_reply(page: &mut [u8], h: MessageHeader, number: u32) -> usize
     put_generic_header(
         &mut page[16..],
         GenericHeader {
-            command: 1,
+            command: COMMAND,
             version: 1,
             reserved: 0,
         },
@@ -103,14 +119,14 @@ fn put_number_reply(page: &mut [u8], h: MessageHeader, number: u32) -> usize
     put_number_nest(&mut page[20..], number) + 20
 }
 
-// The nest, type 1, with the number, type 1 in it: 12 bytes.
+// The header nest with the number in it: 12 bytes.
 fn put_number_nest(page: &mut [u8], number: u32) -> usize
     requires { ⌜ 12 ≤ length (now page) ⌝ }
-    ensures { λ r. ⌜ Wrote (nest 1 (attr 1 (le32 number))) (now (page .entry)) (now (page .exit)) r ⌝ }
+    ensures { λ r. ⌜ Wrote (nest headerType (attr numberType (le32 number))) (now (page .entry)) (now (page .exit)) r ⌝ }
     ensures { λ r. ⌜ r ≡ 12 ⌝ }
 {
-    let contents = put_number(&mut page[AttributeHeader::SIZE..], 1, number);
-    close_nest(page, 1, contents).bytes()
+    let contents = put_number(&mut page[AttributeHeader::SIZE..], NUMBER, number);
+    close_nest(page, HEADER, contents).bytes()
 }
 
 // Answers a request, one message of a datagram. With fewer than 16 bytes of it, or a page below 52, nothing is written.

@@ -83,17 +83,17 @@ pub ruleset count-laws = (words-are, words-room)
 
 -- settings of another length
 module _ (settings : List ℕ) (ports : ℕ) (sizes : Sizes) where
-  module _ (n : ℕ) (en : n ≡ totalWords ports (widthsOf sizes)) where
-    pub fault-short : length settings < n * 4 → record { part = Settings; offset = length settings } ≡ settingsFault settings ports sizes
+  module _ (n right : ℕ) (en : n ≡ totalWords ports (widthsOf sizes)) (er : right ≡ n * 4) where
+    pub fault-short : length settings < right → record { part = Settings; offset = length settings } ≡ settingsFault settings ports sizes
     unfolding settingsFault
     fault-short h =
         let q : min (length settings) (rightLength ports sizes) ≡ length settings = omega arith in
         sym (rw (ne-eqb (length settings) (rightLength ports sizes) (λ z. omega arith), q))
 
-    pub fault-long : n * 4 < length settings → record { part = Settings; offset = n * 4 } ≡ settingsFault settings ports sizes
+    pub fault-long : right < length settings → record { part = Settings; offset = right } ≡ settingsFault settings ports sizes
     unfolding settingsFault
     fault-long h =
-        let q : min (length settings) (rightLength ports sizes) ≡ n * 4 = omega arith in
+        let q : min (length settings) (rightLength ports sizes) ≡ right = omega arith in
         sym (rw (ne-eqb (length settings) (rightLength ports sizes) (λ z. omega arith), q))
 
   -- settings of the right length

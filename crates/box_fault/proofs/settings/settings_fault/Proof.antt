@@ -8,17 +8,11 @@ use Rattle.box_fault.proofs.settings.settings_fault.Tie as tie
 words-of-requires : tie.Need-words-of-requires
 words-of-requires c κs = search needs
 
-mul-if1 : tie.Need-mul-if1
-mul-if1 c = search needs
+mul-right : tie.Need-mul-right
+mul-right c = search needs
 
 returns : tie.Need-returns
 returns c = search (needs, length-laws)
-
-mul-if2 : tie.Need-mul-if2
-mul-if2 c = search needs
-
-mul-t13 : tie.Need-mul-t13
-mul-t13 c = search needs
 
 returns-2 : tie.Need-returns-2
 returns-2 c = search (needs, length-laws)
@@ -40,10 +34,8 @@ settings-fault-spec =
     tie.close
     (tie.spec
     words-of-requires
-    mul-if1
+    mul-right
     returns
-    mul-if2
-    mul-t13
     returns-2
     array-borrow-prefix-room
     slice-aggregate-words
