@@ -1,6 +1,6 @@
 -- Laws of the fault of a box: the first part that breaks its rule decides.
 use Prim.Native.Nat.{ℕ, _≤_, _<_}
-use mathlib.Core.Path.{_≡_, sym, ap, _∙_}
+use mathlib.Core.Path.{_≡_, sym, _∙_}
 use mathlib.Core.List.{List}
 use mathlib.Core.Bool.{Bool, true, false, not}
 use lib.ListN.{length}
@@ -8,7 +8,7 @@ use borrow.Author.Tests.{le-leb, lt-leb, not-true, not-false}
 use Rattle.entries.specs.Entry.{count}
 use Rattle.names.specs.Rule.{namesRight}
 use Rattle.names.proofs.Rules as N
-use Rattle.roll.specs.Table.{Tabled, TableRead}
+use Rattle.roll.specs.Table.{TableRead}
 use Rattle.roll_rule.specs.Rule.{rollRight}
 use Rattle.roll_rule.proofs.Laws as R
 use Rattle.layout.specs.declared.Sizes.{Sizes}

@@ -2,20 +2,20 @@
 --     roll-beginning       a beginning of a port roll that is whole records is a port roll
 --     list-beginning       so is one of a name list
 --     settings-beginning   fewer words of right settings, with zeros behind them, are right settings
---     zeros-behind         a word is the same with zeros behind the last, which is followed by none
+--     first-word           behind the longest such beginning stands the first word that holds a bit at or past N of its set
 use Prim.Native.Nat.{ℕ, _+_, _-_, _*_, _/_, _%_, _^_, _≤_, _<_}
-use mathlib.Core.Path.{_≡_, sym, ap, _∙_}
-use mathlib.Core.List.{List, _++_}
+use mathlib.Core.Path.{_≡_, refl, sym, ap, _∙_}
+use mathlib.Core.List.{List, _++_, append-nil}
 use mathlib.Core.Logic.{⊎-elim}
 use lib.ListN.{length, take, getD, replicate, length-append, length-replicate, length-take, getD-replicate, List·getD-append, List·getD-eq-default}
-use lib.Seq.{length-take-le, getD-take, getD-append-add}
+use lib.Seq.{length-take-le, take-all, take-length, getD-take, getD-append-add}
 use native.Mathlib.Nat.{zero-div}
 use native.Mathlib.Omega.{arith}
 use Rattle.basics.specs.Numbers.{u32At}
 use Rattle.basics.proofs.Order.{lt-or-ge}
 use Rattle.bits.specs.Bit.{bit}
 use Rattle.demands.specs.BoxRules.{NameField, FieldsDiffer, NameList, RollRecord, PortRoll, ClearFrom, Settings}
-use Rattle.demands.specs.BoxFault.{allWords, zerosBehind, RightBeginning}
+use Rattle.demands.specs.BoxFault.{LongestRight, allWords, zerosBehind, RightBeginning, ClearAt, ClearWord, FirstWord}
 
 -- the first n bytes: what stands in them is as before
 module _ (s : List ℕ) (n : ℕ) where
@@ -115,7 +115,7 @@ none-there n j =
     (λ (l : n ≤ j). List·getD-eq-default (replicate n 0) 0 (omega (arith, length-replicate {A = ℕ} n 0)))
     (lt-or-ge j n)
 
-pub zeros-behind : (n : ℕ) (words : List ℕ) (j : ℕ) → getD (zerosBehind n words) j 0 ≡ getD words j 0
+zeros-behind : (n : ℕ) (words : List ℕ) (j : ℕ) → getD (zerosBehind n words) j 0 ≡ getD words j 0
 unfolding zerosBehind
 zeros-behind n words j =
     ⊎-elim
@@ -127,27 +127,86 @@ zeros-behind n words j =
     ∙ sym (List·getD-eq-default words 0 l))
     (lt-or-ge j (length words))
 
-module _ (ports debug flags : ℕ) (words : List ℕ) (r : RightBeginning ports debug flags words) (k : ℕ) where
-  abbrev n : ℕ
-  n = allWords ports debug flags
+zeros-none : (n : ℕ) (words : List ℕ) → length words ≡ n → zerosBehind n words ≡ words
+unfolding zerosBehind
+zeros-none n words e = let q : n - length words ≡ 0 = omega arith in ap (λ (k : ℕ). words ++ replicate k 0) q ∙ append-nil words
 
-  -- a word is the same or 0
-  clear-same : (x at : ℕ) → ClearFrom x (zerosBehind n words) at → ClearFrom x (zerosBehind n (take k words)) at
-  clear-same x at h i l u =
-      ⊎-elim
-      (λ (v : at + i / 32 < k). ap (λ (y : ℕ). bit y (i % 32))
-      (zeros-behind n (take k words) (at + i / 32) ∙ getD-take k words (at + i / 32) 0 v ∙ sym (zeros-behind n words (at + i / 32))) ∙ h i l u)
-      (λ (v : k ≤ at + i / 32). ap (λ (y : ℕ). bit y (i % 32))
-      (zeros-behind n (take k words) (at + i / 32)
-      ∙ List·getD-eq-default (take k words) 0 (let e = length-take k words in omega arith))
-      ∙ ap (λ (y : ℕ). y % 2) (zero-div (2 ^ (i % 32))))
-      (lt-or-ge (at + i / 32) k)
+-- so many words and zeros, of which each word is clear
+module _ (ports debug flags : ℕ) where
+  abbrev all : ℕ
+  all = allWords ports debug flags
 
-  pub settings-beginning : RightBeginning ports debug flags (take k words)
-  settings-beginning =
-      let long = long-zeros n words (r .exact) in
-      record {
-        exact = zeros-long n (take k words) (let e = length-take k words in omega arith);
-        debug-clear = λ p l. clear-same debug _ (r .debug-clear p l);
-        flags-clear = λ p l. clear-same flags _ (r .flags-clear p l);
-      }
+  -- the bits of a word
+  bit-same : (x y b : ℕ) → x ≡ y → bit x b ≡ bit y b
+  bit-same x y b e = ap (λ (z : ℕ). bit z b) e
+
+  bit-none : (x b : ℕ) → x ≡ 0 → bit x b ≡ 0
+  bit-none x b e = bit-same x 0 b e ∙ ap (λ (y : ℕ). y % 2) (zero-div (2 ^ b))
+
+  module _ (words : List ℕ) (n : ℕ) (few : length (take n words) ≤ all) (clear : (j : ℕ) → j < n → ClearWord ports debug flags words j) where
+    from-clear : (N at : ℕ) → ((j : ℕ) → j < n → ClearAt N words at j) → ClearFrom N (zerosBehind all (take n words)) at
+    from-clear N at h i l u =
+        ⊎-elim
+        (λ (v : at + i / 32 < n). bit-same _ _ (i % 32) (zeros-behind all (take n words) (at + i / 32) ∙ getD-take n words (at + i / 32) 0 v)
+        ∙ h (at + i / 32) v i l u refl)
+        (λ (v : n ≤ at + i / 32). bit-none _ (i % 32)
+        (zeros-behind all (take n words) (at + i / 32) ∙ List·getD-eq-default (take n words) 0 (let e = length-take n words in omega arith)))
+        (lt-or-ge (at + i / 32) n)
+
+    clear-right : RightBeginning ports debug flags (take n words)
+    clear-right =
+        record {
+          exact = zeros-long all (take n words) few;
+          debug-clear = λ p l. from-clear debug _ (λ j u. clear j u .debug-clear p l);
+          flags-clear = λ p l. from-clear flags _ (λ j u. clear j u .flags-clear p l);
+        }
+
+  module _ (words : List ℕ) (n : ℕ) (r : RightBeginning ports debug flags (take n words)) where
+    to-clear : (N at : ℕ) → ClearFrom N (zerosBehind all (take n words)) at → (j : ℕ) → j < n → ClearAt N words at j
+    to-clear N at h j l i low high e =
+        bit-same _ _ (i % 32)
+        (sym (zeros-behind all (take n words) (at + i / 32) ∙ ap (λ (k : ℕ). getD (take n words) k 0) e ∙ getD-take n words j 0 l))
+        ∙ h i low high
+
+    right-clear : (j : ℕ) → j < n → ClearWord ports debug flags words j
+    right-clear j l =
+        record {
+          debug-clear = λ p u. to-clear debug _ (r .debug-clear p u) j l;
+          flags-clear = λ p u. to-clear flags _ (r .flags-clear p u) j l;
+        }
+
+  pub settings-beginning : (words : List ℕ) → RightBeginning ports debug flags words → (k : ℕ) → k ≤ length words → RightBeginning ports debug flags (take k words)
+  settings-beginning words r k u =
+      let long = long-zeros all words (r .exact) in
+      let whole : RightBeginning ports debug flags (take (length words) words) = rw (take-length words) r in
+      clear-right words k (let e = length-take k words in omega arith) (λ j l. right-clear words (length words) whole j (omega arith))
+
+  -- the first word at fault
+  module _ (words : List ℕ) (exact : length words ≡ all) (wrong : Settings ports debug flags words → ⊥) (n : ℕ)
+      (longest : LongestRight (RightBeginning ports debug flags) 1 words n) where
+    clear-before : (j : ℕ) → j < n → ClearWord ports debug flags words j
+    clear-before j l = right-clear words n (longest .right (omega arith)) j l
+
+    shorter-right : (k : ℕ) → k ≤ length words → ((j : ℕ) → j < k → ClearWord ports debug flags words j) → RightBeginning ports debug flags (take k words)
+    shorter-right k u clear = clear-right words k (let e = length-take k words in omega arith) clear
+
+    not-all : n < length words
+    not-all =
+        ⊎-elim
+        (λ (l : n < length words). l)
+        (λ (l : length words ≤ n). absurd
+        (wrong (rw (take-all n words l, zeros-none all words exact) at (shorter-right n (longest .inside) clear-before))))
+        (lt-or-ge n (length words))
+
+    next-clear : ClearWord ports debug flags words n → (j : ℕ) → j < n + 1 → ClearWord ports debug flags words j
+    next-clear here j l =
+        ⊎-elim (λ (u : j < n). clear-before j u) (λ (u : n ≤ j). let q : n ≡ j = omega arith in rw q at here) (lt-or-ge j n)
+
+    pub first-word : FirstWord ports debug flags words n
+    first-word =
+        record {
+          longest = longest;
+          inside = not-all;
+          before = clear-before;
+          here = λ c. let u = not-all in longest .longer (n + 1) (omega arith) (omega arith) (shorter-right (n + 1) (omega arith) (next-clear c));
+        }

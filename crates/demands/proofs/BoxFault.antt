@@ -2,109 +2,85 @@
 --     fault-told     the number and the offset are as `FaultTold` says
 --     kept-rules     where every part keeps its rule the box keeps `StoredRules`, at any position of a datagram
 --     rules-kept     and where it does every part keeps its rule
-use Prim.Native.Nat.{ℕ, zero, suc, _-_, _*_, _≤_, _<_, min}
-use mathlib.Core.Path.{_≡_, refl, sym, ap, _∙_}
-use mathlib.Core.List.{List, _++_}
+use Prim.Native.Nat.{ℕ, suc, _*_, _≤_, _<_, min}
+use mathlib.Core.Path.{_≡_, refl}
+use mathlib.Core.List.{List}
 use mathlib.Core.Bool.{Bool, true, false, not, cond}
 use mathlib.Core.Logic.{⊎-elim}
-use lib.ListN.{length, take, drop, replicate}
-use lib.Seq.{length-take-le, take-take}
+use lib.ListN.{length}
 use lib.Dec.{leb, eqb}
 use native.Mathlib.Omega.{arith}
-use borrow.Author.Tests.{eq-eqb, eqb-true, eqb-false, le-leb, leb-true}
-use Rattle.basics.specs.Put.{put}
+use borrow.Author.Tests.{eqb-true, eqb-false, le-leb, leb-true}
 use Rattle.basics.proofs.Order.{lt-or-ge}
 use Rattle.basics.proofs.Truth.{both-true, clash}
 use Rattle.word_bytes.specs.Bytes.{wordsIn}
 use Rattle.word_bytes.proofs.WordBytes.{length-wordsIn}
 use Rattle.names.specs.Rule.{namesRight}
 use Rattle.roll_rule.specs.Rule.{rollRight}
-use Rattle.layout.specs.declared.Sizes.{Sizes}
-use Rattle.layout.specs.Layout.{widthsOf, portWords, totalWords}
 use Rattle.boxes.specs.Box.{Box, portsIn, sizesIn}
 use Rattle.boxes.specs.Rule.{familyRight, adminRight}
 use Rattle.boxes.specs.Settings.{settingsRight}
 use Rattle.box_fault.specs.Longest.{rightUpTo}
-use Rattle.box_fault.specs.Settings.{faultAt, rightLength, withZeros, rightWithZeros, settingsFault}
+use Rattle.box_fault.specs.Settings.{faultAt, rightLength, rightWithZeros, settingsFault}
 use Rattle.box_fault.specs.Fault.{partNumber, boxFault}
 use Rattle.box_fault.specs.declared.Fault.{Fault}
 use Rattle.box_fault.specs.declared.Part.{Part}
 use Rattle.box_fault.specs.declared.Part.the-variants as P
-use Rattle.box_fault.proofs.longest.Laws.{up-to-inside, up-to-right, up-to-most}
-use Rattle.handler.specs.Bytes.{Stored}
 use Rattle.demands.specs.BoxRules.{NameList, PortRoll, Settings, StoredRules}
-use Rattle.demands.specs.BoxFault.{BoxParts, callAt, Exactly, Kept, AllKept, FirstBroken, LongestRight, allWords, zerosBehind, RightBeginning, SettingsPlace, Place, FaultTold}
+use Rattle.demands.specs.BoxFault.{BoxParts, callAt, Exactly, Kept, AllKept, FirstBroken, LongestRight, SettingsPlace, FaultTold}
 use Rattle.demands.specs.BoxFault.Kept.{family-kept, admin-kept, roll-kept, debug-kept, flags-kept, settings-kept}
-use Rattle.demands.specs.BoxFault.Place.{nowhere, in-roll, in-debug, in-flags, in-settings}
 use Rattle.demands.proofs.BoxNames.{list-exactly}
 use Rattle.demands.proofs.BoxRoll.{roll-exactly}
 use Rattle.demands.proofs.BoxRules.{settings-exactly, told, counted}
-use Rattle.demands.proofs.BoxBeginnings.{roll-beginning, list-beginning, settings-beginning}
+use Rattle.demands.proofs.BoxPlace.{roll-longest, list-longest, place-other, place-exact, right-long}
 
--- the longest beginning that the code finds, where its test is the rule
-module _ (right : List ℕ → Bool) (Rule : List ℕ → Type 0) (exactly : (s : List ℕ) → Exactly (right s ≡ true) (Rule s)) (item : ℕ)
-    (some : (k : ℕ) → 1 ≤ k → 1 ≤ k * item) (cut : (s : List ℕ) → Rule s → (k : ℕ) → 1 ≤ k → k * item ≤ length s → Rule (take (k * item) s))
-    (s : List ℕ) where
-  abbrev end : ℕ
-  end = rightUpTo right s
+-- the offset, by the number of the part
+data Place (c : BoxParts) : ℕ → ℕ → Type 0 where
+  none : (n : ℕ) → n ≤ 2 → Place c n 0
+  roll-place : (o : ℕ) → LongestRight PortRoll 21 (c .box .roll) o → Place c 3 o
+  debug-place : (o : ℕ) → LongestRight NameList 32 (c .box .names .debug) o → Place c 4 o
+  flags-place : (o : ℕ) → LongestRight NameList 32 (c .box .names .flags) o → Place c 5 o
+  settings-place : (o : ℕ)
+      → ((roll : PortRoll (c .box .roll)) (debug : NameList (c .box .names .debug)) (flags : NameList (c .box .names .flags))
+      → SettingsPlace (roll .ports) (debug .entries) (flags .entries) (c .settings .settings) o) → Place c 6 o
 
-  is-right : 0 < end → Rule (take end s)
-  is-right l = exactly (take end s) .0 (up-to-right right s l)
+module _ (c : BoxParts) where
+  nowhere-of : {n o : ℕ} → Place c n o → n ≤ 2 → o ≡ 0
+  nowhere-of (none n l) e = refl
+  nowhere-of (roll-place o p) e = absurd (omega arith)
+  nowhere-of (debug-place o p) e = absurd (omega arith)
+  nowhere-of (flags-place o p) e = absurd (omega arith)
+  nowhere-of (settings-place o p) e = absurd (omega arith)
 
-  longest-right : LongestRight Rule item s end
-  longest-right =
-      record {
-        inside = up-to-inside right s;
-        right = is-right;
-        longer = λ n l u r. up-to-most right s n l u (exactly (take n s) .1 r);
-        shorter = λ k l u. let positive = some k l in
-            let long = length-take-le end s (up-to-inside right s) in
-            rw (take-take (k * item) end s u) at (cut (take end s) (is-right (omega arith)) k l (omega arith));
-      }
+  roll-place-of : {n o : ℕ} → Place c n o → n ≡ 3 → LongestRight PortRoll 21 (c .box .roll) o
+  roll-place-of (none n l) e = absurd (omega arith)
+  roll-place-of (roll-place o p) e = p
+  roll-place-of (debug-place o p) e = absurd (omega arith)
+  roll-place-of (flags-place o p) e = absurd (omega arith)
+  roll-place-of (settings-place o p) e = absurd (omega arith)
 
--- settings
-drop-zeros : (m n : ℕ) → _≡_ {A = List ℕ} (drop m (replicate n 0)) (replicate (n - m) 0)
-drop-zeros zero n = let q : n - 0 ≡ n = omega arith in rw q
-drop-zeros (suc m) zero = let q : 0 - suc m ≡ 0 = omega arith in rw q
-drop-zeros (suc m) (suc n) = let q : suc n - suc m ≡ n - m = omega arith in rw q (drop-zeros m n)
+  debug-place-of : {n o : ℕ} → Place c n o → n ≡ 4 → LongestRight NameList 32 (c .box .names .debug) o
+  debug-place-of (none n l) e = absurd (omega arith)
+  debug-place-of (roll-place o p) e = absurd (omega arith)
+  debug-place-of (debug-place o p) e = p
+  debug-place-of (flags-place o p) e = absurd (omega arith)
+  debug-place-of (settings-place o p) e = absurd (omega arith)
 
-module _ (ports : ℕ) (sizes : Sizes) where
-  abbrev all : ℕ
-  all = allWords ports (sizes .debug) (sizes .flags)
+  flags-place-of : {n o : ℕ} → Place c n o → n ≡ 5 → LongestRight NameList 32 (c .box .names .flags) o
+  flags-place-of (none n l) e = absurd (omega arith)
+  flags-place-of (roll-place o p) e = absurd (omega arith)
+  flags-place-of (debug-place o p) e = absurd (omega arith)
+  flags-place-of (flags-place o p) e = p
+  flags-place-of (settings-place o p) e = absurd (omega arith)
 
-  abbrev Begins : List ℕ → Type 0
-  Begins words = RightBeginning ports (sizes .debug) (sizes .flags) words
-
-  zeros-are : (words : List ℕ) → withZeros ports sizes words ≡ zerosBehind all words
-  unfolding withZeros zerosBehind put totalWords portWords
-  zeros-are words = ap (λ (l : List ℕ). words ++ l) (drop-zeros (length words) all)
-
-  begins-exactly : (words : List ℕ) → Exactly (rightWithZeros ports sizes words ≡ true) (Begins words)
-  unfolding rightWithZeros
-  begins-exactly words = rw (zeros-are words) (settings-exactly (zerosBehind all words) ports sizes)
-
-  right-long : rightLength ports sizes ≡ all * 4
-  unfolding totalWords portWords
-  right-long = refl
-
-  module _ (settings : List ℕ) where
-    place-other : (length settings ≡ rightLength ports sizes → ⊥)
-        → SettingsPlace ports (sizes .debug) (sizes .flags) settings (min (length settings) (rightLength ports sizes))
-    place-other n =
-        let l = right-long in
-        record { inside = omega arith; other = λ z. ap (min (length settings)) l; exact = λ e. absurd (n (e ∙ sym l)) }
-
-    place-exact : length settings ≡ rightLength ports sizes
-        → SettingsPlace ports (sizes .debug) (sizes .flags) settings (rightUpTo (rightWithZeros ports sizes) (wordsIn settings) * 4)
-    place-exact e =
-        let longest = longest-right (rightWithZeros ports sizes) Begins begins-exactly 1 (λ k l. omega arith)
-        (λ s r k l u. settings-beginning ports (sizes .debug) (sizes .flags) s r (k * 1)) (wordsIn settings) in
-        let inside = longest .inside in
-        record {
-          inside = omega (arith, length-wordsIn settings);
-          other = λ n. absurd (n (e ∙ right-long));
-          exact = λ z. (rightUpTo (rightWithZeros ports sizes) (wordsIn settings), refl, longest);
-        }
+  settings-place-of : {n o : ℕ} → Place c n o → n ≡ 6
+      → (roll : PortRoll (c .box .roll)) (debug : NameList (c .box .names .debug)) (flags : NameList (c .box .names .flags))
+      → SettingsPlace (roll .ports) (debug .entries) (flags .entries) (c .settings .settings) o
+  settings-place-of (none n l) e = absurd (omega arith)
+  settings-place-of (roll-place o p) e = absurd (omega arith)
+  settings-place-of (debug-place o p) e = absurd (omega arith)
+  settings-place-of (flags-place o p) e = absurd (omega arith)
+  settings-place-of (settings-place o p) e = p
 
 -- which part is told
 module _ (c : BoxParts) where
@@ -134,17 +110,27 @@ module _ (c : BoxParts) where
   first-told : (n o : ℕ) → 1 ≤ n → n ≤ 6 → FirstBroken c n → Place c n o → FaultTold c n o
   first-told n o l u f p =
       record {
+        numbers = u;
         sound = (λ z. absurd (omega arith), λ all. absurd (f .1 (all n l u)));
         first = λ k lk uk. (λ (e : n ≡ k). rw e at f, λ g. first-one n k l lk f g);
-        place = p;
+        nowhere = nowhere-of c p;
+        in-roll = roll-place-of c p;
+        in-debug = debug-place-of c p;
+        in-flags = flags-place-of c p;
+        in-settings = settings-place-of c p;
       }
 
   sound-told : AllKept c → FaultTold c 0 0
   sound-told all =
       record {
+        numbers = omega arith;
         sound = (λ z. all, λ a. refl);
         first = λ k l u. (λ e. absurd (omega arith), λ f. absurd (f .1 (all k l u)));
-        place = nowhere 0 (omega arith);
+        nowhere = λ l. refl;
+        in-roll = λ e. absurd (omega arith);
+        in-debug = λ e. absurd (omega arith);
+        in-flags = λ e. absurd (omega arith);
+        in-settings = λ e. absurd (omega arith);
       }
 
   abbrev Tells : Fault → Type 0
@@ -192,12 +178,6 @@ module _ (c : BoxParts) where
   flags-stage : Exactly (namesRight (box .names .flags) ≡ true) (Kept c 5)
   flags-stage = (λ h. flags-kept (list-exactly _ .0 h), λ k. list-exactly _ .1 (flags-of k))
 
-  list-longest : (s : List ℕ) → LongestRight NameList 32 s (rightUpTo namesRight s)
-  list-longest s = longest-right namesRight NameList list-exactly 32 (λ k l. omega arith) list-beginning s
-
-  roll-longest : LongestRight PortRoll 21 (box .roll) (rightUpTo rollRight (box .roll))
-  roll-longest = longest-right rollRight PortRoll roll-exactly 21 (λ k l. omega arith) roll-beginning (box .roll)
-
   -- the settings, of which the length is judged first
   abbrev Lent : ℕ → ℕ → ℕ → Type 0
   Lent ports debug flags = Settings ports debug flags (wordsIn stored)
@@ -213,11 +193,8 @@ module _ (c : BoxParts) where
   from-settings b =
       go (eqb (length stored) (rightLength (portsIn box) (sizesIn box))) (settingsRight (wordsIn stored) (portsIn box) (sizesIn box)) refl refl
     where
-      Placed : ℕ → Type 0
-      Placed o = SettingsPlace (portsIn box) (sizesIn box .debug) (sizesIn box .flags) stored o
-
       placed : (o : ℕ) → SettingsPlace (portsIn box) (sizesIn box .debug) (sizesIn box .flags) stored o → Place c 6 o
-      placed o p = in-settings o (λ roll debug flags. told box roll debug flags (λ x y z. SettingsPlace x y z stored o) p)
+      placed o p = settings-place o (λ roll debug flags. told box roll debug flags (λ x y z. SettingsPlace x y z stored o) p)
 
       all-kept : length stored ≡ rightLength (portsIn box) (sizesIn box) → settingsRight (wordsIn stored) (portsIn box) (sizesIn box) ≡ true → AllKept c
       all-kept e h n l u =
@@ -235,17 +212,17 @@ module _ (c : BoxParts) where
           first-told 6 _ (omega arith) (omega arith) (b, λ k. n (kept-settings k .0)) (placed _ (place-other (portsIn box) (sizesIn box) stored n))
       go true false et eu =
           first-told 6 _ (omega arith) (omega arith) (b, λ k. clash (kept-settings k .1) eu)
-          (placed _ (place-exact (portsIn box) (sizesIn box) stored (eqb-true _ _ et)))
+          (placed _ (place-exact (portsIn box) (sizesIn box) stored (eqb-true _ _ et) eu))
       go true true et eu = sound-told (all-kept (eqb-true _ _ et) eu)
 
   pub fault-told : Tells (boxFault (c .family) (c .admin) box stored)
   unfolding boxFault
   fault-told =
-      stage P.Family 0 _ _ (omega arith) (omega arith) family-exactly (nowhere 1 (omega arith)) before-one
-      (λ b1. stage P.Admin 0 _ _ (omega arith) (omega arith) admin-exactly (nowhere 2 (omega arith)) b1
-      (λ b2. stage P.Roll _ _ _ (omega arith) (omega arith) roll-stage (in-roll _ roll-longest) b2
-      (λ b3. stage P.DebugNames _ _ _ (omega arith) (omega arith) debug-stage (in-debug _ (list-longest _)) b3
-      (λ b4. stage P.FlagNames _ _ _ (omega arith) (omega arith) flags-stage (in-flags _ (list-longest _)) b4 from-settings))))
+      stage P.Family 0 _ _ (omega arith) (omega arith) family-exactly (none 1 (omega arith)) before-one
+      (λ b1. stage P.Admin 0 _ _ (omega arith) (omega arith) admin-exactly (none 2 (omega arith)) b1
+      (λ b2. stage P.Roll _ _ _ (omega arith) (omega arith) roll-stage (roll-place _ (roll-longest _)) b2
+      (λ b3. stage P.DebugNames _ _ _ (omega arith) (omega arith) debug-stage (debug-place _ (list-longest _)) b3
+      (λ b4. stage P.FlagNames _ _ _ (omega arith) (omega arith) flags-stage (flags-place _ (list-longest _)) b4 from-settings))))
 
   -- every part, and the rules of the box over bytes
   pub kept-rules : AllKept c → (position : ℕ) → StoredRules box (c .settings) (callAt c position)

@@ -35,4 +35,5 @@ pub mod BoxRoll
 pub mod BoxRules
 pub mod BoxRefused
 pub mod BoxBeginnings
+pub mod BoxPlace
 pub mod BoxFault

@@ -3,7 +3,8 @@
 use Prim.Native.Nat.{ℕ, _+_, _-_, _*_, _/_, _%_, _≤_, _<_, min}
 use mathlib.Core.Path.{_≡_}
 use mathlib.Core.List.{List, _++_}
-use lib.ListN.{length, take, replicate}
+use lib.ListN.{length, take, getD, replicate}
+use Rattle.bits.specs.Bit.{bit}
 use Rattle.word_bytes.specs.Bytes.{wordsIn}
 use Rattle.boxes.specs.Box.{Box}
 use Rattle.boxes.specs.declared.Call.{Call}
@@ -62,26 +63,38 @@ zerosBehind n words = words ++ replicate (n - length words) 0
 abbrev pub RightBeginning : ℕ → ℕ → ℕ → List ℕ → Type 0
 RightBeginning ports debug flags words = Settings ports debug flags (zerosBehind (allWords ports debug flags) words)
 
--- where settings are at fault: of another length, at the smaller of both lengths; else behind the longest beginning of whole words that is right
+-- word j is no word of a set of N bits that begins at a place, or it holds no bit of it from N on
+abbrev pub ClearAt : ℕ → List ℕ → ℕ → ℕ → Type 0
+ClearAt N words at j = (i : ℕ) → N ≤ i → i < (N + 31) / 32 * 32 → at + i / 32 ≡ j → bit (getD words j 0) (i % 32) ≡ 0
+
+-- word j holds no bit at or past N of its set
+pub record ClearWord (ports debug flags : ℕ) (words : List ℕ) (j : ℕ) : Type 0 where
+  pub debug-clear : (p : ℕ) → p < ports → ClearAt debug words (p * ((debug + 31) / 32 + (flags + 31) / 32)) j
+  pub flags-clear : (p : ℕ) → p < ports → ClearAt flags words (p * ((debug + 31) / 32 + (flags + 31) / 32) + (debug + 31) / 32) j
+
+-- the first word at fault: behind the longest beginning of whole words that is right with zeros behind it; it is the first that holds a bit at or past N of its set
+pub record FirstWord (ports debug flags : ℕ) (words : List ℕ) (n : ℕ) : Type 0 where
+  pub longest : LongestRight (RightBeginning ports debug flags) 1 words n
+  pub inside : n < length words
+  pub before : (j : ℕ) → j < n → ClearWord ports debug flags words j
+  pub here : ClearWord ports debug flags words n → ⊥
+
+-- where settings are at fault: of another length, at the smaller of both lengths; else where the first word at fault begins
 pub record SettingsPlace (ports debug flags : ℕ) (settings : List ℕ) (offset : ℕ) : Type 0 where
   pub inside : offset ≤ length settings
   pub other : (length settings ≡ allWords ports debug flags * 4 → ⊥) → offset ≡ min (length settings) (allWords ports debug flags * 4)
-  pub exact : length settings ≡ allWords ports debug flags * 4
-      → (n : ℕ) × (offset ≡ n * 4) × LongestRight (RightBeginning ports debug flags) 1 (wordsIn settings) n
+  pub exact : length settings ≡ allWords ports debug flags * 4 → (n : ℕ) × (offset ≡ n * 4) × FirstWord ports debug flags (wordsIn settings) n
 
--- the offset, by the number of the part: a record of a roll has 21 bytes, an entry of a list 32
-pub data Place (c : BoxParts) : ℕ → ℕ → Type 0 where
-  nowhere : (n : ℕ) → n ≤ 2 → Place c n 0
-  in-roll : (offset : ℕ) → LongestRight PortRoll 21 (c .box .roll) offset → Place c 3 offset
-  in-debug : (offset : ℕ) → LongestRight NameList 32 (c .box .names .debug) offset → Place c 4 offset
-  in-flags : (offset : ℕ) → LongestRight NameList 32 (c .box .names .flags) offset → Place c 5 offset
-  in-settings : (offset : ℕ)
-      → ((roll : PortRoll (c .box .roll)) (debug : NameList (c .box .names .debug)) (flags : NameList (c .box .names .flags))
-      → SettingsPlace (roll .ports) (debug .entries) (flags .entries) (c .settings .settings) offset)
-      → Place c 6 offset
-
--- what is told: 0 exactly where every part keeps its rule, the number of a part exactly where it is the first that does not, and the offset in it
+-- what is told: 0 exactly where every part keeps its rule, the number of a part exactly where it is the first that does not, and the offset in it: in a roll, whose records have
+-- 21 bytes, and in a list, whose entries have 32, where the longest right beginning ends
 pub record FaultTold (c : BoxParts) (number offset : ℕ) : Type 0 where
+  pub numbers : number ≤ 6
   pub sound : Exactly (number ≡ 0) (AllKept c)
   pub first : (n : ℕ) → 1 ≤ n → n ≤ 6 → Exactly (number ≡ n) (FirstBroken c n)
-  pub place : Place c number offset
+  pub nowhere : number ≤ 2 → offset ≡ 0
+  pub in-roll : number ≡ 3 → LongestRight PortRoll 21 (c .box .roll) offset
+  pub in-debug : number ≡ 4 → LongestRight NameList 32 (c .box .names .debug) offset
+  pub in-flags : number ≡ 5 → LongestRight NameList 32 (c .box .names .flags) offset
+  pub in-settings : number ≡ 6
+      → (roll : PortRoll (c .box .roll)) (debug : NameList (c .box .names .debug)) (flags : NameList (c .box .names .flags))
+      → SettingsPlace (roll .ports) (debug .entries) (flags .entries) (c .settings .settings) offset

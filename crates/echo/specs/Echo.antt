@@ -1,6 +1,6 @@
 -- The example family: what its one command reads, and its answers.
 use Prim.Native.Nat.{ℕ, _-_}
-use mathlib.Core.List.{List, [], _∷_, _++_}
+use mathlib.Core.List.{List, [], _++_}
 use mathlib.Core.Bool.{cond, not}
 use lib.ListN.{getD, set, replicate}
 use lib.Dec.{eqb, ltb}

@@ -1,13 +1,12 @@
 -- What C gets back from `ethnl_check_box`, from its contract alone.
 --     checked    the number and the offset are as `Checked` says, whatever was lent
 use Prim.Native.Nat.{ℕ, _≤_, _<_}
-use mathlib.Core.Path.{_≡_, refl, sym, ap, _∙_}
+use mathlib.Core.Path.{_≡_, refl, ap, _∙_}
 use mathlib.Core.List.{List}
 use mathlib.Core.Logic.{⊎-elim}
 use lib.ListN.{length}
 use native.Mathlib.Omega.{arith}
 use Rattle.basics.proofs.Order.{lt-or-ge}
-use Rattle.refusal.specs.declared.Refusal.the-variants as R
 use Rattle.response.specs.Answer.{kindNumber, refusalNumber}
 use Rattle.response.specs.declared.Kind.{Kind}
 use Rattle.response.specs.declared.Kind.the-variants.{End, Skipped, Done, Refused}
@@ -16,7 +15,7 @@ use Rattle.demands.specs.BoxRules.{StoredRules}
 use Rattle.demands.specs.BoxFault.{BoxParts, callAt, Exactly, FaultTold}
 use Rattle.demands.proofs.BoxFault.{fault-told, kept-rules, rules-kept}
 use Rattle.demands.proofs.BoxRefused.{broken-exactly, kept-second}
-use Rattle.exported.specs.Returned.{Lent, Left, Leaves}
+use Rattle.exported.specs.Returned.{Left, Leaves}
 use Rattle.exported.specs.Checked.{CheckLeft, CheckLeaves, lentWith, Checked}
 
 module _ (c : BoxParts) (r : CheckLeft) (h : CheckLeaves c r) where

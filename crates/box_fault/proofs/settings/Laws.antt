@@ -1,7 +1,7 @@
 -- Laws of the fault of settings.
 use Prim.Native.Nat.{ℕ, suc, _*_, _-_, _≤_, _<_, min}
 use mathlib.Core.Path.{_≡_, sym, ap, _∙_}
-use mathlib.Core.List.{List, [], _∷_, _++_}
+use mathlib.Core.List.{List}
 use mathlib.Core.Bool.{Bool, true, false}
 use lib.ListN.{length, take, set, getD, replicate, length-replicate, getD-replicate}
 use lib.Seq.{length-take-le, take-length, take-suc, set-set, set-getD}
