@@ -67,7 +67,7 @@ extern "C" {
 #define ETHNL_VERSION_STRING ETHNL_DOTTED(ETHNL_VERSION_MAJOR, ETHNL_VERSION_MINOR, ETHNL_VERSION_PATCH) /* major.minor.patch */
 #define ETHNL_DOTTED(major, minor, patch) ETHNL_DOTTED_TEXT(major, minor, patch)
 #define ETHNL_DOTTED_TEXT(major, minor, patch) #major "." #minor "." #patch
-#define ETHNL_LEVEL 0 /* the number of the highest request (C-NN of docs/PLAN.md) that the library has; 0: none */
+#define ETHNL_LEVEL 0 /* the number of the highest change request that the library has; 0: none */
 
 /* Sizes in bytes. */
 #define ETHNL_PAGE_MIN 32768     /* shortest answer page of ethnl_handle */
