@@ -1,5 +1,6 @@
 -- The rules of the box, both ways: what the code calls a right box is what document 01 says of it over bytes and words (`demands` BoxRules).
 --     settings-exactly  settings are right exactly when they are the words of all ports, with no bit at or past N in any set
+--     told, counted     the numbers that roll and lists tell are those by which the code places the sets
 --     box-exactly       a box is right exactly when it keeps `BoxRules`
 --     stored-exactly    so it is over bytes, where the settings are whole words
 use Prim.Native.Nat.{ℕ, _+_, _*_, _/_, _%_, _≤_, _<_}
@@ -101,7 +102,7 @@ module _ (words : List ℕ) (ports : ℕ) (sizes : Sizes) where
       × (Settings ports (sizes .debug) (sizes .flags) words → settingsRight words ports sizes ≡ true)
   settings-exactly = (settings-means, means-settings)
 
--- the numbers that the roll and the lists tell are those by which the code places the sets
+-- what holds of the numbers that roll and lists tell, and of those by which the code places the sets
 module _ (box : Box) (roll : PortRoll (box .roll)) (debug : NameList (box .names .debug)) (flags : NameList (box .names .flags)) (P : ℕ → ℕ → ℕ → Type 0) where
   pub told : P (portsIn box) (sizesIn box .debug) (sizesIn box .flags) → P (roll .ports) (debug .entries) (flags .entries)
   told s = rw (← rules-counted (box .roll) roll, ← list-counted (box .names .debug) debug, ← list-counted (box .names .flags) flags) s
