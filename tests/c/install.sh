@@ -49,7 +49,7 @@ builds() {
 check_same "a missing archive is built" "$(builds)" "staticlib ethnl"
 check_same "one that is there is not built again" "$(builds)" ""
 touch -d '1 hour ago' "$out/tree/target/staticlib/libethnl.a"
-touch "$out/tree/crates/changed.rt"
+touch "$out/tree/crates/changed"
 check_same "one that is older than the crates is" "$(builds)" "staticlib ethnl"
 
 if command -v pkg-config >/dev/null; then
