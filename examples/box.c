@@ -6,7 +6,7 @@
 
 static char *next_word(void)
 {
-    return strtok(NULL, " \t\n");
+    return strtok(NULL, " \t\r\n");
 }
 
 /* Whether a word is a number from least to most: digits alone, few enough for 32 bits. */
@@ -123,7 +123,7 @@ static const char *port_line(struct box *box)
 /* Takes up one line; returns what is wrong with it. */
 static const char *read_line(struct box *box, char *line)
 {
-    const char *key = strtok(line, " \t\n");
+    const char *key = strtok(line, " \t\r\n");
 
     if (key == NULL || key[0] == '#')
         return NULL;

@@ -86,6 +86,19 @@ static void serve(const struct ethnl_box *lent, uint32_t length)
     }
 }
 
+/* Tells where the fault begins, as the box file counts: ports from 1, bits from 0. */
+static void tell_place(const struct ethnl_fault *fault)
+{
+    unsigned long offset = (unsigned long)fault->offset;
+
+    if (fault->part == ETHNL_PART_ROLL)
+        fprintf(stderr, "daemon: the fault begins at its port line %lu\n", offset / ETHNL_ROLL_RECORD + 1);
+    else if (fault->part == ETHNL_PART_DEBUG_NAMES || fault->part == ETHNL_PART_FLAG_NAMES)
+        fprintf(stderr, "daemon: the fault begins at bit %lu of it\n", offset / ETHNL_NAME_LEN);
+    else if (fault->part == ETHNL_PART_SETTINGS)
+        fprintf(stderr, "daemon: the fault begins at byte %lu of it\n", offset);
+}
+
 /* Whether the box keeps every rule; tells which part does not, and where. */
 static int is_right(const struct ethnl_box *lent, const char *path)
 {
@@ -94,8 +107,7 @@ static int is_right(const struct ethnl_box *lent, const char *path)
     if (fault.part == ETHNL_PART_NONE)
         return 1;
     fprintf(stderr, "daemon: %s: %s\n", path, ethnl_strpart(fault.part));
-    if (fault.part >= ETHNL_PART_ROLL)
-        fprintf(stderr, "daemon: the fault begins at byte %lu of it\n", (unsigned long)fault.offset);
+    tell_place(&fault);
     return 0;
 }
 

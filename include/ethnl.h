@@ -4,7 +4,8 @@
  * Four commands are served: DEBUG_GET (7), DEBUG_SET (8), PRIVFLAGS_GET (13), PRIVFLAGS_SET (14).
  * The library opens nothing, allocates nothing and keeps nothing between calls: all state is lent by
  * the caller. Every input has an answer; nothing needs to be checked before a call. ethnl_box.h has the same
- * functions over one struct instead of a row of buffers, and a sentence for each refusal.
+ * functions over one struct instead of a row of buffers (ethnl_box_handle, ethnl_form_of, ethnl_box_check), and a
+ * sentence for each refusal and each part of a box (ethnl_strerror, ethnl_strpart).
  *
  * Pointers. Each is followed by its length in bytes and must be valid for that many bytes. It must not be
  * null, not even where the length is 0. Buffers that are written (settings, page, results) must not overlap
@@ -177,8 +178,8 @@ void ethnl_handle(uint32_t family, uint32_t admin,
  * Writes the normal form of a bitset: two accepted bitsets change every set alike exactly where their normal
  * forms are equal bytes, however they were written (bitmap or bit list, names or numbers).
  *
- *   contents     what stands inside a bitset attribute (attribute 2 of a SET), its own 4 header bytes left out;
- *                at most ETHNL_DATAGRAM_MAX bytes, may be empty
+ *   contents     what stands inside a bitset attribute (attribute 2 of a SET, the last where there are several), its
+ *                own 4 header bytes left out; at most ETHNL_DATAGRAM_MAX bytes, may be empty
  *   names        the list that names the set's bits, as in ethnl_handle; its number of entries is N
  *   page         at least ETHNL_FORM_MAX bytes; the form goes to its start, bytes past `written` stay
  *   written      bytes of the form, 16 + 2 * ETHNL_SET_LEN(N); 0 if refused

@@ -40,10 +40,10 @@ rmdir "$out/wrong.box"
 # What several lines make together is for ethnl_check_box to tell.
 bad_box 'daemon: wrong.box: The family is not 16 to 65535.' 'debug a' 'flag b' 'port 1 quay1'
 bad_box 'daemon: wrong.box: The roll breaks a rule.
-daemon: the fault begins at byte 0 of it' 'family 25' 'debug a' 'flag b'
+daemon: the fault begins at its port line 1' 'family 25' 'debug a' 'flag b'
 bad_box 'daemon: wrong.box: The roll breaks a rule.
-daemon: the fault begins at byte 21 of it' 'family 25' 'debug a' 'flag b' 'port 1 quay1' 'port 1 quay2'
+daemon: the fault begins at its port line 2' 'family 25' 'debug a' 'flag b' 'port 1 quay1' 'port 1 quay2'
 bad_box 'daemon: wrong.box: The list of debug names breaks a rule.
-daemon: the fault begins at byte 96 of it' 'family 25' 'debug - 2' 'debug a' 'debug a' 'flag b' 'port 1 quay1'
+daemon: the fault begins at bit 3 of it' 'family 25' 'debug - 2' 'debug a' 'debug a' 'flag b' 'port 1 quay1'
 bad_box 'daemon: wrong.box: The list of flag names breaks a rule.
-daemon: the fault begins at byte 32 of it' 'family 25' 'debug a' 'flag b 2' 'port 1 quay1'
+daemon: the fault begins at bit 1 of it' 'family 25' 'debug a' 'flag b 2' 'port 1 quay1'

@@ -51,7 +51,7 @@ check "try alone tells how to start over" "$("$here/try" | grep -c -- --new)" 1
 with="ETHNL_BOX=$out/none.box"
 plays 2 "try: no box file $out/none.box: ETHNL_BOX names it" quay3
 with="ETHNL_LIB=$out/none.a"
-plays 2 "try: no archive $out/none.a: 'rt staticlib ethnl' makes it, ETHNL_LIB names another" quay3
+plays 2 "try: no archive $out/none.a: 'make example' makes it, ETHNL_LIB names another" quay3
 with="ETHTOOL=$out/none"
 plays 2 "try: no ethtool: install it, or ETHTOOL names it (its package cannot be had from here)" quay3
 mkdir -p "$out/few"

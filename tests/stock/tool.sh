@@ -6,7 +6,7 @@ stop() {
 }
 
 need_archive() {
-    [ -f "$lib" ] || stop "no archive $lib: 'rt staticlib ethnl' makes it, ETHNL_LIB names another"
+    [ -f "$lib" ] || stop "no archive $lib: 'make example' makes it, ETHNL_LIB names another"
 }
 
 # Takes the tool that ETHTOOL names, or the installed one, or Debian's package unpacked beside the other things built here.

@@ -22,6 +22,17 @@ static FILE *open_named(const char *variable, const char *mode)
     return path != NULL ? fopen(path, mode) : NULL;
 }
 
+/* A box file whose lines are right one by one may still break a rule: every request is refused by 1 then. */
+static void tell_fault(void)
+{
+    struct ethnl_box lent = box_lent(&box);
+    struct ethnl_fault fault = ethnl_box_check(&lent);
+
+    if (fault.part != ETHNL_PART_NONE)
+        fprintf(stderr, "shim: the box breaks a rule: %s At byte %lu of it.\n", ethnl_strpart(fault.part),
+                (unsigned long)fault.offset);
+}
+
 void open_box(void)
 {
     const char *path = getenv("ETHNL_BOX");
@@ -31,6 +42,7 @@ void open_box(void)
         fputs("shim: no box\n", stderr);
         exit(99);
     }
+    tell_fault();
     if (state == NULL)
         return;
     if (fread(box.settings, 1, box.settings_len, state) != box.settings_len)

@@ -34,7 +34,7 @@ use Rattle.netlink_write.proofs.attributes.Laws.{nest-wrote}
 use Rattle.netlink_error.specs.Error.{errorMessage}
 use Rattle.netlink_error.specs.declared.Detail.{Detail}
 use Rattle.netlink_error.specs.declared.Detail.the-variants.{Nothing, Offset, MissTop, MissIn}
-use Rattle.echo.specs.Echo.{commandNumber, headerType, numberType, policy, refusedAtStop, numberReading, nestReading, topReading, onGeneric, requestReading, numberReply, answerBytes, answerWritten}
+use Rattle.echo.specs.Echo.{commandNumber, headerType, numberType, invalid, notSupported, policy, refusedAtStop, numberReading, nestReading, topReading, onGeneric, requestReading, numberReply, answerBytes, answerWritten}
 use Rattle.echo.specs.declared.RequestRead.{RequestRead}
 use Rattle.echo.specs.declared.RequestRead.the-variants.{Number, Refused}
 
@@ -44,14 +44,14 @@ module _ (request : List ℕ) (nest : Slot) (c : List ℕ) (ec : c ≡ partOf re
   unfolding nestReading
   in-nest = rw (← ec) (sym (ap (λ (x : Walked). refusedAtStop (x .stop) (numberReading c (nest .start - 4) (getD (x .slots) numberType absent))) (ew ∙ ap (λ (x : List Rule). walked x c (nest .start)) ep)))
 
-  pub nest-fault : (f : Fault) (at : ℕ) → w .stop ≡ At f at → Refused 22 (Offset at) ≡ nestReading request nest
+  pub nest-fault : (f : Fault) (at : ℕ) → w .stop ≡ At f at → Refused invalid (Offset at) ≡ nestReading request nest
   nest-fault f at q = sym (in-nest ∙ ap (λ (x : Stop). refusedAtStop x (numberReading c (nest .start - 4) (getD (w .slots) numberType absent))) q)
 
   module _ (q : w .stop ≡ Whole) where
     whole-nest : nestReading request nest ≡ numberReading c (nest .start - 4) (getD (w .slots) numberType absent)
     whole-nest = in-nest ∙ ap (λ (x : Stop). refusedAtStop x (numberReading c (nest .start - 4) (getD (w .slots) numberType absent))) q
 
-    pub nest-missing : (at : ℕ) → at ≡ nest .start - 4 → not (getD (w .slots) numberType absent .present) ≡ true → Refused 22 (MissIn numberType at) ≡ nestReading request nest
+    pub nest-missing : (at : ℕ) → at ≡ nest .start - 4 → not (getD (w .slots) numberType absent .present) ≡ true → Refused invalid (MissIn numberType at) ≡ nestReading request nest
     unfolding numberReading
     nest-missing at ea h = rw ea (sym (whole-nest ∙ rw h))
 
@@ -60,12 +60,12 @@ module _ (request : List ℕ) (nest : Slot) (c : List ℕ) (ec : c ≡ partOf re
     nest-number x h ex = rw ex (sym (whole-nest ∙ rw h))
 
 module _ (request : List ℕ) (g : GenericHeaderRead) (eg : g ≡ genericHeaderAt request 16) where
-  pub request-short : g ≡ G.Short → Refused 22 Nothing ≡ requestReading request
+  pub request-short : g ≡ G.Short → Refused invalid Nothing ≡ requestReading request
   unfolding requestReading onGeneric
   request-short q = sym (ap (onGeneric request) (sym eg ∙ q))
 
   module _ (h : GenericHeader) (q : g ≡ G.Header h) where
-    pub request-command : (h .command ≡ commandNumber → ⊥) → Refused 95 Nothing ≡ requestReading request
+    pub request-command : (h .command ≡ commandNumber → ⊥) → Refused notSupported Nothing ≡ requestReading request
     unfolding requestReading onGeneric
     request-command n = sym (ap (onGeneric request) (sym eg ∙ q) ∙ rw (ne-eqb (h .command) commandNumber n))
 
@@ -76,14 +76,14 @@ module _ (request : List ℕ) (g : GenericHeaderRead) (eg : g ≡ genericHeaderA
           ap (onGeneric request) (sym eg ∙ q) ∙ rw (eq-eqb (h .command) commandNumber one)
           (sym (ap (λ (x : Walked). refusedAtStop (x .stop) (topReading request (getD (x .slots) headerType absent))) (ew ∙ ap (λ (x : List Rule). walked x request 20) ep)))
 
-      pub request-fault : (f : Fault) (at : ℕ) → w .stop ≡ At f at → Refused 22 (Offset at) ≡ requestReading request
+      pub request-fault : (f : Fault) (at : ℕ) → w .stop ≡ At f at → Refused invalid (Offset at) ≡ requestReading request
       request-fault f at z = sym (top ∙ ap (λ (x : Stop). refusedAtStop x (topReading request (getD (w .slots) headerType absent))) z)
 
       module _ (z : w .stop ≡ Whole) where
         whole-top : requestReading request ≡ topReading request (getD (w .slots) headerType absent)
         whole-top = top ∙ ap (λ (x : Stop). refusedAtStop x (topReading request (getD (w .slots) headerType absent))) z
 
-        pub request-missing : not (getD (w .slots) headerType absent .present) ≡ true → Refused 22 (MissTop headerType) ≡ requestReading request
+        pub request-missing : not (getD (w .slots) headerType absent .present) ≡ true → Refused invalid (MissTop headerType) ≡ requestReading request
         unfolding topReading
         request-missing m = sym (whole-top ∙ rw m)
 
@@ -96,7 +96,7 @@ pub ruleset request-laws = (request-short, request-command, request-fault, reque
 
 -- the nest around the number
 pub number-nest-wrote : (P A B : List ℕ) (x n r : ℕ) → 12 ≤ length P → Wrote (attr numberType (le32 x)) (take (length P - 4) (drop 4 P)) A n → r ≡ n + 4
-    → B ≡ put (putMid 4 (length P - 4) P A) (attributeHeaderBytes (n + 4) 32769) → Wrote (nest headerType (attr numberType (le32 x))) P B r
+    → B ≡ put (putMid 4 (length P - 4) P A) (attributeHeaderBytes (n + 4) (headerType + 32768)) → Wrote (nest headerType (attr numberType (le32 x))) P B r
 number-nest-wrote P A B x n r room w er q = nest-wrote P A B (attr numberType (le32 x)) headerType n r (omega arith) w er q
 
 -- three writers in a row

@@ -37,6 +37,13 @@ headerType = 1
 abbrev pub numberType : ℕ
 numberType = 1
 
+-- the errnos that it tells: EINVAL, EOPNOTSUPP
+abbrev pub invalid : ℕ
+invalid = 22
+
+abbrev pub notSupported : ℕ
+notSupported = 95
+
 -- one type alone, by its rule
 abbrev pub policy : ℕ → Rule → List Rule
 policy kind rule = set (replicate 8 R.Unlisted) kind rule
@@ -44,11 +51,11 @@ policy kind rule = set (replicate 8 R.Unlisted) kind rule
 -- a walk that stops: errno 22 and the place of the attribute
 abbrev pub refusedAtStop : Stop → RequestRead → RequestRead
 refusedAtStop Whole rest = rest
-refusedAtStop (At fault at) rest = Refused 22 (Offset at)
+refusedAtStop (At fault at) rest = Refused invalid (Offset at)
 
 -- the header nest is walked in the request cut at the nest's end; its number is required
 unfoldable pub numberReading : List ℕ → ℕ → Slot → RequestRead
-numberReading contents at number = cond (not (number .present)) (Refused 22 (MissIn numberType at)) (Number (slotNumber contents number))
+numberReading contents at number = cond (not (number .present)) (Refused invalid (MissIn numberType at)) (Number (slotNumber contents number))
 
 -- what the header nest asks
 unfoldable pub nestReading : List ℕ → Slot → RequestRead
@@ -59,15 +66,15 @@ nestReading request nest =
 
 -- the top level is walked whole; the header nest is required
 unfoldable pub topReading : List ℕ → Slot → RequestRead
-topReading request nest = cond (not (nest .present)) (Refused 22 (MissTop headerType)) (nestReading request nest)
+topReading request nest = cond (not (nest .present)) (Refused invalid (MissTop headerType)) (nestReading request nest)
 
 -- what the request asks by its generic header
 unfoldable pub onGeneric : List ℕ → GenericHeaderRead → RequestRead
-onGeneric request G.Short = Refused 22 Nothing
+onGeneric request G.Short = Refused invalid Nothing
 onGeneric request (G.Header h) =
     cond (eqb (h .command) commandNumber)
     (refusedAtStop (walked (policy headerType R.Nest) request 20 .stop) (topReading request (getD (walked (policy headerType R.Nest) request 20 .slots) headerType absent)))
-    (Refused 95 Nothing)
+    (Refused notSupported Nothing)
 
 -- what a request asks
 unfoldable pub requestReading : List ℕ → RequestRead

@@ -34,6 +34,11 @@ pub const HEADER: u16 = 1;
 // The attribute in the header nest: the number.
 pub const NUMBER: u16 = 1;
 
+// The errnos that it tells: EINVAL, EOPNOTSUPP.
+const INVALID: u32 = 22;
+
+const NOT_SUPPORTED: u32 = 95;
+
 // Their slots.
 const HEADER_SLOT: usize = HEADER as usize;
 
@@ -63,11 +68,11 @@ fn read_nest(request: &[u8], nest: Slot) -> RequestRead
     let walked = walk(policy(NUMBER_SLOT, Rule::Number), contents, nest.start);
     let stop = walked.stop;
     if let Stop::At { fault: _, at } = stop {
-        return RequestRead::Refused(22, Detail::Offset(at));
+        return RequestRead::Refused(INVALID, Detail::Offset(at));
     }
     let number = walked.slots[NUMBER_SLOT];
     if !number.present {
-        return RequestRead::Refused(22, Detail::MissIn(NUMBER_SLOT, place(nest.start)));
+        return RequestRead::Refused(INVALID, Detail::MissIn(NUMBER_SLOT, place(nest.start)));
     }
     RequestRead::Number(slot_number(contents, number))
 }
@@ -76,19 +81,19 @@ fn read_request(request: &[u8]) -> RequestRead
     ensures { λ r. ⌜ r ≡ requestReading (now (request .entry)) ⌝ }
 {
     let GenericHeaderRead::Header(generic) = GenericHeader::read(request, 16) else {
-        return RequestRead::Refused(22, Detail::Nothing);
+        return RequestRead::Refused(INVALID, Detail::Nothing);
     };
     if generic.command != COMMAND {
-        return RequestRead::Refused(95, Detail::Nothing);
+        return RequestRead::Refused(NOT_SUPPORTED, Detail::Nothing);
     }
     let walked = walk(policy(HEADER_SLOT, Rule::Nest), request, 20);
     let stop = walked.stop;
     if let Stop::At { fault: _, at } = stop {
-        return RequestRead::Refused(22, Detail::Offset(at));
+        return RequestRead::Refused(INVALID, Detail::Offset(at));
     }
     let nest = walked.slots[HEADER_SLOT];
     if !nest.present {
-        return RequestRead::Refused(22, Detail::MissTop(HEADER_SLOT));
+        return RequestRead::Refused(INVALID, Detail::MissTop(HEADER_SLOT));
     }
     read_nest(request, nest)
 }
