@@ -2,11 +2,11 @@
 use Prim.Native.Nat.{ℕ, zero, suc, _-_, _≤_, _<_}
 use mathlib.Core.Path.{_≡_, refl, sym, ap, _∙_}
 use mathlib.Core.List.{List}
-use mathlib.Core.Bool.{true, false, cond}
+use mathlib.Core.Bool.{true, false, not, cond}
 use lib.ListN.{length}
-use lib.Dec.{eqb}
+use lib.Dec.{eqb, leb}
 use native.Mathlib.Omega.{arith}
-use borrow.Author.Tests.{eqb-true, eqb-false, le-leb, lt-leb}
+use borrow.Author.Tests.{eqb-true, eqb-false, eq-eqb, ne-eqb, le-leb, lt-leb, not-true, not-false}
 use Rattle.basics.proofs.Truth.{true-of, cond-true, cond-false}
 use Rattle.entries.specs.Entry.{count}
 use Rattle.names.specs.Search.{lookup}
@@ -30,15 +30,15 @@ use Rattle.netlink.specs.declared.walk.Stop.the-variants as S
 use Rattle.netlink_attributes.proofs.Laws.{Bounded, bounded, attributes-step}
 use Rattle.refusal.specs.Refusal.{ofFault}
 use Rattle.refusal.specs.declared.Refusal.{Refusal}
-use Rattle.refusal.specs.declared.Refusal.the-variants.{PastLength, UnknownBit, NoBit}
+use Rattle.refusal.specs.declared.Refusal.the-variants.{PastLength, UnknownBit, NoBit, TwoBits}
 use Rattle.bitset_form.specs.Policies.{bitPolicy}
 use Rattle.bitset_form.specs.Parts.{bitParts}
 use Rattle.bitset_form.specs.declared.parts.BitParts.{BitParts}
-use Rattle.bitset_bit.specs.Bit.{bitByIndex, onLookup, bitByName, identified, onIdentityRead, bitPartsReading, bitWalked, onBitWalk, bitReading}
+use Rattle.bitset_bit.specs.Bit.{ifStands, bitByIndex, onLookup, bitByName, combined, identified, onIdentityRead, bitPartsReading, bitWalked, onBitWalk, bitReading}
 use Rattle.refusal.specs.Refusal.{onStop, onWalk}
 use Rattle.bitset_form.specs.declared.Judgement.the-variants.{Refused}
 use Rattle.bitset_bit.specs.declared.Identity.{Identity}
-use Rattle.bitset_bit.specs.declared.Identity.the-variants.{Number, Neither}
+use Rattle.bitset_bit.specs.declared.Identity.the-variants.{Number, Absent}
 use Rattle.bitset_bit.specs.declared.IdentityRead.{IdentityRead}
 use Rattle.bitset_bit.specs.declared.IdentityRead.the-variants as L
 use Rattle.bitset_bit.specs.declared.BitWalk.{BitWalk}
@@ -46,56 +46,92 @@ use Rattle.bitset_bit.specs.declared.BitWalk.the-variants as W
 use Rattle.bitset_bit.specs.declared.BitRead.{BitRead}
 use Rattle.bitset_bit.specs.declared.BitRead.the-variants as B
 
-module _ (s : List ℕ) (n : ℕ) (index : Slot) (i : ℕ) (e : i ≡ slotNumber s index) where
-  pub index-past : (at : ℕ) → at ≡ index .start - 4 → n ≤ i → L.Refused (PastLength at) ≡ bitByIndex s n index
+-- an attribute that is absent, and one that stands
+absent-read : (slot : Slot) (read : IdentityRead) → not (slot .present) ≡ true → L.Read Absent ≡ ifStands slot read
+absent-read slot read h = sym (cond-false (slot .present) read (L.Read Absent) (not-true (slot .present) h))
+
+stands-read : (slot : Slot) (read : IdentityRead) → not (slot .present) ≡ false → read ≡ ifStands slot read
+stands-read slot read h = sym (cond-true (slot .present) read (L.Read Absent) (not-false (slot .present) h))
+
+module _ (s : List ℕ) (n : ℕ) (index : Slot) where
+  pub index-absent : not (index .present) ≡ true → L.Read Absent ≡ bitByIndex s n index
   unfolding bitByIndex
-  index-past at ea h = rw (ea, ← e, le-leb _ _ h)
+  index-absent h = absent-read index _ h
 
-  pub index-in : i < n → L.Read (Number i) ≡ bitByIndex s n index
-  unfolding bitByIndex
-  index-in h = rw (← e, lt-leb _ _ h)
+  module _ (i : ℕ) (e : i ≡ slotNumber s index) (h : not (index .present) ≡ false) where
+    pub index-past : (at : ℕ) → at ≡ index .start - 4 → n ≤ i → L.Refused (PastLength at) ≡ bitByIndex s n index
+    unfolding bitByIndex
+    index-past at ea l =
+        ap (λ (x : ℕ). L.Refused (PastLength x)) ea ∙ sym (cond-true (leb n (slotNumber s index)) _ _ (rw e at (le-leb n i l))) ∙ stands-read index _ h
 
-pub ruleset index-laws = (index-past, index-in)
+    pub index-in : i < n → L.Read (Number i) ≡ bitByIndex s n index
+    unfolding bitByIndex
+    index-in l =
+        ap (λ (x : ℕ). L.Read (Number x)) e ∙ sym (cond-false (leb n (slotNumber s index)) _ _ (rw e at (lt-leb n i l))) ∙ stands-read index _ h
 
-module _ (s names : List ℕ) (name : Slot) (p : List ℕ) (ep : p ≡ partOf s (name .start) (name .end)) (l : Lookup) (el : l ≡ lookup names p) where
-  by-lookup : bitByName s names name ≡ onLookup l (name .start - 4)
+pub ruleset index-laws = (index-absent, index-past, index-in)
+
+module _ (s names : List ℕ) (name : Slot) where
+  pub name-absent : not (name .present) ≡ true → L.Read Absent ≡ bitByName s names name
   unfolding bitByName
-  by-lookup = sym (ap (λ (x : Lookup). onLookup x (name .start - 4)) (el ∙ ap (lookup names) ep))
+  name-absent h = absent-read name _ h
 
-  pub name-found : l .found ≡ true → L.Read (Number (l .bit)) ≡ bitByName s names name
-  name-found h = sym (by-lookup ∙ cond-true (l .found) (L.Read (Number (l .bit))) (L.Refused (UnknownBit (name .start - 4))) h)
+  module _ (h : not (name .present) ≡ false) (p : List ℕ) (ep : p ≡ partOf s (name .start) (name .end)) (l : Lookup) (el : l ≡ lookup names p) where
+    by-lookup : onLookup l (name .start - 4) ≡ bitByName s names name
+    unfolding bitByName
+    by-lookup = ap (λ (x : Lookup). onLookup x (name .start - 4)) (el ∙ ap (lookup names) ep) ∙ stands-read name _ h
 
-  pub name-unknown : (at : ℕ) → at ≡ name .start - 4 → l .found ≡ false → L.Refused (UnknownBit at) ≡ bitByName s names name
-  name-unknown at ea h =
-      ap (λ (x : ℕ). L.Refused (UnknownBit x)) ea
-      ∙ sym (by-lookup ∙ cond-false (l .found) (L.Read (Number (l .bit))) (L.Refused (UnknownBit (name .start - 4))) h)
+    pub name-found : l .found ≡ true → L.Read (Number (l .bit)) ≡ bitByName s names name
+    name-found q = sym (cond-true (l .found) (L.Read (Number (l .bit))) (L.Refused (UnknownBit (name .start - 4))) q) ∙ by-lookup
 
-pub ruleset name-laws = (name-found, name-unknown)
+    pub name-unknown : (at : ℕ) → at ≡ name .start - 4 → l .found ≡ false → L.Refused (UnknownBit at) ≡ bitByName s names name
+    name-unknown at ea q =
+        ap (λ (x : ℕ). L.Refused (UnknownBit x)) ea
+        ∙ sym (cond-false (l .found) (L.Read (Number (l .bit))) (L.Refused (UnknownBit (name .start - 4))) q) ∙ by-lookup
 
-module _ (s names : List ℕ) (parts : BitParts) where
-  pub identify-index : (n : ℕ) (r : IdentityRead) → n ≡ count names → parts .index .present ≡ true → r ≡ bitByIndex s n (parts .index)
-      → r ≡ identified s names parts
+pub ruleset name-laws = (name-absent, name-found, name-unknown)
+
+module _ (at : ℕ) (index name : Identity) where
+  pub no-index : index ≡ Absent → L.Read name ≡ combined at (L.Read index) (L.Read name)
+  no-index h = sym (ap (λ (x : Identity). combined at (L.Read x) (L.Read name)) h)
+
+  module _ (i : ℕ) (ei : index ≡ Number i) where
+    pub no-name : name ≡ Absent → L.Read (Number i) ≡ combined at (L.Read index) (L.Read name)
+    no-name h = rw (ei, h)
+
+    module _ (k : ℕ) (ek : name ≡ Number k) where
+      pub same-bit : i ≡ k → L.Read (Number i) ≡ combined at (L.Read index) (L.Read name)
+      same-bit h = rw (ei, ek, eq-eqb i k h)
+
+      pub two-bits : (i ≡ k → ⊥) → L.Refused (TwoBits at) ≡ combined at (L.Read index) (L.Read name)
+      two-bits h = rw (ei, ek, ne-eqb i k h)
+
+pub ruleset combine-laws = (no-index, no-name, same-bit, two-bits)
+
+module _ (s names : List ℕ) (at : ℕ) (parts : BitParts) (n : ℕ) (en : n ≡ count names) (x : IdentityRead) (ex : x ≡ bitByIndex s n (parts .index)) where
+  by-both : (a b : IdentityRead) → x ≡ a → b ≡ bitByName s names (parts .name) → combined at a b ≡ identified s names at parts
   unfolding identified
-  identify-index n r en h e = e ∙ ap (λ (x : ℕ). bitByIndex s x (parts .index)) en ∙ sym (cond-true (parts .index .present) _ _ h)
+  by-both a b ea eb = rw (sym ea ∙ ex, eb, en)
 
-  pub identify-name : (r : IdentityRead) → parts .index .present ≡ false → parts .name .present ≡ true → r ≡ bitByName s names (parts .name)
-      → r ≡ identified s names parts
-  unfolding identified
-  identify-name r h g e = e ∙ sym (cond-false (parts .index .present) _ _ h ∙ cond-true (parts .name .present) _ _ g)
+  pub index-refused : (why : Refusal) → x ≡ L.Refused why → L.Refused why ≡ identified s names at parts
+  index-refused why ea = by-both (L.Refused why) _ ea refl
 
-  pub identify-neither : parts .index .present ≡ false → parts .name .present ≡ false → L.Read Neither ≡ identified s names parts
-  unfolding identified
-  identify-neither h g = sym (cond-false (parts .index .present) _ _ h ∙ cond-false (parts .name .present) _ _ g)
+  module _ (index : Identity) (ea : x ≡ L.Read index) (y : IdentityRead) (ey : y ≡ bitByName s names (parts .name)) where
+    pub name-refused : (why : Refusal) → y ≡ L.Refused why → L.Refused why ≡ identified s names at parts
+    name-refused why eb = by-both (L.Read index) (L.Refused why) ea (sym eb ∙ ey)
 
-pub ruleset identify-laws = (identify-index, identify-name, identify-neither)
+    pub both-read : (name : Identity) (r : IdentityRead) → y ≡ L.Read name → r ≡ combined at (L.Read index) (L.Read name) → r ≡ identified s names at parts
+    both-read name r eb er = er ∙ by-both (L.Read index) (L.Read name) ea (sym eb ∙ ey)
 
-module _ (s names : List ℕ) (at : ℕ) (parts : BitParts) (l : IdentityRead) (el : l ≡ identified s names parts) where
+pub ruleset identify-laws = (index-refused, name-refused, both-read)
+
+module _ (s names : List ℕ) (at : ℕ) (parts : BitParts) (l : IdentityRead) (el : l ≡ identified s names at parts) where
   pub parts-refused : (r : Refusal) → l ≡ L.Refused r → B.Refused r ≡ bitPartsReading s names at parts
   unfolding bitPartsReading
   parts-refused r h = sym (ap (λ (x : IdentityRead). onIdentityRead x at (parts .on .present)) (sym el ∙ h))
 
   module _ (i : Identity) (h : l ≡ L.Read i) where
-    pub parts-neither : i ≡ Neither → B.Refused (NoBit at) ≡ bitPartsReading s names at parts
+    pub parts-neither : i ≡ Absent → B.Refused (NoBit at) ≡ bitPartsReading s names at parts
     unfolding bitPartsReading
     parts-neither g = sym (ap (λ (x : IdentityRead). onIdentityRead x at (parts .on .present)) (sym el ∙ h ∙ ap L.Read g))
 

@@ -1,6 +1,7 @@
 // One BIT of a bit list: walked whole, then judged.
 ghost use mathlib.Core.Path.{_≡_};
-ghost use Rattle.bitset_bit.specs.Bit.{bitByIndex, bitByName, identified, bitPartsReading, bitWalked, bitReading};
+ghost use Rattle.bitset_bit.specs.Bit.{bitByIndex, bitByName, combined, identified, bitPartsReading, bitWalked, bitReading};
+ghost use Rattle.bitset_bit.specs.declared.IdentityRead.the-variants.{Read};
 ghost use Rattle.netlink.specs.Policy.{ruleOf, judged};
 ghost use Rattle.bitset_form.specs.Policies.{bitPolicy};
 ghost use Rattle.entries.specs.Entry.{count};
@@ -21,13 +22,13 @@ use netlink_attributes::read_attribute;
 use refusal::Refusal;
 use refusal::of_fault;
 
-// Which bit a BIT means: its number, or nothing where it has neither INDEX nor NAME.
+// The bit that is identified: its number, or nothing where what would identify it is absent.
 pub enum Identity {
     Number(usize),
-    Neither,
+    Absent,
 }
 
-// What an INDEX or a NAME identifies.
+// What an INDEX, a NAME or both identify.
 pub enum IdentityRead {
     Read(Identity),
     Refused(Refusal),
@@ -48,6 +49,9 @@ pub enum BitWalk {
 fn bit_by_index(s: &[u8], n: usize, index: Slot) -> IdentityRead
     ensures { λ r. ⌜ r ≡ bitByIndex (now (s .entry)) n index ⌝ }
 {
+    if !index.present {
+        return IdentityRead::Read(Identity::Absent);
+    }
     let number = slot_number(s, index) as usize;
     if n <= number {
         return IdentityRead::Refused(Refusal::PastLength(place(index.start)));
@@ -66,6 +70,9 @@ fn bit_by_name(
     requires { ⌜ IndexedIf indexed (now names) (now head) (now links) ⌝ }
     ensures { λ r. ⌜ r ≡ bitByName (now (s .entry)) (now (names .entry)) name ⌝ }
 {
+    if !name.present {
+        return IdentityRead::Read(Identity::Absent);
+    }
     let lookup = name_index::look_up(
         names,
         indexed,
@@ -79,27 +86,44 @@ fn bit_by_name(
     IdentityRead::Refused(Refusal::UnknownBit(place(name.start)))
 }
 
-// INDEX decides where both stand.
+// Where the BIT at `at` carries both, both must mean the same bit.
+fn combine(at: usize, index: Identity, name: Identity) -> IdentityRead
+    ensures { λ r. ⌜ r ≡ combined at (Read index) (Read name) ⌝ }
+{
+    let Identity::Number(by_index) = index else {
+        return IdentityRead::Read(name);
+    };
+    let Identity::Number(by_name) = name else {
+        return IdentityRead::Read(Identity::Number(by_index));
+    };
+    if by_index == by_name {
+        return IdentityRead::Read(Identity::Number(by_index));
+    }
+    IdentityRead::Refused(Refusal::TwoBits(at))
+}
+
+// INDEX is judged first, then NAME.
 fn identify(
     s: &[u8],
     names: &[u8],
     indexed: bool,
     head: &[u16],
     links: &[u16],
+    at: usize,
     parts: BitParts,
 ) -> IdentityRead
     requires { ⌜ IndexedIf indexed (now names) (now head) (now links) ⌝ }
-    ensures { λ r. ⌜ r ≡ identified (now (s .entry)) (now (names .entry)) parts ⌝ }
+    ensures { λ r. ⌜ r ≡ identified (now (s .entry)) (now (names .entry)) at parts ⌝ }
 {
-    let index = parts.index;
-    let name = parts.name;
-    if index.present {
-        return bit_by_index(s, names::count(names), index);
+    match bit_by_index(s, names::count(names), parts.index) {
+        IdentityRead::Refused(why) => IdentityRead::Refused(why),
+        IdentityRead::Read(index) => {
+            match bit_by_name(s, names, indexed, head, links, parts.name) {
+                IdentityRead::Refused(why) => IdentityRead::Refused(why),
+                IdentityRead::Read(name) => combine(at, index, name),
+            }
+        }
     }
-    if name.present {
-        return bit_by_name(s, names, indexed, head, links, name);
-    }
-    IdentityRead::Read(Identity::Neither)
 }
 
 // Judges the parts of the BIT that stands at `at`.
@@ -115,7 +139,7 @@ fn judge_bit_parts(
     requires { ⌜ IndexedIf indexed (now names) (now head) (now links) ⌝ }
     ensures { λ r. ⌜ r ≡ bitPartsReading (now (s .entry)) (now (names .entry)) at parts ⌝ }
 {
-    match identify(s, names, indexed, head, links, parts) {
+    match identify(s, names, indexed, head, links, at, parts) {
         IdentityRead::Refused(why) => BitRead::Refused(why),
         IdentityRead::Read(identity) => {
             let Identity::Number(number) = identity else {

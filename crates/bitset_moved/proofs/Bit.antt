@@ -4,7 +4,7 @@ use mathlib.Core.Path.{_≡_, refl, sym, ap, _∙_}
 use mathlib.Core.List.{List, _++_}
 use mathlib.Core.Bool.{Bool, true, false, cond}
 use lib.ListN.{length}
-use lib.Dec.{leb}
+use lib.Dec.{leb, eqb}
 use Rattle.entries.specs.Entry.{count}
 use Rattle.names.specs.Search.{lookup}
 use Rattle.netlink_attributes.specs.Attributes.{partOf}
@@ -12,14 +12,14 @@ use Rattle.netlink.specs.Walk.{found, walked, slotNumber}
 use Rattle.netlink.specs.declared.walk.Slot.{Slot}
 use Rattle.netlink.specs.declared.walk.Stop.the-variants.{Whole}
 use Rattle.refusal.specs.declared.Refusal.{Refusal}
-use Rattle.refusal.specs.declared.Refusal.the-variants.{PastLength, UnknownBit}
+use Rattle.refusal.specs.declared.Refusal.the-variants.{PastLength, UnknownBit, TwoBits}
 use Rattle.bitset_form.specs.Policies.{bitPolicy}
 use Rattle.bitset_form.specs.Parts.{bitParts}
 use Rattle.bitset_form.specs.declared.parts.BitParts.{BitParts}
-use Rattle.bitset_bit.specs.Bit.{bitByIndex, bitByName, identified, onIdentityRead, bitPartsReading, bitReading}
+use Rattle.bitset_bit.specs.Bit.{bitByIndex, bitByName, combined, identified, onIdentityRead, bitPartsReading, bitReading}
 use Rattle.bitset_bit.proofs.Laws.{by-walk}
 use Rattle.bitset_bit.specs.declared.Identity.{Identity}
-use Rattle.bitset_bit.specs.declared.Identity.the-variants.{Number, Neither}
+use Rattle.bitset_bit.specs.declared.Identity.the-variants.{Number, Absent}
 use Rattle.bitset_bit.specs.declared.IdentityRead.{IdentityRead}
 use Rattle.bitset_bit.specs.declared.IdentityRead.the-variants as L
 use Rattle.bitset_bit.specs.declared.BitRead.{BitRead}
@@ -51,30 +51,48 @@ known by false why x = refl
 
 identity-moved : (by : ℕ) (l : IdentityRead) (at : ℕ) (on : Bool) → onIdentityRead (movedIdentity by l) (by + at) on ≡ movedBit by (onIdentityRead l at on)
 identity-moved by (L.Read (Number number)) at on = refl
-identity-moved by (L.Read Neither) at on = refl
+identity-moved by (L.Read Absent) at on = refl
 identity-moved by (L.Refused why) at on = refl
 
+combined-moved : (by at : ℕ) (x y : IdentityRead)
+    → combined (by + at) (movedIdentity by x) (movedIdentity by y) ≡ movedIdentity by (combined at x y)
+combined-moved by at (L.Refused why) y = refl
+combined-moved by at (L.Read index) (L.Refused why) = refl
+combined-moved by at (L.Read (Number i)) (L.Read (Number k)) = known by (eqb i k) (TwoBits at) (Number i)
+combined-moved by at (L.Read (Number i)) (L.Read Absent) = refl
+combined-moved by at (L.Read Absent) (L.Read name) = refl
+
 module _ (pre s names : List ℕ) where
-  identified-moved : (on on′ : Slot) {index index′ name name′ : Slot} → Shift (length pre) (length s) index index′ → Shift (length pre) (length s) name name′
-      → identified (pre ++ s) names (record { index = index′; name = name′; on = on′ })
-      ≡ movedIdentity (length pre) (identified s names (record { index = index; name = name; on = on }))
-  unfolding identified bitByIndex bitByName
-  identified-moved on on′ (some a e l u h) name =
+  index-moved : {x y : Slot} → Shift (length pre) (length s) x y
+      → bitByIndex (pre ++ s) (count names) y ≡ movedIdentity (length pre) (bitByIndex s (count names) x)
+  unfolding bitByIndex
+  index-moved none = refl
+  index-moved (some a e l u h) =
       rw (number-moved pre s (some a e l u h), place (length pre) a l)
       (past (length pre) (leb (count names) (slotNumber s (found a e))) (PastLength (a - 4)) (Number (slotNumber s (found a e))))
-  identified-moved on on′ none (some a e l u h) =
+
+  name-moved : {x y : Slot} → Shift (length pre) (length s) x y → bitByName (pre ++ s) names y ≡ movedIdentity (length pre) (bitByName s names x)
+  unfolding bitByName
+  name-moved none = refl
+  name-moved (some a e l u h) =
       let found = lookup names (partOf s a e) in
       rw (part-moved pre s a e, place (length pre) a l)
       (known (length pre) (found .found) (UnknownBit (a - 4)) (Number (found .bit)))
-  identified-moved on on′ none none = refl
+
+  identified-moved : (at : ℕ) {p q : BitParts} → ShiftBit (length pre) (length s) p q
+      → identified (pre ++ s) names (length pre + at) q ≡ movedIdentity (length pre) (identified s names at p)
+  unfolding identified
+  identified-moved at {p} {q} shift =
+      rw (index-moved (shift .index), name-moved (shift .name))
+      (combined-moved (length pre) at (bitByIndex s (count names) (p .index)) (bitByName s names (p .name)))
 
   parts-moved : (at : ℕ) {p q : BitParts} → ShiftBit (length pre) (length s) p q
       → bitPartsReading (pre ++ s) names (length pre + at) q ≡ movedBit (length pre) (bitPartsReading s names at p)
   unfolding bitPartsReading
   parts-moved at {p} {q} shift =
-      ap (λ (x : IdentityRead). onIdentityRead x (length pre + at) (q .on .present)) (identified-moved (p .on) (q .on) (shift .index) (shift .name))
-      ∙ ap (onIdentityRead (movedIdentity (length pre) (identified s names p)) (length pre + at)) (there (shift .on))
-      ∙ identity-moved (length pre) (identified s names p) at (p .on .present)
+      ap (λ (x : IdentityRead). onIdentityRead x (length pre + at) (q .on .present)) (identified-moved at shift)
+      ∙ ap (onIdentityRead (movedIdentity (length pre) (identified s names at p)) (length pre + at)) (there (shift .on))
+      ∙ identity-moved (length pre) (identified s names at p) at (p .on .present)
 
   pub bit-moved : (from : ℕ) → 4 ≤ from → bitReading (pre ++ s) names (length pre + from) ≡ movedBit (length pre) (bitReading s names from)
   bit-moved from l =

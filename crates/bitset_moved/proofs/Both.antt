@@ -21,7 +21,7 @@ use Rattle.netlink_attributes.proofs.Laws.{part-in}
 use Rattle.refusal.specs.Refusal.{numberOf}
 use Rattle.refusal.specs.declared.Refusal.{Refusal}
 use Rattle.refusal.proofs.Table.{number-above}
-use Rattle.refusal.specs.declared.Refusal.the-variants.{Box, Page, Datagram, Length, Family, Short, Command, Dump, Permission, Broken, Unlisted, Payload, MissingTop, MissingIn, NoPort, HeaderFlag, UnknownPort, OtherName, Mixed, ShortBitmap, PastLength, UnknownBit, NoBit}
+use Rattle.refusal.specs.declared.Refusal.the-variants.{Box, Page, Datagram, Length, Family, Short, Command, Dump, Permission, Broken, Unlisted, Payload, MissingTop, MissingIn, NoPort, HeaderFlag, UnknownPort, OtherName, Mixed, ShortBitmap, PastLength, UnknownBit, NoBit, TwoBits}
 use Rattle.bitset_form.specs.Bitset.{Bitset, Reading}
 use Rattle.bitset_form.specs.Bitset.Reading.{refused, accepted}
 use Rattle.bitset.specs.Judge.{bitsetReading}
@@ -56,6 +56,7 @@ number-kept by (ShortBitmap at) = refl
 number-kept by (PastLength at) = refl
 number-kept by (UnknownBit at) = refl
 number-kept by (NoBit at) = refl
+number-kept by (TwoBits at) = refl
 
 -- so the normaliser's answer is the same wherever the contents stand
 answer-kept : (by n : ℕ) (x : Reading) → readingAnswer (movedReading by x) n ≡ readingAnswer x n

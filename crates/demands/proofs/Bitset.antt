@@ -3,14 +3,14 @@ use Prim.Native.Nat.{ℕ, _-_}
 use mathlib.Core.Path.{_≡_, refl, sym, ap, _∙_}
 use mathlib.Core.List.{List, [], _∷_, _++_}
 use mathlib.Core.Bool.{Bool, true, false, _&&_, not, cond}
-use lib.Dec.{leb}
+use lib.Dec.{eqb, leb}
 use Rattle.entries.specs.Entry.{count}
 use Rattle.names.specs.Search.{lookup}
 use Rattle.netlink_attributes.specs.Attributes.{Attributes, attributes, partOf}
 use Rattle.netlink_attributes.specs.Attributes.Attributes.{done, broken, attribute}
 use Rattle.netlink.specs.Walk.{walked, slotNumber}
 use Rattle.refusal.specs.declared.Refusal.{Refusal}
-use Rattle.refusal.specs.declared.Refusal.the-variants.{MissingIn, ShortBitmap, PastLength, UnknownBit, NoBit}
+use Rattle.refusal.specs.declared.Refusal.the-variants.{MissingIn, ShortBitmap, PastLength, UnknownBit, NoBit, TwoBits}
 use Rattle.bitset_form.specs.Policies.{bitsetPolicy, bitsPolicy, bitPolicy}
 use Rattle.bitset_form.specs.Parts.{bitsetParts, bitParts}
 use Rattle.bitset_form.specs.declared.parts.BitsetParts.{BitsetParts}
@@ -18,21 +18,21 @@ use Rattle.bitset_form.specs.declared.parts.BitParts.{BitParts}
 use Rattle.bitset_form.specs.Bitset.{Reading}
 use Rattle.bitset_form.specs.Bitset.Reading.{refused, accepted}
 use Rattle.bitset_compact.specs.Compact.{nomaskReading, maskedReading, compactReading}
-use Rattle.bitset_bit.specs.Bit.{bitByIndex, bitByName, identified, onIdentityRead, bitPartsReading, bitReading}
+use Rattle.bitset_bit.specs.Bit.{bitByIndex, bitByName, combined, identified, onIdentityRead, bitPartsReading, bitReading}
 use Rattle.bitset_bit.proofs.Laws.{by-walk}
 use Rattle.refusal.specs.Refusal.{onStop}
 use Rattle.bitset_list.specs.BitList.{ListReading, onBit, bitsReading, asBitset, listReading}
 use Rattle.bitset_list.specs.BitList.ListReading.{listRefused, listEntries}
 use Rattle.bitset.specs.Judge as J
 use Rattle.bitset.specs.declared.judge.Mixing.{Mixing}
-use Rattle.bitset_bit.specs.declared.Identity.the-variants.{Number, Neither}
+use Rattle.bitset_bit.specs.declared.Identity.the-variants.{Number, Absent}
 use Rattle.bitset_bit.specs.declared.IdentityRead.{IdentityRead}
 use Rattle.bitset_bit.specs.declared.IdentityRead.the-variants as L
 use Rattle.bitset_bit.specs.declared.BitRead.the-variants as B
 use Rattle.response.specs.declared.Kind.{Kind}
 use Rattle.response.specs.declared.Kind.the-variants.{Done, Refused}
 use Rattle.demands.specs.Check.{Check, refuseIf, firstKind}
-use Rattle.demands.specs.Bitset.{mixedChecks, tooShort, pastEnd, compactChecks, unknownName, partChecks, bitChecks, eachBit, listChecks, formChecks, bitsetChecks}
+use Rattle.demands.specs.Bitset.{mixedChecks, tooShort, pastEnd, compactChecks, unknownName, twoBits, partChecks, bitChecks, eachBit, listChecks, formChecks, bitsetChecks}
 use Rattle.demands.proofs.First.{step, walk-step, pass, fault, no-more, first-append}
 
 -- the kind that a reading comes to
@@ -95,34 +95,47 @@ module _ (s names : List ℕ) (rest : ListReading) where
     abbrev identityKind : IdentityRead → Kind
     identityKind l = listKind (onBit (onIdentityRead l at on) rest)
 
-    found-first : (t : Bool) (bit place : ℕ) (checks : List Check) → last ≡ firstKind last checks
-        → identityKind (cond t (L.Read (Number bit)) (L.Refused (UnknownBit place))) ≡ firstKind last (refuseIf (not t) (UnknownBit place) ∷ checks)
-    found-first true bit place checks e = pass last _ _ _ (bit-passes bit on rest ∙ e)
-    found-first false bit place checks e = fault last _ _
-
-    parts-first : (parts : BitParts) (t u : Bool)
-        → identityKind (cond t (bitByIndex s (count names) (parts .index)) (cond u (bitByName s names (parts .name)) (L.Read Neither)))
+    -- INDEX, NAME or both, by whether they stand; 20, 21 and 23 by what is told of them
+    combined-first : (t u : Bool) (index name past unknown : ℕ) (over found : Bool)
+        → identityKind
+        (combined at (cond t (cond over (L.Refused (PastLength past)) (L.Read (Number index))) (L.Read Absent))
+        (cond u (cond found (L.Read (Number name)) (L.Refused (UnknownBit unknown))) (L.Read Absent)))
         ≡ firstKind last
-        (refuseIf (t && leb (count names) (slotNumber s (parts .index))) (PastLength (parts .index .start - 4))
-        ∷ refuseIf (not t && (u && unknownName s names (parts .name))) (UnknownBit (parts .name .start - 4))
+        (refuseIf (t && over) (PastLength past)
+        ∷ refuseIf (u && not found) (UnknownBit unknown)
         ∷ refuseIf (not t && not u) (NoBit at)
+        ∷ refuseIf (t && (u && not (eqb index name))) (TwoBits at)
         ∷ [])
-    unfolding bitByIndex bitByName unknownName
-    parts-first parts true u =
-        step identityKind last _ _ _ _ _ refl (pass last _ _ _ (pass last _ _ _ (bit-passes (slotNumber s (parts .index)) on rest ∙ no-more last)))
-    parts-first parts false true =
+    combined-first true u index name past unknown true found = fault last _ _
+    combined-first true true index name past unknown false false = pass last _ _ _ (fault last _ _)
+    combined-first true true index name past unknown false true =
+        pass last _ _ _ (pass last _ _ _ (pass last _ _ _ (same (eqb index name))))
+      where
+        same : (b : Bool) → identityKind (cond b (L.Read (Number index)) (L.Refused (TwoBits at))) ≡ firstKind last (refuseIf (not b) (TwoBits at) ∷ [])
+        same true = pass last _ _ _ (bit-passes index on rest ∙ no-more last)
+        same false = fault last _ _
+    combined-first true false index name past unknown false found =
+        pass last _ _ _ (pass last _ _ _ (pass last _ _ _ (pass last _ _ _ (bit-passes index on rest ∙ no-more last))))
+    combined-first false true index name past unknown over false = pass last _ _ _ (fault last _ _)
+    combined-first false true index name past unknown over true =
+        pass last _ _ _ (pass last _ _ _ (pass last _ _ _ (pass last _ _ _ (bit-passes name on rest ∙ no-more last))))
+    combined-first false false index name past unknown over found = pass last _ _ _ (pass last _ _ _ (fault last _ _))
+
+    parts-first : (parts : BitParts) → identityKind (identified s names at parts) ≡ firstKind last (partChecks s names at parts)
+    unfolding identified bitByIndex bitByName partChecks unknownName twoBits
+    parts-first parts =
         let l = lookup names (partOf s (parts .name .start) (parts .name .end)) in
-        pass last _ _ _ (found-first (l .found) (l .bit) (parts .name .start - 4) _ (pass last _ _ _ (no-more last)))
-    parts-first parts false false = pass last _ _ _ (pass last _ _ _ (fault last _ _))
+        combined-first (parts .index .present) (parts .name .present) (slotNumber s (parts .index)) (l .bit) (parts .index .start - 4) (parts .name .start - 4)
+        (leb (count names) (slotNumber s (parts .index))) (l .found)
 
   bit-first : (from : ℕ) → listKind (onBit (bitReading s names from) rest) ≡ firstKind last (bitChecks s names from)
-  unfolding bitPartsReading identified bitChecks partChecks
+  unfolding bitPartsReading bitChecks
   bit-first from =
       let parts = bitParts (walked bitPolicy s from .slots) in
       ap (λ r. listKind (onBit r rest)) (by-walk s names from)
       ∙ walk-step (λ r. listKind (onBit r rest)) last (walked bitPolicy s from .stop)
       (λ stop. onStop stop B.Refused (bitPartsReading s names (from - 4) parts)) _ (λ fault at. refl)
-      (parts-first (from - 4) (parts .on .present) parts (parts .index .present) (parts .name .present))
+      (parts-first (from - 4) (parts .on .present) parts)
 
 each-first : (s names : List ℕ) (xs : Attributes) → listKind (bitsReading s names xs) ≡ firstKind Done (eachBit s names xs)
 unfolding bitsReading eachBit

@@ -1,6 +1,6 @@
 -- Demand 1: "Any datagram, roll, name list or stored state gets an answer and an end. .. A refusal .. changes no setting, and writes the error
 -- message fixed there or no byte at all."
---     refused-keeps    a refusal leaves the settings, and writes its error message (5 to 22) or nothing (1 to 4)
+--     refused-keeps    a refusal leaves the settings, and writes its error message (from 5 on) or nothing (1 to 4)
 --     skipped-keeps    so do the end and a skipped message, and they write nothing
 --     last-in-place    the end and 1 to 4 give the position back
 --     next-is          every other call goes on after the message's step, or at the datagram's end where that is nearer

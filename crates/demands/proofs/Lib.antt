@@ -22,6 +22,7 @@ pub mod Stored
 pub mod Parts
 pub mod CallParts
 pub mod Says
+pub mod Agree
 pub mod Change
 pub mod Example
 pub mod PaddingAttributes

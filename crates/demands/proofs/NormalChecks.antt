@@ -1,9 +1,9 @@
--- Demand 3, the normaliser's number: "It refuses by 1 (list), 2 (page), 3 (contents over 32,768 bytes), then 10 to 13 and 18 to 22 in the
+-- Demand 3, the normaliser's number: it refuses by 1 (list), 2 (page), 3 (contents over 32,768 bytes), then 10 to 13 and 18 to 23 "in the
 -- handler's order, and then writes nothing".
 --     normal-exact              the number is that of the first check, in document 01's order, that does not pass; it is 0 where all pass
 --     normal-done-exactly       0 exactly when every check passes
 --     normal-refused-exactly    what is not answered by 0 is answered by the first check that does not pass, and nothing is written; and back
---     normal-told               the number is 0, or 1 to 3, or 10 to 13, or 18 to 22
+--     normal-told               the number is 0, or 1 to 3, or 10 to 13, or 18 to 23
 use Prim.Native.Nat.{ℕ, zero, suc, _<_}
 use mathlib.Core.Path.{_≡_, refl, sym, ap, _∙_}
 use mathlib.Core.List.{List}

@@ -1,6 +1,6 @@
 -- What holds of every refusal in a list of checks, and so of the first one; the rows that a bitset can meet.
 --     first-every     what holds of every refusal holds of the first
---     bitset-rows     the rows of a bitset's checks have numbers from 10 to 13 or from 18 to 22
+--     bitset-rows     the rows of a bitset's checks have numbers from 10 to 13 or from 18 to 23
 use Prim.Native.Nat.{ℕ, _-_}
 use mathlib.Core.List.{List, [], _∷_, _++_}
 use mathlib.Core.Bool.{Bool, true, false, cond}
@@ -95,7 +95,8 @@ each-rows s names (broken at) = nothing
 each-rows s names (attribute k b a e rest) =
     walk OfBitset _ fault-row
     (row OfBitset _ _ (judging (omega arith) (omega arith))
-    (row OfBitset _ _ (judging (omega arith) (omega arith)) (row OfBitset _ _ (judging (omega arith) (omega arith)) (each-rows s names rest))))
+    (row OfBitset _ _ (judging (omega arith) (omega arith))
+    (row OfBitset _ _ (judging (omega arith) (omega arith)) (row OfBitset _ _ (judging (omega arith) (omega arith)) (each-rows s names rest)))))
 
 list-rows : (s names : List ℕ) (parts : BitsetParts) → Every OfBitset (listChecks s names parts)
 unfolding listChecks

@@ -7,7 +7,7 @@ use Prim.Native.Nat.{ℕ, zero, suc, _+_, _-_, _*_, _/_, _%_, _^_, _≤_, _<_}
 use mathlib.Core.Path.{_≡_, refl, sym, ap, _∙_}
 use mathlib.Core.List.{List, [], _∷_}
 use mathlib.Core.Bool.{Bool, true, false, _&&_, not, cond}
-use mathlib.Core.Logic.{⊎-elim}
+use mathlib.Core.Logic.{inl, inr, ⊎-elim}
 use lib.ListN.{length, take, drop, getD, length-take, List·getD-eq-default}
 use lib.Seq.{getD-take, getD-drop}
 use lib.Dec.{eqb, ltb, leb}
@@ -23,8 +23,10 @@ use Rattle.bits.specs.Change.{Listed}
 use Rattle.bits.proofs.Bit.{test-low}
 use Rattle.word_bytes.specs.Bytes.{wordsIn, Bytes}
 use Rattle.word_bytes.proofs.WordBytes.{word-in}
-use Rattle.entries.specs.Entry.{count}
+use Rattle.entries.specs.Entry.{count, entryAt}
+use Rattle.entries.proofs.Entries.{entry-byte, same-bytes}
 use Rattle.names.specs.Search.{lookup}
+use Rattle.names.proofs.Search.{lookup-found, lookup-named}
 use Rattle.netlink_attributes.specs.Attributes.{Attributes, attributes, partOf}
 use Rattle.netlink_attributes.specs.Attributes.Attributes.{done, attribute}
 use Rattle.netlink_attributes.specs.Claims.{Apart}
@@ -51,7 +53,9 @@ use Rattle.bitset_form.specs.Bitset.Reading.{refused, accepted}
 use Rattle.bitset_compact.specs.Compact.{nomaskReading, maskedReading, compactReading}
 use Rattle.bitset_bit.specs.Bit.{bitByIndex, bitByName, identified, onIdentityRead, bitPartsReading, bitReading}
 use Rattle.bitset_bit.proofs.Laws.{by-walk}
-use Rattle.bitset_bit.specs.declared.Identity.the-variants.{Number, Neither}
+use Rattle.bitset_bit.proofs.Combined.{Said, combined-said}
+use Rattle.bitset_bit.proofs.Combined.Said.{by-both, by-index, by-name}
+use Rattle.bitset_bit.specs.declared.Identity.the-variants.{Number, Absent}
 use Rattle.bitset_bit.specs.declared.IdentityRead.{IdentityRead}
 use Rattle.bitset_bit.specs.declared.IdentityRead.the-variants as L
 use Rattle.bitset_bit.specs.declared.BitRead.{BitRead}
@@ -63,7 +67,7 @@ use Rattle.bitset.specs.declared.judge.Mixing.the-variants as Mx
 use Rattle.normal.specs.Normal.{normalised}
 use Rattle.normal.specs.Claims.{Accepts}
 use Rattle.normal.proofs.Demand3.{accepted-exactly}
-use Rattle.normal.proofs.Fits.{never, pass, same-bitset}
+use Rattle.normal.proofs.Fits.{never, pass, same-bitset, identified-below}
 use Rattle.boxes.specs.Box.{Box}
 use Rattle.boxes.specs.declared.Call.{Call}
 use Rattle.admission.specs.Commands.{commandOf}
@@ -74,8 +78,7 @@ use Rattle.demands.specs.Call.{messageOf}
 use Rattle.demands.specs.Request.{isSet}
 use Rattle.demands.specs.Parts.{StandsIn}
 use Rattle.demands.specs.Stored.{DoneSetStored}
-use Rattle.demands.specs.Says.{payloadIn, Means, BitSays, Lists, FromBitmap, BitsetOpened, CompactSays, ListSays, BitsetSays, RequestSays}
-use Rattle.demands.specs.Says.Means.{byIndex, byName}
+use Rattle.demands.specs.Says.{Stands, Lacks, payloadIn, IsNameOf, Means, BitSays, Lists, FromBitmap, BitsetOpened, CompactSays, ListSays, BitsetSays, RequestSays}
 use Rattle.demands.specs.Says.Lists.{noMore, oneBit}
 use Rattle.demands.specs.Says.BitsetSays.{compactMasked, compactNomask, listMasked, listNomask}
 use Rattle.demands.proofs.Parts.{front-length, three-parts, five-parts}
@@ -85,67 +88,119 @@ use Rattle.demands.proofs.Stored as S
 number-in : (s : List ℕ) (slot : Slot) → slot .present ≡ true → slotNumber s slot ≡ u32At (payloadIn s slot) 0
 number-in s slot h = sym (slot-there s slot (payloadIn s slot) (u32At (payloadIn s slot) 0) h refl refl)
 
--- one BIT
-module _ (s names : List ℕ) (parts : BitParts) (k : ℕ) where
-  index-means : parts .index .present ≡ true → bitByIndex s (count names) (parts .index) ≡ L.Read (Number k) → Means s names parts k
+-- a name that is found is that of the entry
+found-names : (names name : List ℕ) → lookup names name .found ≡ true → IsNameOf names (lookup names name .bit) name
+found-names names name h =
+    let f = lookup-found names name h in
+    let n = lookup-named names name h in
+    record {
+      inside = f .0;
+      some = n .0;
+      short = n .1;
+      bytes = λ j l. sym (entry-byte names (lookup names name .bit) (f .0) j l) ∙ same-bytes (entryAt names (lookup names name .bit)) name j (f .1) l;
+    }
+
+-- one BIT: what INDEX and NAME say, each on its own
+module _ (s names : List ℕ) (parts : BitParts) where
+  index-stands : (k : ℕ) → bitByIndex s (count names) (parts .index) ≡ L.Read (Number k)
+      → Stands (parts .index) × (k ≡ u32At (payloadIn s (parts .index)) 0)
   unfolding bitByIndex
-  index-means h = go (leb (count names) (slotNumber s (parts .index)))
+  index-stands k = go (parts .index .present) refl (leb (count names) (slotNumber s (parts .index)))
     where
-      go : (t : Bool) → cond t (L.Refused (PastLength (parts .index .start - 4))) (L.Read (Number (slotNumber s (parts .index)))) ≡ L.Read (Number k)
-          → Means s names parts k
-      go true e = absurd (let z : _≡_ {A = ℕ} 0 1 = cc in omega arith)
-      go false e = let i : k ≡ slotNumber s (parts .index) = cc in byIndex h (i ∙ number-in s (parts .index) h)
+      go : (t : Bool) → parts .index .present ≡ t → (u : Bool)
+          → cond t (cond u (L.Refused (PastLength (parts .index .start - 4))) (L.Read (Number (slotNumber s (parts .index))))) (L.Read Absent) ≡ L.Read (Number k)
+          → Stands (parts .index) × (k ≡ u32At (payloadIn s (parts .index)) 0)
+      go true h true e = absurd (let z : _≡_ {A = ℕ} 0 1 = cc in omega arith)
+      go true h false e = let i : k ≡ slotNumber s (parts .index) = cc in (h, i ∙ number-in s (parts .index) h)
+      go false h u e = absurd (let z : _≡_ {A = ℕ} 0 1 = cc in omega arith)
 
-  name-means : parts .index .present ≡ false → parts .name .present ≡ true → bitByName s names (parts .name) ≡ L.Read (Number k) → Means s names parts k
+  index-lacks : bitByIndex s (count names) (parts .index) ≡ L.Read Absent → Lacks (parts .index)
+  unfolding bitByIndex
+  index-lacks = go (parts .index .present) (leb (count names) (slotNumber s (parts .index)))
+    where
+      go : (t u : Bool)
+          → cond t (cond u (L.Refused (PastLength (parts .index .start - 4))) (L.Read (Number (slotNumber s (parts .index))))) (L.Read Absent) ≡ L.Read Absent → t ≡ false
+      go true true e = absurd (let z : _≡_ {A = ℕ} 0 1 = cc in omega arith)
+      go true false e = absurd (let z : _≡_ {A = ℕ} 0 1 = cc in omega arith)
+      go false u e = refl
+
+  abbrev named : List ℕ
+  named = payloadIn s (parts .name)
+
+  name-stands : (k : ℕ) → bitByName s names (parts .name) ≡ L.Read (Number k) → Stands (parts .name) × IsNameOf names k named
   unfolding bitByName
-  name-means h g = go (lookup names p .found) refl
+  name-stands k = go (parts .name .present) refl (lookup names named .found) refl
     where
-      p : List ℕ
-      p = payloadIn s (parts .name)
+      go : (t : Bool) → parts .name .present ≡ t → (u : Bool) → lookup names named .found ≡ u
+          → cond t (cond u (L.Read (Number (lookup names named .bit))) (L.Refused (UnknownBit (parts .name .start - 4)))) (L.Read Absent) ≡ L.Read (Number k)
+          → Stands (parts .name) × IsNameOf names k named
+      go true h true q e = let i : k ≡ lookup names named .bit = cc in (h, rw i (found-names names named q))
+      go true h false q e = absurd (let z : _≡_ {A = ℕ} 0 1 = cc in omega arith)
+      go false h u q e = absurd (let z : _≡_ {A = ℕ} 0 1 = cc in omega arith)
 
-      go : (t : Bool) → lookup names p .found ≡ t
-          → cond t (L.Read (Number (lookup names p .bit))) (L.Refused (UnknownBit (parts .name .start - 4))) ≡ L.Read (Number k) → Means s names parts k
-      go true q e = let j : k ≡ lookup names p .bit = cc in byName h g q j
-      go false q e = absurd (let z : _≡_ {A = ℕ} 0 1 = cc in omega arith)
+  name-lacks : bitByName s names (parts .name) ≡ L.Read Absent → Lacks (parts .name)
+  unfolding bitByName
+  name-lacks = go (parts .name .present) (lookup names named .found)
+    where
+      go : (t u : Bool)
+          → cond t (cond u (L.Read (Number (lookup names named .bit))) (L.Refused (UnknownBit (parts .name .start - 4)))) (L.Read Absent) ≡ L.Read Absent → t ≡ false
+      go true true e = absurd (let z : _≡_ {A = ℕ} 0 1 = cc in omega arith)
+      go true false e = absurd (let z : _≡_ {A = ℕ} 0 1 = cc in omega arith)
+      go false u e = refl
 
-  parts-mean : identified s names parts ≡ L.Read (Number k) → Means s names parts k
+  parts-mean : (at k : ℕ) → identified s names at parts ≡ L.Read (Number k) → Means s names parts k
   unfolding identified
-  parts-mean = go (parts .index .present) refl (parts .name .present) refl
+  parts-mean at k e = go (identified-below s names at parts k e) (combined-said at k _ _ e)
     where
-      go : (t : Bool) → parts .index .present ≡ t → (u : Bool) → parts .name .present ≡ u
-          → cond t (bitByIndex s (count names) (parts .index)) (cond u (bitByName s names (parts .name)) (L.Read Neither)) ≡ L.Read (Number k)
-          → Means s names parts k
-      go true h u g e = index-means h e
-      go false h true g e = name-means h g e
-      go false h false g e = absurd (let z : _≡_ {A = ℕ} 0 1 = cc in omega arith)
+      go : k < count names → Said k (bitByIndex s (count names) (parts .index)) (bitByName s names (parts .name)) → Means s names parts k
+      go l (by-both x y) =
+          let i = index-stands k x in
+          record { below = l; given = inl (i .0); by-index = λ t. i .1; by-name = λ t. name-stands k y .1 }
+      go l (by-index x y) =
+          let i = index-stands k x in
+          record { below = l; given = inl (i .0); by-index = λ t. i .1; by-name = λ t. absurd (clash t (name-lacks y)) }
+      go l (by-name x y) =
+          let i = name-stands k y in
+          record { below = l; given = inr (i .0); by-index = λ t. absurd (clash t (index-lacks x)); by-name = λ t. i .1 }
 
-bit-says : (s names : List ℕ) (start end : ℕ) → end ≤ length s → (entry : Listed)
-    → bitReading (partOf s 0 end) names start ≡ B.Bit (entry .bit) (entry .on) → BitSays s names start end entry
-unfolding bitPartsReading bitParts
-bit-says s names start end hi entry e =
-    go (walked bitPolicy p start .stop) refl (identified p names parts) refl (sym (by-walk p names start) ∙ e)
-  where
-    p : List ℕ
-    p = partOf s 0 end
+-- one BIT: what is read of it is what its parts mean, and it is right as a whole
+module _ (s names : List ℕ) (start end : ℕ) where
+  abbrev bit : List ℕ
+  bit = partOf s 0 end
 
-    parts : BitParts
-    parts = bitParts (walked bitPolicy p start .slots)
+  abbrev bit-part : BitParts
+  bit-part = bitParts (walked bitPolicy bit start .slots)
 
-    go : (t : Stop) → walked bitPolicy p start .stop ≡ t → (l : IdentityRead) → identified p names parts ≡ l
-        → onStop t B.Refused (onIdentityRead l (start - 4) (parts .on .present)) ≡ B.Bit (entry .bit) (entry .on) → BitSays s names start end entry
-    go (At f at) w l q e = absurd (let z : _≡_ {A = ℕ} 0 1 = cc in omega arith)
-    go Whole w (L.Refused r) q e = absurd (let z : _≡_ {A = ℕ} 0 1 = cc in omega arith)
-    go Whole w (L.Read Neither) q e = absurd (let z : _≡_ {A = ℕ} 0 1 = cc in omega arith)
-    go Whole w (L.Read (Number j)) q e =
-        let i : j ≡ entry .bit = cc in
-        record {
-          parts = parts;
-          whole = w;
-          read = refl;
-          inside = rw (front-length s end hi) at (three-parts bitPolicy p start w);
-          number = parts-mean p names parts (entry .bit) (q ∙ ap (λ (n : ℕ). L.Read (Number n)) i);
-          on = cc;
-        }
+  bit-read : (number : ℕ) (on : Bool) → bitReading bit names start ≡ B.Bit number on
+      → (walked bitPolicy bit start .stop ≡ Whole) × Means bit names bit-part number × (on ≡ bit-part .on .present)
+  unfolding bitPartsReading
+  bit-read number on e =
+      go (walked bitPolicy bit start .stop) refl (identified bit names (start - 4) bit-part) refl (sym (by-walk bit names start) ∙ e)
+    where
+      go : (t : Stop) → walked bitPolicy bit start .stop ≡ t → (l : IdentityRead) → identified bit names (start - 4) bit-part ≡ l
+          → onStop t B.Refused (onIdentityRead l (start - 4) (bit-part .on .present)) ≡ B.Bit number on
+          → (walked bitPolicy bit start .stop ≡ Whole) × Means bit names bit-part number × (on ≡ bit-part .on .present)
+      go (At f at) w l q e = absurd (let z : _≡_ {A = ℕ} 0 1 = cc in omega arith)
+      go Whole w (L.Refused r) q e = absurd (let z : _≡_ {A = ℕ} 0 1 = cc in omega arith)
+      go Whole w (L.Read Absent) q e = absurd (let z : _≡_ {A = ℕ} 0 1 = cc in omega arith)
+      go Whole w (L.Read (Number j)) q e =
+          let i : j ≡ number = cc in (w, parts-mean bit names bit-part (start - 4) number (q ∙ ap (λ (n : ℕ). L.Read (Number n)) i), cc)
+
+  pub bit-means : (number : ℕ) (on : Bool) → bitReading bit names start ≡ B.Bit number on → Means bit names bit-part number
+  bit-means number on e = bit-read number on e .1
+
+  bit-says : end ≤ length s → (entry : Listed) → bitReading bit names start ≡ B.Bit (entry .bit) (entry .on) → BitSays s names start end entry
+  unfolding bitParts
+  bit-says hi entry e =
+      let r = bit-read (entry .bit) (entry .on) e in
+      record {
+        parts = bit-part;
+        whole = r .0;
+        read = refl;
+        inside = rw (front-length s end hi) at (three-parts bitPolicy bit start (r .0));
+        number = r .1;
+        on = r .2;
+      }
 
 -- the BITs
 module _ (s names : List ℕ) where

@@ -3,7 +3,7 @@
 --     exact            the kind is that of the first check, in document 01's order, that does not pass; it is done where all pass
 --     done-exactly     done exactly when every check passes
 --     refused-exactly  refused by a row of the table exactly when that row applies and every check before it passes
---     refused-keeps    a refusal leaves every byte of the settings, and writes its error message (5 to 22) or nothing (1 to 4)
+--     refused-keeps    a refusal leaves every byte of the settings, and writes its error message (from 5 on) or nothing (1 to 4)
 --     skipped-keeps    so do the end and a skipped message, and they write nothing
 --     last-in-place    the end and 1 to 4 give the position back
 --     next-is          every other call goes on after the message's step, or at the datagram's end where that is nearer

@@ -35,6 +35,7 @@ refusals-are at kind =
       twenty = (refl, refl, refl);
       twenty-one = (refl, refl, refl);
       twenty-two = (refl, refl, refl);
+      twenty-three = (refl, refl, refl);
     }
 
 pub commands-are : CommandTable

@@ -12,7 +12,7 @@ use Rattle.netlink_error.specs.declared.Detail.the-variants.{Nothing}
 use Rattle.refusal.specs.Refusal.{numberOf, errnoOf, detailOf}
 use Rattle.refusal.specs.declared.Refusal.{Refusal}
 
--- "1 to 4 write nothing. 5 to 22 write one error message", with the errno and the detail of the table
+-- "1 to 4 write nothing", every other refusal one error message, with the errno and the detail of the table
 unfoldable pub refusalBytes : List ℕ → Refusal → List ℕ
 refusalBytes message why = cond (ltb (numberOf why) 5) [] (errorMessage message (errnoOf why) (detailOf why))
 

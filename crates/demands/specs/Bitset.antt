@@ -4,7 +4,7 @@ use Prim.Native.Nat.{ℕ, _-_, _/_}
 use mathlib.Core.List.{List, [], _∷_, _++_}
 use mathlib.Core.Bool.{Bool, _&&_, not, cond}
 use lib.ListN.{length}
-use lib.Dec.{leb, ltb}
+use lib.Dec.{eqb, leb, ltb}
 use Rattle.bits.specs.Set.{has, wordsFor, somePast}
 use Rattle.word_bytes.specs.Bytes.{wordsIn}
 use Rattle.entries.specs.Entry.{count}
@@ -13,7 +13,7 @@ use Rattle.netlink_attributes.specs.Attributes.{Attributes, attributes, partOf}
 use Rattle.netlink_attributes.specs.Attributes.Attributes.{done, broken, attribute}
 use Rattle.netlink.specs.Walk.{walked, slotNumber}
 use Rattle.netlink.specs.declared.walk.Slot.{Slot}
-use Rattle.refusal.specs.declared.Refusal.the-variants.{Mixed, MissingIn, ShortBitmap, PastLength, UnknownBit, NoBit}
+use Rattle.refusal.specs.declared.Refusal.the-variants.{Mixed, MissingIn, ShortBitmap, PastLength, UnknownBit, NoBit, TwoBits}
 use Rattle.bitset_form.specs.Policies.{bitsetPolicy, bitsPolicy, bitPolicy}
 use Rattle.bitset_form.specs.Parts.{bitsetParts, bitParts}
 use Rattle.bitset_form.specs.declared.parts.BitsetParts.{BitsetParts}
@@ -53,12 +53,17 @@ compactChecks s nest n parts =
 unfoldable pub unknownName : List ℕ → List ℕ → Slot → Bool
 unknownName s names name = not (lookup names (partOf s (name .start) (name .end)) .found)
 
--- the parts of the BIT at a place: 20 by INDEX, which decides; else 21 by NAME; else 22
+-- an INDEX and a NAME that mean two bits: the entry that equals NAME is not the one with INDEX's number
+unfoldable pub twoBits : List ℕ → List ℕ → Slot → Slot → Bool
+twoBits s names index name = not (eqb (slotNumber s index) (lookup names (partOf s (name .start) (name .end)) .bit))
+
+-- the parts of the BIT at a place: 20 by INDEX where it stands, then 21 by NAME where it stands, 22 where neither does, 23 where both do and mean two bits
 unfoldable pub partChecks : List ℕ → List ℕ → ℕ → BitParts → List Check
 partChecks s names at parts =
     refuseIf (parts .index .present && leb (count names) (slotNumber s (parts .index))) (PastLength (parts .index .start - 4))
-    ∷ refuseIf (not (parts .index .present) && (parts .name .present && unknownName s names (parts .name))) (UnknownBit (parts .name .start - 4))
+    ∷ refuseIf (parts .name .present && unknownName s names (parts .name)) (UnknownBit (parts .name .start - 4))
     ∷ refuseIf (not (parts .index .present) && not (parts .name .present)) (NoBit at)
+    ∷ refuseIf (parts .index .present && (parts .name .present && twoBits s names (parts .index) (parts .name))) (TwoBits at)
     ∷ []
 
 -- a BIT: walked whole, then judged

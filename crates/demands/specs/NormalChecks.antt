@@ -10,7 +10,7 @@ use Rattle.refusal.specs.declared.Refusal.the-variants.{Box, Page, Datagram}
 use Rattle.demands.specs.Check.{Check, refuseIf}
 use Rattle.demands.specs.Bitset.{bitsetChecks}
 
--- "It refuses by 1 (list), 2 (page), 3 (contents over 32,768 bytes), then 10 to 13 and 18 to 22 in the handler's order"
+-- it refuses by 1 (list), 2 (page), 3 (contents over 32,768 bytes), then 10 to 13 and 18 to 23 "in the handler's order"
 unfoldable pub normalChecks : List ℕ → List ℕ → ℕ → List Check
 normalChecks contents names room =
     refuseIf (not (namesRight names)) Box
@@ -18,10 +18,10 @@ normalChecks contents names room =
     ∷ refuseIf (ltb 32768 (length contents)) Datagram
     ∷ bitsetChecks contents 0 names
 
--- the number of a row that a bitset can meet: 10 to 13, or 18 to 22
+-- the number of a row that a bitset can meet: 10 to 13, or 18 to 23
 pub data BitsetNumber (n : ℕ) : Type 0 where
   walking : 10 ≤ n → n ≤ 13 → BitsetNumber n
-  judging : 18 ≤ n → n ≤ 22 → BitsetNumber n
+  judging : 18 ≤ n → n ≤ 23 → BitsetNumber n
 
 -- a number that the normaliser answers: 0 if accepted, 1 to 3, or that of a row that a bitset can meet
 pub data NormalNumber (n : ℕ) : Type 0 where

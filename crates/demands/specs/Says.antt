@@ -1,14 +1,15 @@
--- Document 01, "Bitsets": what an accepted bitset says, stated a second time, from its bytes. Taken over are the walk of a parent, the entry that equals
--- a name, and the four forms of a bitset; not the definitions by which a bitset is read.
-use Prim.Native.Nat.{ℕ, _+_, _-_, _*_, _/_, _%_, _<_}
+-- Document 01, "Bitsets": what an accepted bitset says, stated a second time, from its bytes. Taken over are the walk of a parent and the four forms of
+-- a bitset; not the definitions by which a bitset is read, nor the search for a name.
+use Prim.Native.Nat.{ℕ, _+_, _-_, _*_, _/_, _%_, _≤_, _<_}
 use mathlib.Core.Path.{_≡_}
 use mathlib.Core.List.{List, [], _∷_}
 use mathlib.Core.Bool.{Bool, true, false}
-use lib.ListN.{length}
+use mathlib.Core.Logic.{_⊎_}
+use lib.ListN.{length, getD}
 use Rattle.basics.specs.Numbers.{u16At, u32At}
 use Rattle.bits.specs.Bit.{test}
 use Rattle.bits.specs.Change.{Listed}
-use Rattle.names.specs.Search.{lookup}
+use Rattle.entries.specs.Entry.{count}
 use Rattle.netlink_attributes.specs.Attributes.{partOf}
 use Rattle.netlink.specs.Walk.{walked}
 use Rattle.netlink.specs.Claims.{PartsIn}
@@ -37,11 +38,20 @@ Lacks slot = slot .present ≡ false
 abbrev pub payloadIn : List ℕ → Slot → List ℕ
 payloadIn s slot = partOf s (slot .start) (slot .end)
 
--- the number of the bit that a BIT means: the number in INDEX where INDEX stands, else the entry that equals NAME
-pub data Means (s names : List ℕ) (parts : BitParts) (number : ℕ) : Type 0 where
-  byIndex : Stands (parts .index) → number ≡ u32At (payloadIn s (parts .index)) 0 → Means s names parts number
-  byName : Lacks (parts .index) → Stands (parts .name) → lookup names (payloadIn s (parts .name)) .found ≡ true
-      → number ≡ lookup names (payloadIn s (parts .name)) .bit → Means s names parts number
+-- the name of an entry of a list: it is not empty, and the 32 bytes of the entry are its bytes, then NULs
+pub record IsNameOf (names : List ℕ) (entry : ℕ) (name : List ℕ) : Type 0 where
+  pub inside : entry < count names
+  pub some : getD name 0 0 ≡ 0 → ⊥
+  pub short : length name ≤ 32
+  pub bytes : (j : ℕ) → j < 32 → getD names (entry * 32 + j) 0 ≡ getD name j 0
+
+-- the number of the bit that a BIT means, below N: where INDEX stands, the number in it; where NAME stands, that of the entry whose name it is; one of them
+-- stands, and where both do, both mean this bit
+pub record Means (s names : List ℕ) (parts : BitParts) (number : ℕ) : Type 0 where
+  pub below : number < count names
+  pub given : Stands (parts .index) ⊎ Stands (parts .name)
+  pub by-index : Stands (parts .index) → number ≡ u32At (payloadIn s (parts .index)) 0
+  pub by-name : Stands (parts .name) → IsNameOf names number (payloadIn s (parts .name))
 
 -- the BIT whose contents stand from start to end of s is right as a whole, its parts stand in it, and they say this bit: its number, and whether the VALUE
 -- flag stands

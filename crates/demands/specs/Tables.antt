@@ -6,7 +6,7 @@ use Rattle.netlink_error.specs.declared.Detail.{Detail}
 use Rattle.netlink_error.specs.declared.Detail.the-variants.{Nothing, Offset, MissTop, MissIn}
 use Rattle.refusal.specs.Refusal.{numberOf, errnoOf, detailOf}
 use Rattle.refusal.specs.declared.Refusal.{Refusal}
-use Rattle.refusal.specs.declared.Refusal.the-variants.{Box, Page, Datagram, Length, Family, Short, Command, Dump, Permission, Broken, Unlisted, Payload, MissingTop, MissingIn, NoPort, HeaderFlag, UnknownPort, OtherName, Mixed, ShortBitmap, PastLength, UnknownBit, NoBit}
+use Rattle.refusal.specs.declared.Refusal.the-variants.{Box, Page, Datagram, Length, Family, Short, Command, Dump, Permission, Broken, Unlisted, Payload, MissingTop, MissingIn, NoPort, HeaderFlag, UnknownPort, OtherName, Mixed, ShortBitmap, PastLength, UnknownBit, NoBit, TwoBits}
 use Rattle.layout.specs.declared.Set.{Set}
 use Rattle.layout.specs.declared.Set.the-variants.{Debug, Flags}
 use Rattle.admission.specs.Commands.{commandOf}
@@ -43,6 +43,7 @@ pub record RefusalTable (at kind : ℕ) : Type 0 where
   pub twenty : RowIs (PastLength at) 20 95 (Offset at)
   pub twenty-one : RowIs (UnknownBit at) 21 95 (Offset at)
   pub twenty-two : RowIs (NoBit at) 22 22 (Offset at)
+  pub twenty-three : RowIs (TwoBits at) 23 22 (Offset at)
 
 -- a listed command: whether it is a SET, its set, and the command of its reply
 abbrev pub CommandIs : ℕ → Bool → Set → ℕ → Type 0

@@ -23,7 +23,7 @@ changedBy box state position set form =
     (merge (has (take (widthIn box set) (form .mask))) (has (take (widthIn box set) (form .value)))
     (has (take (widthIn box set) (drop (placeIn box position set) (state .words))))))
 
--- what a decision comes to: "5 to 22 write one error message"; a GET is answered; a SET changes the set by its form and is acknowledged
+-- what a decision comes to: a refusal from 5 on writes one error message; a GET is answered; a SET changes the set by its form and is acknowledged
 abbrev pub planOutcome : Plan → Form → Box → State → List ℕ → Request → Outcome State
 planOutcome (P.Refused why) form box state m request = unchanged (errorResponse m (request .next) why) state
 planOutcome (P.Get target) form box state m request = unchanged (responseOf Done (request .next) (getBytes box state m request target)) state

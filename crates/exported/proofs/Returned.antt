@@ -22,6 +22,8 @@ use Rattle.handler.specs.Bytes.{Stored, bytesOutcome}
 use Rattle.demands.specs.Check.{AllPass, FirstIs}
 use Rattle.demands.specs.Call.{nextOf}
 use Rattle.demands.specs.Request.{isSet}
+use Rattle.demands.specs.Stored.{DoneSetStored}
+use Rattle.demands.proofs.Agree.{accepted-agree}
 use Rattle.demands.proofs.Stored as S
 use Rattle.exported.specs.Returned.{Lent, Left, Leaves, messageIn, checksOf, LeftRefused, LeftSet, LeftGet, Returned}
 
@@ -109,9 +111,13 @@ module _ (c : Lent) (r : Left) (h : Leaves c r) where
 
   set-left : r .kind ≡ 2 → isSet (commandOf (byteAt (messageIn c) 16)) ≡ true → LeftSet c r
   set-left z set =
+      let e = S.effect (c .box) (c .settings) (c .call) (c .datagram) (length (c .page)) (h .bytes) (is-done z) set in
+      let d : DoneSetStored (c .box) (c .settings) (c .call) (messageIn c) (messageHeader (c .datagram) (c .call .position)) (record { response = o .response; state = r .settings }) =
+      rw (h .state) e in
       record {
         response = o .response;
-        done = rw (h .state) (S.effect (c .box) (c .settings) (c .call) (c .datagram) (length (c .page)) (h .bytes) (is-done z) set);
+        done = d;
+        agree = accepted-agree _ _ _ (d .done .bits) (d .done .carries);
         wrote = wrote _ refl;
       }
 

@@ -20,6 +20,7 @@ use Rattle.demands.specs.Call.{messageOf, nextOf, callChecks}
 use Rattle.demands.specs.Request.{isSet}
 use Rattle.demands.specs.Done.{DoneGet}
 use Rattle.demands.specs.Stored.{storedRight, asWords, DoneSetStored}
+use Rattle.demands.specs.Agree.{RequestAgrees}
 use Rattle.ethnl.specs.Exported.{Handle}
 
 -- what a call of `ethnl_handle` is lent
@@ -65,10 +66,12 @@ pub record LeftRefused (c : Lent) (r : Left) : Type 0 where
   pub settings : r .settings ≡ c .settings
   pub wrote : Wrote c r (refusalBytes (messageIn c) why)
 
--- a SET that is done: the named set of the named port is changed as its bitset says, no other byte of the settings, and an ACK is written if asked
+-- a SET that is done: the named set of the named port is changed as its bitset says, no other byte of the settings, and an ACK is written if asked; in its
+-- bitset every BIT that carries an index and a name carries the name of that index's entry
 pub record LeftSet (c : Lent) (r : Left) : Type 0 where
   pub response : Response
   pub done : DoneSetStored (c .box) (c .settings) (c .call) (messageIn c) (messageHeader (c .datagram) (c .call .position)) (record { response = response; state = r .settings })
+  pub agree : RequestAgrees (c .box) (messageIn c) (done .done .named)
   pub wrote : Wrote c r (response .bytes)
 
 -- a GET that is done: the settings stay, byte for byte, and the reply is written, then an ACK if asked

@@ -1,7 +1,7 @@
 -- Laws of the search: how it goes by entries and bytes, and what it finds in a list whose names are distinct.
 use Prim.Native.Nat.{ℕ, zero, suc, _+_, _*_, _≤_, _<_}
 use mathlib.Core.Path.{_≡_, refl, sym, ap, _∙_}
-use mathlib.Core.Bool.{Bool, true, false, cond}
+use mathlib.Core.Bool.{Bool, true, false, _||_, cond}
 use mathlib.Core.Logic.{⊎-elim}
 use mathlib.Core.List.{List}
 use native.Mathlib.Numerals.{add-one}
@@ -9,7 +9,7 @@ use native.Mathlib.Omega.{arith}
 use lib.Dec.{eqb, ltb}
 use lib.ListN.{length, getD, take, length-take, List·getD-eq-default}
 use lib.Seq.{getD-take, take-all}
-use borrow.Author.Tests.{eq-eqb, ne-eqb, lt-ltb, le-ltb, ltb-true}
+use borrow.Author.Tests.{eq-eqb, ne-eqb, lt-ltb, le-ltb, ltb-true, ltb-false, eqb-false}
 use Rattle.basics.specs.Scan.{all, first}
 use Rattle.basics.proofs.Order.{lt-or-ge}
 use Rattle.basics.proofs.Scan.{all-none, all-more, all-fails, first-none, first-more, first-at, first-is}
@@ -93,6 +93,20 @@ module _ (names name : List ℕ) where
       go true u e h = absurd (clash h refl)
       go false false e h = absurd (clash h refl)
       go false true e h = (ltb-true _ _ e, first-is (isEntry names name) (count names) (ltb-true _ _ e))
+
+  -- and the name is not empty, and no longer than an entry
+  pub lookup-named : lookup names name .found ≡ true → (getD name 0 0 ≡ 0 → ⊥) × (length name ≤ 32)
+  unfolding lookup noName
+  lookup-named = go (isEmpty name) refl (ltb 32 (length name)) refl
+    where
+      f : ℕ
+      f = first (count names) (isEntry names name)
+
+      go : (t : Bool) → isEmpty name ≡ t → (u : Bool) → ltb 32 (length name) ≡ u
+          → cond (t || u) notFound (cond (ltb f (count names)) (foundAt f) notFound) .found ≡ true → (getD name 0 0 ≡ 0 → ⊥) × (length name ≤ 32)
+      go true e u q h = absurd (clash h refl)
+      go false e true q h = absurd (clash h refl)
+      go false e false q h = (eqb-false (getD name 0 0) 0 e, ltb-false 32 (length name) q)
 
   -- none before k is the name
   none-until : (k : ℕ) → ((j : ℕ) → j < k → isEntry names name j ≡ false) → first k (isEntry names name) ≡ k

@@ -13,7 +13,6 @@ use Rattle.word_bytes.specs.Bytes.{wordsIn}
 use Rattle.bits.specs.Change.{Below, Listed, listMask}
 use Rattle.entries.specs.Entry.{count}
 use Rattle.names.specs.Search.{lookup}
-use Rattle.names.specs.declared.Lookup.{Lookup}
 use Rattle.names.proofs.Search.{lookup-found}
 use Rattle.netlink_attributes.specs.Attributes.{Attributes, attributes, partOf}
 use Rattle.netlink_attributes.specs.Attributes.Attributes.{done, broken, attribute}
@@ -31,15 +30,17 @@ use Rattle.bitset_form.specs.Bitset.{Bitset, Reading}
 use Rattle.bitset_form.specs.Bitset.Bitset.{maskedBitmap, nomaskBitmap, maskedList, nomaskList}
 use Rattle.bitset_form.specs.Bitset.Reading.{refused, accepted}
 use Rattle.bitset_compact.specs.Compact.{bitmap, nomaskReading, maskedReading, compactReading}
-use Rattle.bitset_bit.specs.Bit.{bitByIndex, onLookup, bitByName, identified, onIdentityRead, bitPartsReading, bitReading}
+use Rattle.bitset_bit.specs.Bit.{bitByIndex, bitByName, identified, onIdentityRead, bitPartsReading, bitReading}
 use Rattle.bitset_bit.proofs.Laws.{by-walk}
+use Rattle.bitset_bit.proofs.Combined.{Said, combined-said}
+use Rattle.bitset_bit.proofs.Combined.Said.{by-both, by-index, by-name}
 use Rattle.refusal.specs.Refusal.{onStop}
 use Rattle.bitset_list.specs.BitList.{ListReading, onBit, bitsReading, asBitset, listReading}
 use Rattle.bitset_list.specs.BitList.ListReading.{listRefused, listEntries}
 use Rattle.bitset.specs.Judge as J
 use Rattle.bitset.specs.declared.judge.Mixing.{Mixing}
 use Rattle.bitset.specs.declared.judge.Mixing.the-variants.{Unmixed, At}
-use Rattle.bitset_bit.specs.declared.Identity.the-variants.{Number, Neither}
+use Rattle.bitset_bit.specs.declared.Identity.the-variants.{Number, Absent}
 use Rattle.bitset_bit.specs.declared.IdentityRead.{IdentityRead}
 use Rattle.bitset_bit.specs.declared.IdentityRead.the-variants as L
 use Rattle.bitset_bit.specs.declared.BitRead.{BitRead}
@@ -55,7 +56,7 @@ pub pass : (t : Bool) (r : Refusal) (x : Reading) (b : Bitset) → cond t (refus
 pass true r x b e = absurd (never r b e)
 pass false r x b e = (refl, e)
 
-pass-stop : (t : Stop) (x : Reading) (b : Bitset) → onStop t refused x ≡ accepted b → x ≡ accepted b
+pub pass-stop : (t : Stop) (x : Reading) (b : Bitset) → onStop t refused x ≡ accepted b → x ≡ accepted b
 pass-stop S.Whole x b e = e
 pass-stop (S.At f at) x b e = absurd (never _ b e)
 
@@ -111,49 +112,49 @@ compact-fits s nest n parts b e =
 -- the number of a BIT is below N
 index-below : (s : List ℕ) (n : ℕ) (index : Slot) (k : ℕ) → bitByIndex s n index ≡ L.Read (Number k) → k < n
 unfolding bitByIndex
-index-below s n index k e = go (leb n (slotNumber s index)) refl e
+index-below s n index k e = go (index .present) (leb n (slotNumber s index)) refl e
   where
-    go : (t : Bool) → leb n (slotNumber s index) ≡ t → cond t (L.Refused (PastLength (index .start - 4))) (L.Read (Number (slotNumber s index))) ≡ L.Read (Number k) → k < n
-    go true q e = absurd (let z : _≡_ {A = ℕ} 0 1 = cc in omega arith)
-    go false q e = let k : k ≡ slotNumber s index = cc in omega (arith, leb-false n (slotNumber s index) q)
+    go : (t u : Bool) → leb n (slotNumber s index) ≡ u
+        → cond t (cond u (L.Refused (PastLength (index .start - 4))) (L.Read (Number (slotNumber s index)))) (L.Read Absent) ≡ L.Read (Number k) → k < n
+    go true true q e = absurd (let z : _≡_ {A = ℕ} 0 1 = cc in omega arith)
+    go true false q e = let k : k ≡ slotNumber s index = cc in omega (arith, leb-false n (slotNumber s index) q)
+    go false u q e = absurd (let z : _≡_ {A = ℕ} 0 1 = cc in omega arith)
 
 name-below : (s names : List ℕ) (name : Slot) (k : ℕ) → bitByName s names name ≡ L.Read (Number k) → k < count names
 unfolding bitByName
-name-below s names name k e = go (lookup names (partOf s (name .start) (name .end))) refl e
+name-below s names name k e = go (name .present) (lookup names p .found) refl e
   where
     p : List ℕ
     p = partOf s (name .start) (name .end)
 
-    found : (t : Bool) → lookup names p .found ≡ t → cond t (L.Read (Number (lookup names p .bit))) (L.Refused (UnknownBit (name .start - 4))) ≡ L.Read (Number k) → k < count names
-    found true q e = let j : k ≡ lookup names p .bit = cc in rw j (lookup-found names p q .0)
-    found false q e = absurd (let z : _≡_ {A = ℕ} 0 1 = cc in omega arith)
+    go : (t u : Bool) → lookup names p .found ≡ u
+        → cond t (cond u (L.Read (Number (lookup names p .bit))) (L.Refused (UnknownBit (name .start - 4)))) (L.Read Absent) ≡ L.Read (Number k) → k < count names
+    go true true q e = let j : k ≡ lookup names p .bit = cc in rw j (lookup-found names p q .0)
+    go true false q e = absurd (let z : _≡_ {A = ℕ} 0 1 = cc in omega arith)
+    go false u q e = absurd (let z : _≡_ {A = ℕ} 0 1 = cc in omega arith)
 
-    go : (l : Lookup) → lookup names p ≡ l → onLookup (lookup names p) (name .start - 4) ≡ L.Read (Number k) → k < count names
-    go l q e = found (lookup names p .found) refl e
-
-identified-below : (s names : List ℕ) (parts : BitParts) (k : ℕ) → identified s names parts ≡ L.Read (Number k) → k < count names
+pub identified-below : (s names : List ℕ) (at : ℕ) (parts : BitParts) (k : ℕ) → identified s names at parts ≡ L.Read (Number k) → k < count names
 unfolding identified
-identified-below s names parts k e = go (parts .index .present) (parts .name .present) e
+identified-below s names at parts k e = go (combined-said at k _ _ e)
   where
-    go : (t u : Bool) → cond t (bitByIndex s (count names) (parts .index)) (cond u (bitByName s names (parts .name)) (L.Read Neither)) ≡ L.Read (Number k)
-        → k < count names
-    go true u e = index-below s (count names) (parts .index) k e
-    go false true e = name-below s names (parts .name) k e
-    go false false e = absurd (let z : _≡_ {A = ℕ} 0 1 = cc in omega arith)
+    go : Said k (bitByIndex s (count names) (parts .index)) (bitByName s names (parts .name)) → k < count names
+    go (by-both x y) = index-below s (count names) (parts .index) k x
+    go (by-index x y) = index-below s (count names) (parts .index) k x
+    go (by-name x y) = name-below s names (parts .name) k y
 
 bit-below : (s names : List ℕ) (from k : ℕ) (on : Bool) → bitReading s names from ≡ B.Bit k on → k < count names
 unfolding bitPartsReading
-bit-below s names from k on e = go (walked bitPolicy s from .stop) (identified s names parts) refl (sym (by-walk s names from) ∙ e)
+bit-below s names from k on e = go (walked bitPolicy s from .stop) (identified s names (from - 4) parts) refl (sym (by-walk s names from) ∙ e)
   where
     parts : BitParts
     parts = bitParts (walked bitPolicy s from .slots)
 
-    go : (t : Stop) (l : IdentityRead) → identified s names parts ≡ l
+    go : (t : Stop) (l : IdentityRead) → identified s names (from - 4) parts ≡ l
         → onStop t B.Refused (onIdentityRead l (from - 4) (parts .on .present)) ≡ B.Bit k on → k < count names
     go (S.At f at) l q e = absurd (let z : _≡_ {A = ℕ} 0 1 = cc in omega arith)
     go S.Whole (L.Refused r) q e = absurd (let z : _≡_ {A = ℕ} 0 1 = cc in omega arith)
-    go S.Whole (L.Read Neither) q e = absurd (let z : _≡_ {A = ℕ} 0 1 = cc in omega arith)
-    go S.Whole (L.Read (Number j)) q e = let i : k ≡ j = cc in rw i (identified-below s names parts j q)
+    go S.Whole (L.Read Absent) q e = absurd (let z : _≡_ {A = ℕ} 0 1 = cc in omega arith)
+    go S.Whole (L.Read (Number j)) q e = let i : k ≡ j = cc in rw i (identified-below s names (from - 4) parts j q)
 
 bits-below : (s names : List ℕ) (xs : Attributes) (es : List Listed) → bitsReading s names xs ≡ listEntries es → Below (count names) (listMask es)
 unfolding bitsReading listMask

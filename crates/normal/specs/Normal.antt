@@ -36,7 +36,7 @@ abbrev pub readingAnswer : Reading → ℕ → NormalAnswer
 readingAnswer (refused r) n = refusedBy r
 readingAnswer (accepted b) n = record { number = 0; bytes = normalForm n b }
 
--- "It refuses by 1 (list), 2 (page), 3 (contents over 32,768 bytes), then 10 to 13 and 18 to 22 in the handler's order, and then writes nothing"
+-- it refuses by 1 (list), 2 (page), 3 (contents over 32,768 bytes), then 10 to 13 and 18 to 23 "in the handler's order, and then writes nothing"
 unfoldable pub normalised : List ℕ → List ℕ → ℕ → NormalAnswer
 normalised contents names room =
     cond (not (namesRight names)) (refusedBy Box)

@@ -1,4 +1,5 @@
 pub mod Places
+pub mod Name
 pub mod Bit
 pub mod List
 pub mod Set

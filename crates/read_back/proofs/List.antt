@@ -10,6 +10,7 @@ use borrow.Author.Tests.{eq-eqb, ne-eqb}
 use Rattle.basics.proofs.Order.{lt-or-ge}
 use Rattle.bits.specs.Change.{Below, Listed, listMask}
 use Rattle.entries.specs.Entry.{count, entryAt}
+use Rattle.names.specs.Rule.{namesRight}
 use Rattle.netlink_attributes.specs.Attributes.{attributes, partOf}
 use Rattle.netlink.specs.Policy.{nulAt, ruleOf, nested, judged}
 use Rattle.netlink.specs.Walk.{firstFault}
@@ -92,7 +93,7 @@ module _ (names : List ℕ) (listed : ℕ → Bool) where
   all-from n = let z : 0 + n ≡ n = omega arith in ap (bitsBytes names listed) (sym z) ∙ from-back 0 n
 
   -- they are whole, and each is read
-  module _ (s : List ℕ) (few : count names ≤ 512) where
+  module _ (s : List ℕ) (right : namesRight names ≡ true) (few : count names ≤ 512) where
     Read : ℕ → List Listed → Type 0
     Read at es = (firstFault bitsPolicy s (attributes s at) ≡ Whole) × (bitsReading s names (attributes s at) ≡ listEntries es)
 
@@ -104,7 +105,7 @@ module _ (names : List ℕ) (listed : ℕ → Bool) where
         let most = index-name-most k (entryAt names k) in
         let z = at + 4 + length c in
         let here = nest-at s pre rest c 1 at e ea (at + 4) z _ (omega arith) (omega arith) (index-name-whole k (entryAt names k)) refl refl refl in
-        let says = bit-back (partOf s 0 z) (upTo pre 1 c) names (entryAt names k) k (at + 4) (contents-at s pre rest c 1 at e ea (at + 4) refl) (omega arith) l short
+        let says = bit-back (partOf s 0 z) (upTo pre 1 c) names right k (at + 4) (contents-at s pre rest c 1 at e ea (at + 4) refl) (omega arith) l short
         (cut-at s pre rest c 1 at e ea z refl) in (
           ap (firstFault bitsPolicy s) here ∙ r .0,
           ap (bitsReading s names) here ∙ rw (says, r .1),

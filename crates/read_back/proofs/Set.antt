@@ -134,7 +134,7 @@ module _ (s pre post names : List ℕ) (n at : ℕ) (e : s ≡ pre ++ (openingBy
         (number-back, value-back, length-bytesOf words, en, le-ltb (length words * 4 / 4) (wordsFor n) (omega arith), none-between (has (wordsIn (bytesOf words))) n)
 
   -- verbose: BITS is behind it
-  module _ (listed : ℕ → Bool) (ep : post ≡ nest 3 (bitsBytes names listed n) ++ []) (short : Short names n) where
+  module _ (right : namesRight names ≡ true) (listed : ℕ → Bool) (ep : post ≡ nest 3 (bitsBytes names listed n) ++ []) (short : Short names n) where
     bits-in : s ≡ (pre ++ openingBytes n) ++ (nest 3 (bitsBytes names listed n) ++ [])
     bits-in = post-in ∙ ap (λ (l : List ℕ). (pre ++ openingBytes n) ++ l) ep
 
@@ -166,7 +166,7 @@ module _ (s pre post names : List ℕ) (n at : ℕ) (e : s ≡ pre ++ (openingBy
         let all = part-all s (length s) refl in
         let cut = cut-at s (pre ++ openingBytes n) [] bits 3 (at + 12) bits-in past-size (length s) (omega (arith, bits-end)) in
         let place = contents-at s (pre ++ openingBytes n) [] bits 3 (at + 12) bits-in past-size (at + 16) (omega arith) in
-        let read = list-back names listed s (omega arith) (upTo (pre ++ openingBytes n) 3 bits) n (at + 16) (sym all ∙ cut) place (omega arith) short in
+        let read = list-back names listed s right (omega arith) (upTo (pre ++ openingBytes n) 3 bits) n (at + 16) (sym all ∙ cut) place (omega arith) short in
         by-walk _ verbose-walked
         ∙ rw (all, stop-is bitsPolicy s (at + 16), read .0, read .1)
 
@@ -191,7 +191,7 @@ module _ (pre names words : List ℕ) (n : ℕ) (right : namesRight names ≡ tr
       let bits = nest 3 (bitsBytes names (has words) n) in
       let short : Short names n = rw en at (right-short names right) in (
         nomaskList (listedFrom (has words) 0 n),
-        verbose-back (pre ++ verboseBytes names words n) pre bits names n (length pre) refl refl few en (has words) (sym (append-nil bits)) short,
+        verbose-back (pre ++ verboseBytes names words n) pre bits names n (length pre) refl refl few en right (has words) (sym (append-nil bits)) short,
         λ start i. mask-back (has words) n i below,
       )
 

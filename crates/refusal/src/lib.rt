@@ -52,6 +52,8 @@ pub enum Refusal {
     UnknownBit(usize),
     // 22: a BIT with neither index nor name.
     NoBit(usize),
+    // 23: a BIT whose index and name mean two bits.
+    TwoBits(usize),
 }
 
 // A row of the table: the number, the errno of the error message (0 where none is written), and what the message says beside it.
@@ -100,6 +102,7 @@ impl Refusal {
             Refusal::PastLength(at) => as_row(20, 95, Detail::Offset(at)),
             Refusal::UnknownBit(at) => as_row(21, 95, Detail::Offset(at)),
             Refusal::NoBit(at) => as_row(22, 22, Detail::Offset(at)),
+            Refusal::TwoBits(at) => as_row(23, 22, Detail::Offset(at)),
         }
     }
 

@@ -44,7 +44,7 @@ pub record Outcome (S : Type 0) : Type 0 where
 abbrev pub responseOf : Kind → ℕ → List ℕ → Response
 responseOf kind next bytes = record { kind = kind; next = next; bytes = bytes }
 
--- "5 to 22 write one error message"
+-- every refusal from 5 on writes one error message
 abbrev pub errorResponse : List ℕ → ℕ → Refusal → Response
 errorResponse message next r = responseOf (Refused r) next (errorMessage message (errnoOf r) (detailOf r))
 

@@ -141,6 +141,12 @@ enum-known-self-14 c = search needs
 as-row-requires-23 : tie.Need-as-row-requires-23
 as-row-requires-23 c κs = search needs
 
+enum-known-self-15 : tie.Need-enum-known-self-15
+enum-known-self-15 c = search needs
+
+as-row-requires-24 : tie.Need-as-row-requires-24
+as-row-requires-24 c κs = search needs
+
 returns : tie.Need-returns
 returns c = search (needs, row-of)
 
@@ -210,6 +216,9 @@ returns-22 c = search (needs, row-of)
 returns-23 : tie.Need-returns-23
 returns-23 c = search (needs, row-of)
 
+returns-24 : tie.Need-returns-24
+returns-24 c = search (needs, row-of)
+
 pub row-spec : {M : Type 1} → statement M
 row-spec =
     tie.close
@@ -260,6 +269,8 @@ row-spec =
     as-row-requires-22
     enum-known-self-14
     as-row-requires-23
+    enum-known-self-15
+    as-row-requires-24
     returns
     returns-2
     returns-3
@@ -282,4 +293,5 @@ row-spec =
     returns-20
     returns-21
     returns-22
-    returns-23)
+    returns-23
+    returns-24)
