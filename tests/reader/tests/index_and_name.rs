@@ -71,8 +71,8 @@ fn index_and_name_of_one_bit_are_accepted_in_any_order() {
         assert_eq!(made(std::slice::from_ref(&list)), [9, 2]);
         assert_eq!(made(&[attribute(NOMASK, &[]), list]), [8, 0]);
     }
-    let off = bit(&[index(0), on()]);
-    assert_eq!(made(&[nest(BITS, &[off, bit(&[index(5), name(b"eee\0")]), both(6, b"eee2\0")])]), [0x41, 2]);
+    let without_value = bit(&[index(5), name(b"eee\0")]);
+    assert_eq!(made(&[nest(BITS, &[without_value, both(6, b"eee2\0"), bit_at(0, false)])]), [0x40, 2]);
 }
 
 #[test]
