@@ -1,4 +1,5 @@
-//! Bit lists (document 01, "Bitsets"): BITS walked whole, then each BIT in order, walked whole and judged.
+//! Bit lists (document 01, "Bitsets"; request C-12): BITS walked whole, then each BIT in order, walked whole and
+//! judged.
 
 use super::attribute::{self, Attribute, Payload, Policy, Span};
 use super::bitset::Change;
@@ -23,7 +24,8 @@ pub fn judge(message: &[u8], list: Span, nomask: bool, names: &NameList, change:
     Ok(())
 }
 
-/// The bit that a BIT means: INDEX decides where it stands (20), else NAME (21), else none is meant (22).
+/// The bit that a BIT means. INDEX is judged first (20), then NAME (21), then whether both mean the same bit (23), or
+/// whether none is meant (22).
 #[inline]
 fn identify(
     message: &[u8],
@@ -32,12 +34,24 @@ fn identify(
     name: Option<Attribute>,
     names: &NameList,
 ) -> Result<usize, Fault> {
-    match (index, name) {
-        (Some(index), _) => {
-            let bit = index.number(message) as usize;
-            (bit < names.bits()).then_some(bit).ok_or(Fault::at(20, index.at))
-        }
-        (None, Some(name)) => names.find(name.name(message)).ok_or(Fault::at(21, name.at)),
+    let by_index = index.map(|index| numbered(message, index, names)).transpose()?;
+    let by_name = name.map(|name| called(message, name, names)).transpose()?;
+    match (by_index, by_name) {
+        (Some(index), Some(name)) if index != name => Err(Fault::at(23, entry.at)),
+        (Some(bit), _) | (None, Some(bit)) => Ok(bit),
         (None, None) => Err(Fault::at(22, entry.at)),
     }
+}
+
+/// The bit with the number in INDEX.
+#[inline]
+fn numbered(message: &[u8], index: Attribute, names: &NameList) -> Result<usize, Fault> {
+    let bit = index.number(message) as usize;
+    (bit < names.bits()).then_some(bit).ok_or(Fault::at(20, index.at))
+}
+
+/// The bit with this NAME.
+#[inline]
+fn called(message: &[u8], name: Attribute, names: &NameList) -> Result<usize, Fault> {
+    names.find(name.name(message)).ok_or(Fault::at(21, name.at))
 }

@@ -1,4 +1,4 @@
-//! Refusals 5 to 22 (document 01, "What a call says back"): number, errno, detail.
+//! Refusals 5 to 22 (document 01, "What a call says back") and 23 (request C-12): number, errno, detail.
 
 /// What an error message says beside its errno.
 #[derive(Clone, Copy, Debug, PartialEq, Eq)]

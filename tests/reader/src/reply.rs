@@ -25,7 +25,7 @@ const BIT: u16 = 1;
 const BIT_INDEX: u16 = 1;
 const BIT_NAME: u16 = 2;
 
-/// Error message of a refusal 5 to 22.
+/// Error message of a refusal 5 to 23.
 pub fn error(page: &mut Page, request: &[u8], header: &MessageHeader, fault: Fault) {
     let flags = match fault.detail {
         Detail::None => CAPPED,

@@ -33,7 +33,7 @@ fn any_bytes_in_any_place() {
         let datagram = some_bytes(state, 200);
         let position = [0, 0, next(state) as u64 % 250, u64::MAX, 1 << 32][next(state) % 5];
         let answer = setup.call_at(&datagram, position);
-        assert!(answer.kind <= 3 && answer.refusal <= 22 && answer.written <= setup.page.len() as u64);
+        assert!(answer.kind <= 3 && answer.refusal <= 23 && answer.written <= setup.page.len() as u64);
         reader::normalise(&datagram, &setup.flag_names, &mut setup.page);
         reader::run(&datagram);
     }
@@ -48,7 +48,7 @@ fn any_bytes_after_right_headers() {
         inside.iter_mut().for_each(|byte| *byte %= [12, 255][next(state) % 2]);
         let request = message(command, REQUEST, &[by_index(3), attribute(0x8002, &inside)]);
         let answer = Setup::document().call(&request);
-        assert!(matches!(answer.refusal, 0 | 10..=13 | 18..=22));
+        assert!(matches!(answer.refusal, 0 | 10..=13 | 18..=23));
         assert_eq!(answer.next, request.len() as u64);
     }
 }

@@ -69,6 +69,7 @@ fn every_refusal_has_its_errno() {
         (20, -95, set(&[nest(BITS, &[bit_at(40, true)])])),
         (21, -95, set(&[nest(BITS, &[bit_called(b"lld\0", true)])])),
         (22, -22, set(&[nest(BITS, &[bit(&[])])])),
+        (23, -22, set(&[nest(BITS, &[bit(&[number(1, 5), attribute(2, b"lldp\0")])])])),
     ];
     for (number, expected, request) in cases {
         let (refusal, error) = setup.refusal(&request);

@@ -1,4 +1,4 @@
-//! Readings 20 to 25: bitsets, the normaliser, answers.
+//! Readings 20 to 25, 22 as request C-12 turns it: bitsets, the normaliser, answers.
 
 mod common;
 use common::*;
@@ -101,10 +101,11 @@ fn size_of_a_list_is_judged_but_ignored() {
 }
 
 #[test]
-fn index_decides_and_a_name_beside_it_is_judged_by_12_alone() {
+fn name_beside_an_index_is_judged_as_one_alone_and_means_the_same_bit() {
     let both = |index: u32, name: &[u8]| bit(&[number(1, index), attribute(2, name), attribute(3, &[])]);
-    assert_eq!(made(&[nest(BITS, &[both(5, b"lldp\0")])]), [0x21, 2]);
-    assert_eq!(made(&[nest(BITS, &[both(5, b"unknown\0")])]), [0x21, 2]);
+    assert_eq!(made(&[nest(BITS, &[both(3, b"lldp\0")])]), [9, 2]);
+    assert_eq!(judged(&[nest(BITS, &[both(5, b"lldp\0")])]), (23, 4));
+    assert_eq!(judged(&[nest(BITS, &[both(5, b"unknown\0")])]), (21, 16));
     assert_eq!(judged(&[nest(BITS, &[both(40, b"lldp\0")])]), (20, 8));
     assert_eq!(judged(&[nest(BITS, &[both(5, b"lldp")])]), (12, 16));
 }
