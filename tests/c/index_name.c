@@ -1,13 +1,13 @@
 /*
- * BITs with an index and a name: done where both mean one bit, else refused. Of a refusal the whole error message is compared, the
- * normaliser's number too, and no setting may have changed.
+ * BITs with an index and a name: done where both mean one bit, else refused. Of a refusal the whole error message is
+ * compared, the normaliser's number too, and no setting may have changed.
  */
 #include "check.h"
 #include "program_box.h"
 
 /*
- * Where the first BIT of a masked list stands, in it INDEX, then NAME; then the second BIT, behind a name of 4 to 7 bytes and VALUE.
- * Under NOMASK each is 4 bytes further.
+ * Where the first BIT of a masked list stands, and in it INDEX, then NAME; then the second BIT, behind a name of 4 to 7
+ * bytes and VALUE. Under NOMASK each is 4 bytes further.
  */
 enum { AT_BIT = 40, AT_INDEX = 44, AT_NAME = 52, AT_SECOND_BIT = 68 };
 
@@ -123,8 +123,8 @@ static void refusals(void)
         for (uint32_t nomask = 0; nomask <= 1; nomask++) {
             begin_set(PRIVFLAGS_SET, (int)nomask);
             put_bit(&request, row->index, row->name, 1);
-            expect_refused(row->what, row->refusal, row->errno_value, row->offset + 4 * nomask);
-            expect_no_form(nomask ? "  under NOMASK, by the normaliser" : "  by the normaliser", row->refusal);
+            expect_refused(nomask ? "  under NOMASK" : row->what, row->refusal, row->errno_value, row->offset + 4 * nomask);
+            expect_no_form("  by the normaliser", row->refusal);
         }
     }
 }
@@ -155,8 +155,9 @@ static void inside_a_bit(void)
     name(&request, BIT_NAME, "lldp");
     number(&request, BIT_INDEX, N);
     number(&request, BIT_INDEX, 3);
+    flag(&request, BIT_VALUE);
     end_nest(&request, bit);
-    expect_done("a name before its index, the last of each counts: done", 1, 2);
+    expect_done("a name before its index, the last of each counts: done", 1 | 8, 2);
     begin_set(PRIVFLAGS_SET, 0);
     bit = begin_nest(&request, BIT);
     number(&request, BIT_INDEX, 3);
