@@ -3,7 +3,7 @@
 . "$here/by_hand.sh"
 begin "$root/examples/quay.box"
 
-# carries WHAT WORDS..: what identifies the bit in each BIT that the tool sends, as its --debug tells.
+# carries WHAT WORDS..: what tells the bit in each BIT that the tool sends; --debug 0x12 shows its messages attribute by attribute.
 carries() {
     what=$1
     shift
