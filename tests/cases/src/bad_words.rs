@@ -1,4 +1,4 @@
-//! Damage to what well-formed attributes say: 14 to 22.
+//! Damage to what well-formed attributes say: 14 to 23.
 
 use super::bitsets::{BITS, BIT_INDEX, BIT_NAME, MASK, NOMASK, SIZE, VALUE};
 use super::boxes::Model;
@@ -148,17 +148,35 @@ fn damage_list(rng: &mut Rng, bitset: &mut [Attribute], list: &[Vec<u8>]) {
     let Some(parts) = entries[chosen].inside() else {
         return;
     };
-    match rng.below(4) {
+    match rng.below(9) {
         0 => {
-            let index = list.len() as u32 + rng.pick(&[0, 0, 1, 24, 31, 32]);
-            let index = rng.pick(&[index, index, 512, 0x8000_0000, u32::MAX]);
+            let index = index_past_n(rng, list.len());
             put(rng, parts, Attribute::number(BIT_INDEX, index));
         }
         1 => parts.retain(|part| !matches!(part.plain_kind(), BIT_INDEX | BIT_NAME)),
-        _ => {
+        2 | 3 => {
             parts.retain(|part| part.plain_kind() != BIT_INDEX);
             let name = if rng.per_mille(300) { Vec::new() } else { names::any(rng, list, 31) };
             put(rng, parts, Attribute::name(BIT_NAME, &name));
         }
+        _ => index_beside_name(rng, parts, list),
     }
+}
+
+fn index_past_n(rng: &mut Rng, bits: usize) -> u32 {
+    let index = bits as u32 + rng.pick(&[0, 0, 1, 24, 31, 32]);
+    rng.pick(&[index, index, 512, 0x8000_0000, u32::MAX])
+}
+
+/// INDEX, now and then past N, beside NAME: mostly of another bit, else unknown or empty.
+fn index_beside_name(rng: &mut Rng, parts: &mut Vec<Attribute>, list: &[Vec<u8>]) {
+    let named: Vec<&Vec<u8>> = list.iter().filter(|name| !name.is_empty()).collect();
+    let name = match rng.below(5) {
+        0 => Vec::new(),
+        1..4 if !named.is_empty() => rng.pick(&named).clone(),
+        _ => names::any(rng, list, 31),
+    };
+    let index = if rng.per_mille(330) { index_past_n(rng, list.len()) } else { rng.below(list.len()) as u32 };
+    put(rng, parts, Attribute::number(BIT_INDEX, index));
+    put(rng, parts, Attribute::name(BIT_NAME, &name));
 }

@@ -1,6 +1,5 @@
-//! Valid bitsets in every form (document 01, "Bitsets").
+//! Valid bitsets in every form (document 01, "Bitsets"; request C-12).
 
-use super::names;
 use super::rng::Rng;
 use super::tree::Attribute;
 
@@ -90,21 +89,16 @@ fn bit_list(rng: &mut Rng, list: &[Vec<u8>]) -> Vec<Attribute> {
 pub fn bit(rng: &mut Rng, list: &[Vec<u8>]) -> Attribute {
     let number = if rng.per_mille(300) { rng.below(list.len().min(3)) } else { rng.below(list.len()) };
     let index = Attribute::number(BIT_INDEX, number as u32);
+    let name = Attribute::name(BIT_NAME, &list[number]);
     let mut parts = match rng.below(4) {
-        0 | 1 if !list[number].is_empty() => vec![Attribute::name(BIT_NAME, &list[number])],
-        2 => vec![index, Attribute::name(BIT_NAME, &beside_an_index(rng, list))],
+        _ if list[number].is_empty() => vec![index],
+        0 | 1 => vec![name],
+        2 if rng.per_mille(300) => vec![name, index],
+        2 => vec![index, name],
         _ => vec![index],
     };
     if rng.coin() {
         parts.insert(rng.below(parts.len() + 1), Attribute::leaf(BIT_VALUE, &[]));
     }
     Attribute::nest(BIT, parts)
-}
-
-/// A name that stands beside an index: any, known or not, empty too.
-fn beside_an_index(rng: &mut Rng, list: &[Vec<u8>]) -> Vec<u8> {
-    match rng.coin() {
-        true => list[rng.below(list.len())].clone(),
-        false => names::any(rng, list, 31),
-    }
 }

@@ -44,7 +44,7 @@ enum Part {
 
 const PARTS: [(usize, Part); 7] = [
     (40, Part::Tree),
-    (34, Part::Words),
+    (48, Part::Words),
     (14, Part::Message),
     (3, Part::Admin),
     (7, Part::Box),
@@ -118,7 +118,7 @@ fn normalise(rng: &mut Rng) -> NormaliseCase {
     let mut page = FORM_PAGE + rng.pick(&[0, 0, 0, 1, 56]);
     let mut long = false;
     for _ in 0..damages(rng) {
-        match rng.below(50) {
+        match rng.below(64) {
             0 | 1 => page = rng.pick(&[FORM_PAGE - 1, FORM_PAGE - 1, 24, 1, 0]),
             2..5 => bad_list(rng, &mut names),
             5 => long = true,

@@ -4,9 +4,9 @@ use super::Outcome;
 use std::fmt::{Display, Formatter, Result};
 
 /// The largest refusal number.
-const LAST: usize = 22;
+const LAST: usize = 23;
 /// The numbers that the normaliser can give.
-const NORMALISER: [usize; 13] = [0, 1, 2, 3, 10, 11, 12, 13, 18, 19, 20, 21, 22];
+const NORMALISER: [usize; 14] = [0, 1, 2, 3, 10, 11, 12, 13, 18, 19, 20, 21, 22, 23];
 
 /// The largest number of a box's part.
 const LAST_PART: usize = 6;

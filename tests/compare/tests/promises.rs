@@ -40,7 +40,7 @@ fn kind_number_and_count_fit_together() {
             (END | SKIPPED, 0) | (REFUSED, 1..=4) => assert_eq!(written, 0),
             (REFUSED, 5..=9) => assert_eq!(written, 36),
             (REFUSED, 13) => assert!(written == 44 || written == 52),
-            (REFUSED, 10..=22) => assert_eq!(written, 44),
+            (REFUSED, 10..=23) => assert_eq!(written, 44),
             (DONE, 0) => assert!(written % 4 == 0 && written <= 24_684),
             _ => panic!("{answer:?} for {case}"),
         }

@@ -1,4 +1,4 @@
-//! SETs: the sheet of marked bitsets on the flags, and a few changes of the debug set.
+//! SETs: the sheet of marked bitsets on the flags, index and name in one BIT, and a few changes of the debug set.
 
 use super::making::*;
 use cases::requests::ACK;
@@ -37,6 +37,20 @@ pub fn sheet() -> Vec<Message> {
         messages.push(message("the flags after it", Outcome::Done, request(PRIVFLAGS_GET, 0, vec![port()])));
     }
     messages
+}
+
+/// The flags are {0, 1, 2, 33} before it.
+pub fn index_and_name() -> Vec<Message> {
+    let listed = |on| bits(vec![bit_at(1, false), bit_of_both(3, b"lldp", on)]);
+    let shown = || message("the flags after it", Outcome::Done, request(PRIVFLAGS_GET, 0, vec![port()]));
+    vec![
+        message("flag 3 by index and name", Outcome::Done, set(PRIVFLAGS_SET, ACK, vec![listed(true)])),
+        shown(),
+        message("flag 3 off again", Outcome::Done, set(PRIVFLAGS_SET, 0, vec![listed(false)])),
+        shown(),
+        message("the same under NOMASK", Outcome::Done, set(PRIVFLAGS_SET, ACK, vec![nomask(), listed(false)])),
+        shown(),
+    ]
 }
 
 pub fn debug() -> Vec<Message> {

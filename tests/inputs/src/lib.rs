@@ -1,6 +1,6 @@
 //! Inputs for the program `answer`, for the one box that it has: port 3 "sw0", 40 bits in each set, flag 3 "lldp".
 //!
-//! The stored input (`crates/answer/stdin`) is [`stored`]: one long datagram that meets every refusal from 5 to 22 but
+//! The stored input (`crates/answer/stdin`) is [`stored`]: one long datagram that meets every refusal from 5 to 23 but
 //! 9, which cannot be met since the program's sender is always admin. The other inputs are the ways in which a run ends.
 
 #![forbid(unsafe_code)]
@@ -18,10 +18,12 @@ pub use making::{Message, Outcome};
 pub fn messages() -> Vec<Message> {
     let mut messages = gets::before();
     messages.extend(changes::sheet());
+    messages.extend(changes::index_and_name());
     messages.extend(changes::debug());
     messages.extend(refusals::of_message());
     messages.extend(refusals::of_header());
     messages.extend(refusals::of_bitset());
+    messages.extend(refusals::of_index_and_name());
     messages.extend(gets::after());
     messages
 }

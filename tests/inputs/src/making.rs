@@ -86,21 +86,26 @@ pub fn bits(bits: Vec<Attribute>) -> Attribute {
 }
 
 /// A BIT of some identification, with or without its VALUE flag.
-fn bit(identity: Option<Attribute>, on: bool) -> Attribute {
+fn bit(identity: Vec<Attribute>, on: bool) -> Attribute {
     let flag = on.then(|| Attribute::leaf(BIT_VALUE, &[]));
     Attribute::nest(BIT, identity.into_iter().chain(flag).collect())
 }
 
 pub fn bit_at(index: u32, on: bool) -> Attribute {
-    bit(Some(Attribute::number(BIT_INDEX, index)), on)
+    bit(vec![Attribute::number(BIT_INDEX, index)], on)
 }
 
 pub fn bit_called(name: &[u8], on: bool) -> Attribute {
-    bit(Some(Attribute::name(BIT_NAME, name)), on)
+    bit(vec![Attribute::name(BIT_NAME, name)], on)
+}
+
+/// A BIT with INDEX and NAME.
+pub fn bit_of_both(index: u32, name: &[u8], on: bool) -> Attribute {
+    bit(vec![Attribute::number(BIT_INDEX, index), Attribute::name(BIT_NAME, name)], on)
 }
 
 pub fn bit_of_nothing() -> Attribute {
-    bit(None, true)
+    bit(vec![], true)
 }
 
 /// Requests as one datagram: sequence numbers rise, and padding between messages is filled with ones.

@@ -1,4 +1,4 @@
-//! Each refusal from 5 to 22 but 9, in the ways in which document 01 tells them apart.
+//! Each refusal from 5 to 23 but 9, in the ways in which document 01 and request C-12 tell them apart.
 
 use super::making::*;
 use cases::bitsets::{BIT, BITS, NOMASK, SIZE};
@@ -54,7 +54,7 @@ pub fn of_header() -> Vec<Message> {
     ]
 }
 
-/// The bitset's 10 to 13, and 18 to 22.
+/// The bitset's 10 to 13, and 18 to 22 where no BIT carries index and name.
 pub fn of_bitset() -> Vec<Message> {
     let of = |contents| set(PRIVFLAGS_SET, ACK, contents);
     let list = |listed| set(PRIVFLAGS_SET, 0, vec![bits(listed)]);
@@ -79,5 +79,21 @@ pub fn of_bitset() -> Vec<Message> {
         refused(21, "an unknown bit name", list(vec![bit_called(b"lldp", true), bit_called(b"eee", true)])),
         refused(21, "an empty bit name", list(vec![bit_called(b"", true)])),
         refused(22, "a BIT with neither", list(vec![bit_at(6, true), bit_of_nothing()])),
+    ]
+}
+
+/// 20, 21 and 23 of a BIT that carries index and name.
+pub fn of_index_and_name() -> Vec<Message> {
+    let list = |listed| set(PRIVFLAGS_SET, 0, vec![bits(listed)]);
+    let other = || bit_of_both(5, b"lldp", true);
+    let odd = Attribute::nest(BIT, vec![Attribute::number(4, 0)]);
+    vec![
+        refused(20, "index 40 beside a bit's name", list(vec![bit_of_both(40, b"lldp", true)])),
+        refused(20, "index 40 beside an unknown name", list(vec![bit_of_both(40, b"eee", true)])),
+        refused(21, "an unknown name beside an index", list(vec![bit_of_both(3, b"eee", true)])),
+        refused(21, "an empty name beside an index", list(vec![bit_of_both(5, b"", true)])),
+        refused(23, "index 5 beside the name of bit 3", list(vec![bit_at(6, true), other()])),
+        refused(23, "the same under NOMASK", set(PRIVFLAGS_SET, ACK, vec![nomask(), bits(vec![other()])])),
+        refused(23, "the same before type 4 in the next BIT", list(vec![other(), odd])),
     ]
 }

@@ -68,7 +68,7 @@ fn index_and_name_of_one_bit_are_accepted_in_any_order() {
     let parts = [index(3), name(b"lldp\0"), on()];
     for [a, b, c] in [[0, 1, 2], [0, 2, 1], [1, 0, 2], [1, 2, 0], [2, 0, 1], [2, 1, 0]] {
         let list = nest(BITS, &[bit(&[parts[a].clone(), parts[b].clone(), parts[c].clone()])]);
-        assert_eq!(made(&[list.clone()]), [9, 2]);
+        assert_eq!(made(std::slice::from_ref(&list)), [9, 2]);
         assert_eq!(made(&[attribute(NOMASK, &[]), list]), [8, 0]);
     }
     let off = bit(&[index(0), on()]);
