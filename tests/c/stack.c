@@ -111,7 +111,7 @@ static void set(const char *what, uint32_t expected)
     measure(what, handle, expected);
 }
 
-/* The faults stand in the last BIT: its name ends 5 bytes before the end, its index begins 44 before. */
+/* The faults stand in the last BIT: the NUL of its name is 5 bytes before the end, the number of its index 44. */
 static void lists(void)
 {
     list_contents(0);
