@@ -62,13 +62,13 @@ extern "C" {
 
 /* The version of this header. */
 #define ETHNL_VERSION_MAJOR 0
-#define ETHNL_VERSION_MINOR 2
+#define ETHNL_VERSION_MINOR 3
 #define ETHNL_VERSION_PATCH 0
 #define ETHNL_VERSION (10000 * ETHNL_VERSION_MAJOR + 100 * ETHNL_VERSION_MINOR + ETHNL_VERSION_PATCH) /* a number for #if */
 #define ETHNL_VERSION_STRING ETHNL_DOTTED(ETHNL_VERSION_MAJOR, ETHNL_VERSION_MINOR, ETHNL_VERSION_PATCH) /* major.minor.patch */
 #define ETHNL_DOTTED(major, minor, patch) ETHNL_DOTTED_TEXT(major, minor, patch)
 #define ETHNL_DOTTED_TEXT(major, minor, patch) #major "." #minor "." #patch
-#define ETHNL_LEVEL 0 /* the number of the highest change request that the library has; 0: none */
+#define ETHNL_LEVEL 12 /* the number of the highest change request that the library has; C-11, dumps, is not in it */
 
 /* Sizes in bytes. */
 #define ETHNL_PAGE_MIN 32768     /* shortest answer page of ethnl_handle */
@@ -120,8 +120,9 @@ extern "C" {
 #define ETHNL_REFUSAL_FORMS_MIXED 18    /* EINVAL: bitmap and bit list mixed, or NOMASK with MASK; OFFS VALUE or MASK */
 #define ETHNL_REFUSAL_BITMAP_LEN 19     /* EINVAL: bitmap too short for SIZE; OFFS VALUE or MASK */
 #define ETHNL_REFUSAL_BIT_PAST_END 20   /* EOPNOTSUPP: bit number at or past N; OFFS INDEX, VALUE or MASK */
-#define ETHNL_REFUSAL_UNKNOWN_BIT 21    /* EOPNOTSUPP: bit name unknown; OFFS NAME */
+#define ETHNL_REFUSAL_UNKNOWN_BIT 21    /* EOPNOTSUPP: bit name unknown, also beside an index; OFFS NAME */
 #define ETHNL_REFUSAL_NO_BIT 22         /* EINVAL: a BIT with neither index nor name; OFFS BIT */
+#define ETHNL_REFUSAL_INDEX_NAME 23     /* EINVAL: index and name of a BIT mean two bits; OFFS BIT */
 #define ETHNL_LAST_SILENT 4             /* the last refusal that writes nothing */
 
 /* Attributes of an error message. linux/netlink.h has them from Linux 6.1 on only (NLMSGERR_ATTR_MISS_). */
@@ -176,7 +177,7 @@ void ethnl_handle(uint32_t family, uint32_t admin,
 
 /*
  * Writes the normal form of a bitset: two accepted bitsets change every set alike exactly where their normal
- * forms are equal bytes, however they were written (bitmap or bit list, names or numbers).
+ * forms are equal bytes, however they were written (bitmap or bit list, names, numbers or both).
  *
  *   contents     what stands inside a bitset attribute (attribute 2 of a SET, the last where there are several), its
  *                own 4 header bytes left out; at most ETHNL_DATAGRAM_MAX bytes, may be empty
@@ -185,7 +186,7 @@ void ethnl_handle(uint32_t family, uint32_t admin,
  *   written      bytes of the form, 16 + 2 * ETHNL_SET_LEN(N); 0 if refused
  *
  * The form is the contents of a compact bitset: SIZE N, VALUE, MASK. Returns 0 if accepted, else the number of a
- * refusal: 1 (names), 2 (page), 3 (contents too long), 10 to 13, 18 to 22.
+ * refusal: 1 (names), 2 (page), 3 (contents too long), 10 to 13, 18 to 23.
  */
 uint32_t ethnl_normalise(const uint8_t *contents, size_t contents_len,
                          const uint8_t *names, size_t names_len,

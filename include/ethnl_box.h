@@ -117,6 +117,7 @@ ETHNL_INLINE const char *ethnl_strerror(uint32_t refusal)
         "A bit's number is at or past the end of the set.",
         "A bit's name is not in the list.",
         "A bit has neither index nor name.",
+        "The index and the name of a bit mean two bits.",
     };
 
     return refusal < sizeof sentences / sizeof *sentences ? sentences[refusal] : "The number is not that of a refusal.";

@@ -2,7 +2,7 @@
 
 use crate::lent::Lent;
 use crate::library;
-use crate::requests::{self, PRIVFLAGS_GET, PRIVFLAGS_SET};
+use crate::requests::{self, Told, PRIVFLAGS_GET, PRIVFLAGS_SET};
 use std::hint::black_box;
 
 #[derive(Clone, Copy, PartialEq, Eq)]
@@ -36,14 +36,23 @@ impl Call {
         Self::new("box check alone", ports, bits, Input::End)
     }
 
+    fn set(name: &str, ports: usize, bits: usize, contents: &[u8]) -> Self {
+        let message = requests::request(PRIVFLAGS_SET, ports - 1, false, Some(contents));
+        Self::new(name, ports, bits, Input::Message(message))
+    }
+
     pub fn compact_set(ports: usize, bits: usize) -> Self {
-        let message = requests::request(PRIVFLAGS_SET, ports - 1, false, Some(&requests::compact(bits)));
-        Self::new("compact SET", ports, bits, Input::Message(message))
+        Self::set("compact SET", ports, bits, &requests::compact(bits))
     }
 
     pub fn list_set(entries: usize, ports: usize, bits: usize) -> Self {
-        let message = requests::request(PRIVFLAGS_SET, ports - 1, false, Some(&requests::list(entries, bits)));
-        Self::new(&format!("SET by {entries} names"), ports, bits, Input::Message(message))
+        Self::set(&format!("SET by {entries} names"), ports, bits, &requests::list(Told::Name, entries, bits))
+    }
+
+    /// The same list, each BIT with the index of its name before it.
+    pub fn indexed_set(entries: usize, ports: usize, bits: usize) -> Self {
+        let name = format!("SET by {entries} BITs with index and name");
+        Self::set(&name, ports, bits, &requests::list(Told::IndexAndName, entries, bits))
     }
 
     pub fn compact_get(ports: usize, bits: usize) -> Self {
@@ -65,7 +74,7 @@ impl Call {
 
     pub fn normalise(entries: usize, bits: usize) -> Self {
         let name = format!("normalise {entries} names");
-        Self::new(&name, 1, bits, Input::Contents(requests::list(entries, bits)))
+        Self::new(&name, 1, bits, Input::Contents(requests::list(Told::Name, entries, bits)))
     }
 
     /// Which part of the largest box is at fault, and where; `spoil` makes it so.

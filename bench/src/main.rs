@@ -41,6 +41,7 @@ fn compared() -> Vec<Call> {
         [
             Call::compact_set(ports, bits),
             Call::list_set(40, ports, bits),
+            Call::indexed_set(40, ports, bits),
             Call::compact_get(ports, bits),
             Call::verbose_get(ports, bits),
             Call::normalise(512, bits),
@@ -68,7 +69,8 @@ fn growing() -> Vec<Call> {
     const PORTS: [usize; 5] = [1, 8, 16, 32, 64];
     const ENTRIES: [usize; 5] = [1, 16, 64, 256, 512];
     let by_names = BITS.map(|bits| Call::box_check(1, bits)).into_iter();
-    let by_names = by_names.chain(BITS.map(|bits| Call::list_set(40, 1, bits)));
+    let lists = |bits| [Call::list_set(40, 1, bits), Call::indexed_set(40, 1, bits)];
+    let by_names = by_names.chain(BITS.into_iter().flat_map(lists));
     let by_names = by_names.chain(BITS.map(|bits| Call::verbose_get(1, bits)));
     let by_names = by_names.chain(BITS.map(|bits| Call::normalise(bits, bits)));
     let by_ports = PORTS.map(|ports| Call::box_check(ports, 64)).into_iter();

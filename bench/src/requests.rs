@@ -46,11 +46,19 @@ pub fn compact(bits: usize) -> Vec<u8> {
     [number(2, bits as u32), attribute(4, &words), attribute(5, &words)].concat()
 }
 
-/// Contents of a bit list that switches so many bits on by name, spread over all bits.
-pub fn list(entries: usize, bits: usize) -> Vec<u8> {
+/// What a BIT carries to tell its bit.
+#[derive(Clone, Copy, PartialEq, Eq)]
+pub enum Told {
+    Name,
+    IndexAndName,
+}
+
+/// Contents of a bit list that switches so many bits on, spread over all bits.
+pub fn list(told: Told, entries: usize, bits: usize) -> Vec<u8> {
     let entry = |at: usize| {
         let bit = if entries <= bits { at * bits / entries } else { at % bits };
-        attribute(1 | NESTED, &[name(2, &flag_name(bit)), attribute(3, &[])].concat())
+        let index = if told == Told::IndexAndName { number(1, bit as u32) } else { Vec::new() };
+        attribute(1 | NESTED, &[index, name(2, &flag_name(bit)), attribute(3, &[])].concat())
     };
     attribute(3 | NESTED, &(0..entries).flat_map(entry).collect::<Vec<u8>>())
 }

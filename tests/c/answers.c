@@ -22,22 +22,6 @@ static void whole_reply(void)
     check(answer.kind == ETHNL_END && answer.written == 0 && answer.next == request.length, "then the end");
 }
 
-/* An ACK or error message: errno, the quoted header, an OFFS detail or none. */
-static int is_error(const struct message *request, int32_t errno_value, uint32_t offset)
-{
-    struct message error = {.length = 0};
-
-    put_u32(&error, offset != 0 ? 44 : 36);
-    put_u16(&error, 2);
-    put_u16(&error, offset != 0 ? 0x300 : 0x100);
-    put(&error, request->bytes + 8, 8);
-    put_u32(&error, (uint32_t)-errno_value);
-    put(&error, request->bytes, 16);
-    if (offset != 0)
-        number(&error, 2, offset);
-    return answer.written == error.length && memcmp(page, error.bytes, error.length) == 0;
-}
-
 /* Whether the call was refused by this number, stayed at its position and wrote nothing. */
 static int is_silent(uint32_t refusal, uint64_t position)
 {

@@ -81,6 +81,22 @@ static inline void end_nest(struct message *message, size_t start)
     memcpy(message->bytes + start, &length, 2);
 }
 
+enum { NO_INDEX = -1 };
+
+/* A BIT: its index and its name, each where it is given, and VALUE where it is switched on. */
+static inline void put_bit(struct message *message, int64_t index, const char *bit_name, int on)
+{
+    size_t nest = begin_nest(message, BIT);
+
+    if (index != NO_INDEX)
+        number(message, BIT_INDEX, (uint32_t)index);
+    if (bit_name != NULL)
+        name(message, BIT_NAME, bit_name);
+    if (on)
+        flag(message, BIT_VALUE);
+    end_nest(message, nest);
+}
+
 /* Both headers, and the header nest that names a port by its index. */
 static inline void begin_request(struct message *message, uint8_t command, uint16_t flags, uint32_t port,
                                  uint32_t header_flags)

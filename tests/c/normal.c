@@ -1,4 +1,4 @@
-/* The normaliser through the C boundary: the sheet P1 to P12, refusals that write nothing, the page past the form. */
+/* The normaliser through the C boundary: the sheet P1 to P12, index beside name, refusals that write nothing, the page past the form. */
 #include "check.h"
 #include "message.h"
 #include "ethnl.h"
@@ -45,19 +45,6 @@ static void is_form(const char *what, const struct message *contents, struct mes
     check(page[expected.length] == 0xAA, "the page past the form stays");
 }
 
-static void bit(struct message *contents, const char *bit_name, uint32_t index, int on)
-{
-    size_t nest = begin_nest(contents, BIT);
-
-    if (bit_name != NULL)
-        name(contents, BIT_NAME, bit_name);
-    else
-        number(contents, BIT_INDEX, index);
-    if (on)
-        flag(contents, BIT_VALUE);
-    end_nest(contents, nest);
-}
-
 static struct message compact(int nomask, uint32_t size, const uint32_t *value, const uint32_t *mask, size_t count)
 {
     struct message contents = {.length = 0};
@@ -71,12 +58,13 @@ static struct message compact(int nomask, uint32_t size, const uint32_t *value, 
     return contents;
 }
 
-static struct message one_bit(uint32_t index)
+/* A list of one BIT that is switched on. */
+static struct message one_bit(int64_t index, const char *bit_name)
 {
     struct message contents = {.length = 0};
     size_t bits = begin_nest(&contents, BITS);
 
-    bit(&contents, NULL, index, 1);
+    put_bit(&contents, index, bit_name, 1);
     end_nest(&contents, bits);
     return contents;
 }
@@ -107,18 +95,30 @@ static void compact_sheet(void)
 /* P9 to P11: bit lists. */
 static void list_sheet(void)
 {
-    struct message p9 = {.length = 0}, p10 = {.length = 0}, p11 = one_bit(39);
+    struct message p9 = {.length = 0}, p10 = {.length = 0}, p11 = one_bit(39, NULL);
     size_t bits = begin_nest(&p9, BITS);
 
-    bit(&p9, NULL, 3, 1);
-    bit(&p9, "lldp", 0, 0);
+    put_bit(&p9, 3, NULL, 1);
+    put_bit(&p9, NO_INDEX, "lldp", 0);
     end_nest(&p9, bits);
     is_form("P9: the later entry wins", &p9, form(0, 0, 8, 0));
     flag(&p10, NOMASK);
     end_nest(&p10, begin_nest(&p10, BITS));
     is_form("P10: the empty set", &p10, form(0, 0, 0xFFFFFFFF, 0xFF));
     is_form("P11: bit 39", &p11, form(0, 128, 0, 128));
-    is_refused("P11: bit 40 is past N", one_bit(40), 20);
+    is_refused("P11: bit 40 is past N", one_bit(40, NULL), 20);
+}
+
+static void index_and_name(void)
+{
+    struct message agreeing = one_bit(3, "lldp");
+
+    is_form("index 3 with its own name: bit 3", &agreeing, form(8, 0, 8, 0));
+    is_refused("index 5 with the name of bit 3: 23", one_bit(5, "lldp"), 23);
+    is_refused("an unknown name beside an index: 21", one_bit(3, "nonsense"), 21);
+    is_refused("an empty name beside an index: 21", one_bit(5, ""), 21);
+    is_refused("index 40 beside an unknown name: 20", one_bit(40, "nonsense"), 20);
+    is_refused("neither index nor name: 22", one_bit(NO_INDEX, NULL), 22);
 }
 
 static void other_refusals(void)
@@ -137,6 +137,7 @@ int main(void)
     memcpy(names + 3 * ETHNL_NAME_LEN, "lldp", 4);
     compact_sheet();
     list_sheet();
+    index_and_name();
     other_refusals();
     return checked();
 }

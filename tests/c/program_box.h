@@ -36,6 +36,22 @@ static inline void handle(const struct message *message)
     handle_at(message->bytes, message->length, 0, 1, sizeof page);
 }
 
+/* Whether the page has an ACK or error message: errno, the quoted header, an OFFS detail or none. */
+static inline int is_error(const struct message *request, int32_t errno_value, uint32_t offset)
+{
+    struct message error = {.length = 0};
+
+    put_u32(&error, offset != 0 ? 44 : 36);
+    put_u16(&error, 2);
+    put_u16(&error, offset != 0 ? 0x300 : 0x100);
+    put(&error, request->bytes + 8, 8);
+    put_u32(&error, (uint32_t)-errno_value);
+    put(&error, request->bytes, 16);
+    if (offset != 0)
+        number(&error, 2, offset);
+    return answer.written == error.length && memcmp(page, error.bytes, error.length) == 0;
+}
+
 /* Contents of a compact bitset. */
 static inline struct message compact(int nomask, uint32_t size, size_t words, const uint32_t *value, const uint32_t *mask)
 {

@@ -33,6 +33,7 @@ static const struct row refusals[] = {
     {ETHNL_REFUSAL_BIT_PAST_END, "bit's number"},
     {ETHNL_REFUSAL_UNKNOWN_BIT, "bit's name"},
     {ETHNL_REFUSAL_NO_BIT, "neither index nor name"},
+    {ETHNL_REFUSAL_INDEX_NAME, "two bits"},
 };
 
 static const struct row parts[] = {

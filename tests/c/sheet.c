@@ -2,27 +2,13 @@
 #include "check.h"
 #include "program_box.h"
 
-/* One BIT: by index, or by name where one is given. */
-static void put_bit(struct message *contents, uint32_t index, const char *bit_name, int on)
-{
-    size_t nest = begin_nest(contents, BIT);
-
-    if (bit_name != NULL)
-        name(contents, BIT_NAME, bit_name);
-    else
-        number(contents, BIT_INDEX, index);
-    if (on)
-        flag(contents, BIT_VALUE);
-    end_nest(contents, nest);
-}
-
 static struct message p9(void)
 {
     struct message contents = {.length = 0};
     size_t bits = begin_nest(&contents, BITS);
 
     put_bit(&contents, 3, NULL, 1);
-    put_bit(&contents, 0, "lldp", 0);
+    put_bit(&contents, NO_INDEX, "lldp", 0);
     end_nest(&contents, bits);
     return contents;
 }

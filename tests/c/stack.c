@@ -39,19 +39,15 @@ static void fill_box(void)
                              settings, sizeof settings};
 }
 
-/* Every bit by its name. */
-static void list_contents(void)
+/* Every bit by its name, and by its index too where it is asked for. */
+static void list_contents(int with_index)
 {
-    size_t bits, bit;
+    size_t bits;
 
     contents.length = 0;
     bits = begin_nest(&contents, BITS);
-    for (int at = 0; at < ETHNL_BITS_MAX; at++) {
-        bit = begin_nest(&contents, BIT);
-        name(&contents, BIT_NAME, (const char *)names + at * ETHNL_NAME_LEN);
-        flag(&contents, BIT_VALUE);
-        end_nest(&contents, bit);
-    }
+    for (int at = 0; at < ETHNL_BITS_MAX; at++)
+        put_bit(&contents, with_index ? at : NO_INDEX, (const char *)names + at * ETHNL_NAME_LEN, 1);
     end_nest(&contents, bits);
 }
 
@@ -115,16 +111,27 @@ static void set(const char *what, uint32_t expected)
     measure(what, handle, expected);
 }
 
+/* The faults stand in the last BIT: the NUL of its name is 5 bytes before the end, the number of its index 44. */
+static void lists(void)
+{
+    list_contents(0);
+    set("a SET of 512 names", 0);
+    measure("the normal form of 512 names", normalise, 0);
+    memset(contents.bytes + contents.length - 10, 'x', 4);
+    set("a SET whose last name is unknown", ETHNL_REFUSAL_UNKNOWN_BIT);
+    list_contents(1);
+    set("a SET of 512 BITs with index and name", 0);
+    measure("their normal form", normalise, 0);
+    contents.bytes[contents.length - 44] ^= 1;
+    set("a SET whose last index and name mean two bits", ETHNL_REFUSAL_INDEX_NAME);
+}
+
 static void requests(void)
 {
     get("a verbose GET", 0, 0);
     get("a compact GET", 1, 0);
     get("a GET with a wrong header flag", 4, ETHNL_REFUSAL_HEADER_FLAGS);
-    list_contents();
-    set("a SET of 512 names", 0);
-    measure("the normal form of 512 names", normalise, 0);
-    memset(contents.bytes + contents.length - 10, 'x', 4);
-    set("a SET whose last name is unknown", ETHNL_REFUSAL_UNKNOWN_BIT);
+    lists();
     bitmap_contents();
     set("a SET of bitmaps", 0);
     measure("their normal form", normalise, 0);

@@ -8,6 +8,7 @@
  *   ETHNL_SENT      gets each ethtool datagram that is sent, its 32-bit length before it
  *   ETHNL_REFUSALS  gets the number of each refusal, one a line
  *   ETHNL_OUTSIDE   gets a line "ioctl" or "rtnetlink" for each time that the machine's own cards would have been asked
+ *   ETHNL_INSTEAD   a request that is sent in the place of the tool's, with the tool's message header but for the length
  *   ETHNL_LOSE      if set, the answers are lost; the tool, which would wait for ever, gets the error of a time limit
  */
 #define _GNU_SOURCE

@@ -1,57 +1,12 @@
 # Requests that the tool does not send: a bitset, a header or a name that stands twice. Of equal types in a parent the
 # last counts, for the library and for `form`: what `form` tells of a request does to a box what the request does.
-gcc -std=c11 $flags -o "$out/frames" "$root/tests/c/frames.c" || failed=$((failed + 1))
+. "$here/by_hand.sh"
 gcc -std=c11 $flags -o "$out/daemon" "$root/examples/daemon.c" "$root/examples/box.c" "$lib" || failed=$((failed + 1))
-
-# Numbers as hexadecimal bytes, the lowest first.
-u16() {
-    printf '%02x%02x' $(($1 & 255)) $(($1 >> 8))
-}
-
-u32() {
-    u16 $(($1 & 65535))
-    u16 $(($1 >> 16))
-}
-
-# put TYPE PAYLOAD: an attribute and its padding.
-put() {
-    u16 $((4 + ${#2} / 2))
-    u16 "$1"
-    printf %s "$2"
-    printf %s 000000 | head -c $((2 * (-(${#2} / 2) & 3)))
-}
-
-nest() {
-    put $((0x8000 + $1)) "$2"
-}
-
-# named NAME: the attribute of a port's name.
-named() {
-    put 2 "$(printf '%s\0' "$1" | od -An -v -tx1 | tr -d ' \n')"
-}
-
-# compact VALUE MASK: the contents of a bitset of five flags.
-compact() {
-    put 2 "$(u32 5)"
-    put 4 "$(u32 "$1")"
-    put 5 "$(u32 "$2")"
-}
-
-# message COMMAND ATTRIBUTES
-message() {
-    u32 $((20 + ${#2} / 2))
-    printf '190001000700000009000000%02x010000%s\n' "$1" "$2"
-}
 
 # replies SET: what a box answers, after this request, to a look at the flags of each port.
 replies() {
     { echo "$1"; for port in 1 2 3 4 5 6 7 8; do message 13 "$(nest 1 "$(put 1 "$(u32 $port)")")"; done; } |
         "$out/frames" pack | "$out/daemon" "$ETHNL_BOX" 2>&1 | "$out/frames" unpack
-}
-
-# told SET: the port that `form` tells, and the form or the refusal.
-told() {
-    echo "$1" | "$out/frames" pack | "$out/form" "$ETHNL_BOX" | cut -d' ' -f1,4-
 }
 
 # twice WHAT ATTRIBUTES PORT FORM: the port and the form that are told of a PRIVFLAGS_SET; together they do what it does.

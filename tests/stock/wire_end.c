@@ -122,15 +122,36 @@ static void serve(const uint8_t *datagram, size_t length)
     }
 }
 
+/* Reads the request that takes the place of the tool's; the header's type, flags, sequence and port id stay the tool's. */
+static size_t read_instead(uint8_t *request, size_t room, const void *of_tool)
+{
+    FILE *instead = open_named("ETHNL_INSTEAD", "rb");
+    size_t length;
+
+    if (instead == NULL)
+        return 0;
+    length = fread(request, 1, room, instead);
+    fclose(instead);
+    memcpy(request + 4, (const uint8_t *)of_tool + 4, sizeof(struct nlmsghdr) - 4);
+    return length;
+}
+
 void take_datagram(const void *datagram, size_t length)
 {
+    static uint8_t instead[ETHNL_DATAGRAM_MAX];
     const struct nlmsghdr *header = datagram;
     struct message answer;
+    size_t instead_length;
 
     if (length >= sizeof *header && header->nlmsg_type == GENL_ID_CTRL) {
         answer = family_answer(header, (uint16_t)box.family);
         queue_answer(answer.bytes, answer.length);
         return;
+    }
+    instead_length = read_instead(instead, sizeof instead, datagram);
+    if (instead_length > 0) {
+        datagram = instead;
+        length = instead_length;
     }
     record(datagram, (uint32_t)length);
     serve(datagram, length);

@@ -1,10 +1,11 @@
-//! The tables of refusals, in docs/PROTOCOL.md, README.md and the header, tell the errno and the detail that stand in the reader's error messages.
+//! The tables of refusals, in docs/PROTOCOL.md, README.md and the header, tell the errno and the detail that stand in the reader's error messages; the header
+//! tells by which numbers the normaliser refuses.
 
 use cases::{Case, HandleCase};
 use docs::tree;
-use std::collections::BTreeMap;
+use std::collections::{BTreeMap, BTreeSet};
 
-const REQUEST_ERRORS: std::ops::RangeInclusive<u32> = 5..=22;
+const REQUEST_ERRORS: std::ops::RangeInclusive<u32> = 5..=23;
 
 /// The error message of a refused case, with its refusal.
 fn refused(mut case: HandleCase) -> Option<(u32, Vec<u8>)> {
@@ -66,16 +67,46 @@ fn readme_tells_the_errno() {
 }
 
 #[test]
-fn the_header_tells_the_errno() {
+fn the_header_tells_errno_and_detail() {
     let names = BTreeMap::from([(1, "EPERM"), (2, "ENOENT"), (19, "ENODEV"), (22, "EINVAL"), (95, "EOPNOTSUPP")]);
     let header = tree::read("include/ethnl.h");
-    for (number, (errno, _)) in told() {
+    for (number, (errno, detail)) in told() {
         let row = header.lines().find(|line| {
             line.starts_with("#define ETHNL_REFUSAL_") && line.split_whitespace().nth(2) == Some(&number.to_string())
         });
-        assert!(
-            row.is_some_and(|line| line.contains(&format!("/* {}:", names[&errno]))),
-            "{number} with errno {errno}"
+        let row = row.unwrap_or_else(|| panic!("no line for {number}"));
+        assert!(row.contains(&format!("/* {}:", names[&errno])), "{number} with errno {errno}");
+        let says = |text: &str| row.contains(text);
+        assert_eq!(
+            (says("; OFFS "), says("; ETHNL_MISS_")),
+            (detail == "OFFS", detail == "MISS"),
+            "detail of {number}"
         );
     }
+}
+
+/// The numbers of a list such as "1 (names), 10 to 13".
+fn listed(text: &str) -> BTreeSet<u32> {
+    let number = |word: &str| word.parse::<u32>().unwrap_or_else(|_| panic!("not a number: {word}"));
+    let range = |piece: &str| match piece.split_once(" to ") {
+        Some((first, last)) => number(first)..=number(last),
+        None => {
+            let only = number(piece.split(' ').next().unwrap_or(""));
+            only..=only
+        }
+    };
+    text.split(", ").flat_map(range).collect()
+}
+
+#[test]
+fn the_header_tells_the_refusals_of_the_normaliser() {
+    let header = tree::read("include/ethnl.h");
+    let refusals = header.split(" * refusal: ").nth(1).and_then(|rest| rest.split(".\n").next()).expect("its refusals");
+    let mut met = BTreeSet::new();
+    for case in (0..20_000).map(|number| cases::case(3, number)) {
+        let Case::Normalise(mut case) = case else { continue };
+        met.insert(reader::normalise(&case.contents, &case.names, &mut case.page).0);
+    }
+    met.remove(&0);
+    assert_eq!(listed(refusals), met);
 }
