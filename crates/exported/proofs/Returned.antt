@@ -11,6 +11,7 @@ use borrow.Author.Tests.{lt-ltb, le-ltb}
 use Rattle.basics.specs.Numbers.{byteAt}
 use Rattle.basics.specs.Put.{put}
 use Rattle.basics.proofs.Put.{put-nil}
+use Rattle.netlink_headers.specs.Headers.{messageHeader}
 use Rattle.refusal.specs.Refusal.{numberOf}
 use Rattle.refusal.specs.declared.Refusal.{Refusal}
 use Rattle.admission.specs.Commands.{commandOf}
