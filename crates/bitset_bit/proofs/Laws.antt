@@ -91,39 +91,52 @@ module _ (s names : List ℕ) (name : Slot) where
 
 pub ruleset name-laws = (name-absent, name-found, name-unknown)
 
-module _ (at : ℕ) (index name : Identity) where
-  pub no-index : index ≡ Absent → L.Read name ≡ combined at (L.Read index) (L.Read name)
-  no-index h = sym (ap (λ (x : Identity). combined at (L.Read x) (L.Read name)) h)
+-- NAME alone
+name-alone : (at : ℕ) (name : IdentityRead) → combined at (L.Read Absent) name ≡ name
+name-alone at (L.Read identity) = refl
+name-alone at (L.Refused why) = refl
+
+module _ (at : ℕ) (index : Identity) (name : IdentityRead) where
+  pub no-index : index ≡ Absent → name ≡ combined at (L.Read index) name
+  no-index h = sym (ap (λ (x : Identity). combined at (L.Read x) name) h ∙ name-alone at name)
 
   module _ (i : ℕ) (ei : index ≡ Number i) where
-    pub no-name : name ≡ Absent → L.Read (Number i) ≡ combined at (L.Read index) (L.Read name)
-    no-name h = rw (ei, h)
+    beside : (x : IdentityRead) → name ≡ x → combined at (L.Read (Number i)) x ≡ combined at (L.Read index) name
+    beside x ex = sym (ap (λ (y : Identity). combined at (L.Read y) name) ei ∙ ap (combined at (L.Read (Number i))) ex)
 
-    module _ (k : ℕ) (ek : name ≡ Number k) where
-      pub same-bit : i ≡ k → L.Read (Number i) ≡ combined at (L.Read index) (L.Read name)
-      same-bit h = rw (ei, ek, eq-eqb i k h)
+    pub name-refused : (why : Refusal) → name ≡ L.Refused why → L.Refused why ≡ combined at (L.Read index) name
+    name-refused why ex = beside (L.Refused why) ex
 
-      pub two-bits : (i ≡ k → ⊥) → L.Refused (TwoBits at) ≡ combined at (L.Read index) (L.Read name)
-      two-bits h = rw (ei, ek, ne-eqb i k h)
+    module _ (x : Identity) (ex : name ≡ L.Read x) where
+      pub no-name : x ≡ Absent → L.Read (Number i) ≡ combined at (L.Read index) name
+      no-name h = beside (L.Read Absent) (ex ∙ ap L.Read h)
 
-pub ruleset combine-laws = (no-index, no-name, same-bit, two-bits)
+      module _ (k : ℕ) (ek : x ≡ Number k) where
+        both : cond (eqb i k) (L.Read (Number i)) (L.Refused (TwoBits at)) ≡ combined at (L.Read index) name
+        both = beside (L.Read (Number k)) (ex ∙ ap L.Read ek)
+
+        pub same-bit : i ≡ k → L.Read (Number i) ≡ combined at (L.Read index) name
+        same-bit h = sym (cond-true (eqb i k) _ _ (eq-eqb i k h)) ∙ both
+
+        pub two-bits : (i ≡ k → ⊥) → L.Refused (TwoBits at) ≡ combined at (L.Read index) name
+        two-bits h = sym (cond-false (eqb i k) _ _ (ne-eqb i k h)) ∙ both
+
+pub ruleset combine-laws = (no-index, name-refused, no-name, same-bit, two-bits)
 
 module _ (s names : List ℕ) (at : ℕ) (parts : BitParts) (n : ℕ) (en : n ≡ count names) (x : IdentityRead) (ex : x ≡ bitByIndex s n (parts .index)) where
-  by-both : (a b : IdentityRead) → x ≡ a → b ≡ bitByName s names (parts .name) → combined at a b ≡ identified s names at parts
+  by-index : (a : IdentityRead) → x ≡ a → combined at a (bitByName s names (parts .name)) ≡ identified s names at parts
   unfolding identified
-  by-both a b ea eb = rw (sym ea ∙ ex, eb, en)
+  by-index a ea =
+      ap (λ (y : IdentityRead). combined at y (bitByName s names (parts .name))) (sym ea ∙ ex ∙ ap (λ (m : ℕ). bitByIndex s m (parts .index)) en)
 
   pub index-refused : (why : Refusal) → x ≡ L.Refused why → L.Refused why ≡ identified s names at parts
-  index-refused why ea = by-both (L.Refused why) _ ea refl
+  index-refused why ea = by-index (L.Refused why) ea
 
-  module _ (index : Identity) (ea : x ≡ L.Read index) (y : IdentityRead) (ey : y ≡ bitByName s names (parts .name)) where
-    pub name-refused : (why : Refusal) → y ≡ L.Refused why → L.Refused why ≡ identified s names at parts
-    name-refused why eb = by-both (L.Read index) (L.Refused why) ea (sym eb ∙ ey)
+  pub index-read : (index : Identity) (y r : IdentityRead) → x ≡ L.Read index → y ≡ bitByName s names (parts .name) → r ≡ combined at (L.Read index) y
+      → r ≡ identified s names at parts
+  index-read index y r ea ey er = er ∙ ap (combined at (L.Read index)) ey ∙ by-index (L.Read index) ea
 
-    pub both-read : (name : Identity) (r : IdentityRead) → y ≡ L.Read name → r ≡ combined at (L.Read index) (L.Read name) → r ≡ identified s names at parts
-    both-read name r eb er = er ∙ by-both (L.Read index) (L.Read name) ea (sym eb ∙ ey)
-
-pub ruleset identify-laws = (index-refused, name-refused, both-read)
+pub ruleset identify-laws = (index-refused, index-read)
 
 module _ (s names : List ℕ) (at : ℕ) (parts : BitParts) (l : IdentityRead) (el : l ≡ identified s names at parts) where
   pub parts-refused : (r : Refusal) → l ≡ L.Refused r → B.Refused r ≡ bitPartsReading s names at parts

@@ -86,23 +86,28 @@ fn bit_by_name(
     IdentityRead::Refused(Refusal::UnknownBit(place(name.start)))
 }
 
-// Where the BIT at `at` carries both, both must mean the same bit.
-fn combine(at: usize, index: Identity, name: Identity) -> IdentityRead
-    ensures { λ r. ⌜ r ≡ combined at (Read index) (Read name) ⌝ }
+// What INDEX means beside what NAME comes to: where the BIT at `at` carries both, both must mean the same bit.
+fn combine(at: usize, index: Identity, name: IdentityRead) -> IdentityRead
+    ensures { λ r. ⌜ r ≡ combined at (Read index) name ⌝ }
 {
     let Identity::Number(by_index) = index else {
-        return IdentityRead::Read(name);
+        return name;
     };
-    let Identity::Number(by_name) = name else {
-        return IdentityRead::Read(Identity::Number(by_index));
-    };
-    if by_index == by_name {
-        return IdentityRead::Read(Identity::Number(by_index));
+    match name {
+        IdentityRead::Refused(unknown) => IdentityRead::Refused(unknown),
+        IdentityRead::Read(identity) => {
+            let Identity::Number(by_name) = identity else {
+                return IdentityRead::Read(Identity::Number(by_index));
+            };
+            if by_index == by_name {
+                return IdentityRead::Read(Identity::Number(by_index));
+            }
+            IdentityRead::Refused(Refusal::TwoBits(at))
+        }
     }
-    IdentityRead::Refused(Refusal::TwoBits(at))
 }
 
-// INDEX is judged first, then NAME.
+// INDEX is judged first, then NAME is looked up.
 fn identify(
     s: &[u8],
     names: &[u8],
@@ -116,12 +121,10 @@ fn identify(
     ensures { λ r. ⌜ r ≡ identified (now (s .entry)) (now (names .entry)) at parts ⌝ }
 {
     match bit_by_index(s, names::count(names), parts.index) {
-        IdentityRead::Refused(why) => IdentityRead::Refused(why),
+        IdentityRead::Refused(past) => IdentityRead::Refused(past),
         IdentityRead::Read(index) => {
-            match bit_by_name(s, names, indexed, head, links, parts.name) {
-                IdentityRead::Refused(why) => IdentityRead::Refused(why),
-                IdentityRead::Read(name) => combine(at, index, name),
-            }
+            let name = bit_by_name(s, names, indexed, head, links, parts.name);
+            combine(at, index, name)
         }
     }
 }

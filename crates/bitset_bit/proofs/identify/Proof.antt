@@ -9,20 +9,14 @@ count-requires c κs = search needs
 bit-by-index-requires : tie.Need-bit-by-index-requires
 bit-by-index-requires c κs = search needs
 
-enum-known-why : tie.Need-enum-known-why
-enum-known-why c = search needs
+enum-known-past : tie.Need-enum-known-past
+enum-known-past c = search needs
 
 enum-known-index : tie.Need-enum-known-index
 enum-known-index c = search needs
 
 bit-by-name-requires : tie.Need-bit-by-name-requires
 bit-by-name-requires c κs = search needs
-
-enum-known-why-2 : tie.Need-enum-known-why-2
-enum-known-why-2 c = search needs
-
-enum-known-name : tie.Need-enum-known-name
-enum-known-name c = search needs
 
 combine-requires : tie.Need-combine-requires
 combine-requires c κs = search needs
@@ -33,21 +27,15 @@ returns c = search (needs, identify-laws)
 returns-2 : tie.Need-returns-2
 returns-2 c = search (needs, identify-laws)
 
-returns-3 : tie.Need-returns-3
-returns-3 c = search (needs, identify-laws)
-
 pub identify-spec : {M : Type 1} → statement M
 identify-spec =
     tie.close
     (tie.spec
     count-requires
     bit-by-index-requires
-    enum-known-why
+    enum-known-past
     enum-known-index
     bit-by-name-requires
-    enum-known-why-2
-    enum-known-name
     combine-requires
     returns
-    returns-2
-    returns-3)
+    returns-2)
