@@ -12,9 +12,9 @@ use Rattle.bitset_bit.specs.declared.IdentityRead.{IdentityRead}
 use Rattle.bitset_bit.specs.declared.IdentityRead.the-variants.{Read, Refused}
 
 pub data Said (number : ℕ) (index name : IdentityRead) : Type 0 where
-  by-both : index ≡ Read (Number number) → name ≡ Read (Number number) → Said number index name
-  by-index : index ≡ Read (Number number) → name ≡ Read Absent → Said number index name
-  by-name : index ≡ Read Absent → name ≡ Read (Number number) → Said number index name
+  both-say : index ≡ Read (Number number) → name ≡ Read (Number number) → Said number index name
+  index-says : index ≡ Read (Number number) → name ≡ Read Absent → Said number index name
+  name-says : index ≡ Read Absent → name ≡ Read (Number number) → Said number index name
 
 pub combined-said : (at number : ℕ) (index name : IdentityRead) → combined at index name ≡ Read (Number number) → Said number index name
 combined-said at number (Refused why) name e = absurd (let z : _≡_ {A = ℕ} 0 1 = cc in omega arith)
@@ -24,7 +24,7 @@ combined-said at number (Read (Number i)) (Read (Number k)) e = go (eqb i k) ref
     go : (t : Bool) → eqb i k ≡ t → cond t (Read (Number i)) (Refused (TwoBits at)) ≡ Read (Number number) → Said number (Read (Number i)) (Read (Number k))
     go true q e =
         let n : i ≡ number = cc in
-        by-both (ap (λ x. Read (Number x)) n) (ap (λ x. Read (Number x)) (sym (eqb-true i k q) ∙ n))
+        both-say (ap (λ x. Read (Number x)) n) (ap (λ x. Read (Number x)) (sym (eqb-true i k q) ∙ n))
     go false q e = absurd (let z : _≡_ {A = ℕ} 0 1 = cc in omega arith)
-combined-said at number (Read (Number i)) (Read Absent) e = by-index e refl
-combined-said at number (Read Absent) (Read name) e = by-name refl e
+combined-said at number (Read (Number i)) (Read Absent) e = index-says e refl
+combined-said at number (Read Absent) (Read name) e = name-says refl e

@@ -124,17 +124,17 @@ module _ (at : ℕ) (index : Identity) (name : IdentityRead) where
 pub ruleset combine-laws = (no-index, name-refused, no-name, same-bit, two-bits)
 
 module _ (s names : List ℕ) (at : ℕ) (parts : BitParts) (n : ℕ) (en : n ≡ count names) (x : IdentityRead) (ex : x ≡ bitByIndex s n (parts .index)) where
-  by-index : (a : IdentityRead) → x ≡ a → combined at a (bitByName s names (parts .name)) ≡ identified s names at parts
+  from-index : (a : IdentityRead) → x ≡ a → combined at a (bitByName s names (parts .name)) ≡ identified s names at parts
   unfolding identified
-  by-index a ea =
+  from-index a ea =
       ap (λ (y : IdentityRead). combined at y (bitByName s names (parts .name))) (sym ea ∙ ex ∙ ap (λ (m : ℕ). bitByIndex s m (parts .index)) en)
 
   pub index-refused : (why : Refusal) → x ≡ L.Refused why → L.Refused why ≡ identified s names at parts
-  index-refused why ea = by-index (L.Refused why) ea
+  index-refused why ea = from-index (L.Refused why) ea
 
   pub index-read : (index : Identity) (y r : IdentityRead) → x ≡ L.Read index → y ≡ bitByName s names (parts .name) → r ≡ combined at (L.Read index) y
       → r ≡ identified s names at parts
-  index-read index y r ea ey er = er ∙ ap (combined at (L.Read index)) ey ∙ by-index (L.Read index) ea
+  index-read index y r ea ey er = er ∙ ap (combined at (L.Read index)) ey ∙ from-index (L.Read index) ea
 
 pub ruleset identify-laws = (index-refused, index-read)
 

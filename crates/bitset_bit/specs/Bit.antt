@@ -1,4 +1,4 @@
--- Document 01, "Bitsets": one BIT of a bit list, walked whole and judged.
+-- Document 01, "Bitsets", and request C-12: one BIT of a bit list, walked whole and judged.
 use Prim.Native.Nat.{ℕ, _-_}
 use mathlib.Core.Bool.{Bool, cond}
 use mathlib.Core.List.{List}
@@ -40,12 +40,13 @@ onLookup l at = cond (l .found) (L.Read (Number (l .bit))) (L.Refused (UnknownBi
 unfoldable pub bitByName : List ℕ → List ℕ → Slot → IdentityRead
 bitByName s names name = ifStands name (onLookup (lookup names (partOf s (name .start) (name .end))) (name .start - 4))
 
--- INDEX is judged first, then NAME; where a BIT carries both, both must mean the same bit, else 23 at the BIT; where it carries one, that one decides
+-- INDEX is judged first, then NAME. "Where a BIT carries both, both must mean the same bit", else 23 at the BIT; where it carries one, that one decides; where
+-- it carries neither, there is none
 abbrev pub combined : ℕ → IdentityRead → IdentityRead → IdentityRead
 combined at (L.Refused why) name = L.Refused why
 combined at (L.Read index) (L.Refused why) = L.Refused why
-combined at (L.Read (Number index)) (L.Read (Number name)) = cond (eqb index name) (L.Read (Number index)) (L.Refused (TwoBits at))
-combined at (L.Read (Number index)) (L.Read Absent) = L.Read (Number index)
+combined at (L.Read (Number i)) (L.Read (Number k)) = cond (eqb i k) (L.Read (Number i)) (L.Refused (TwoBits at))
+combined at (L.Read (Number i)) (L.Read Absent) = L.Read (Number i)
 combined at (L.Read Absent) (L.Read name) = L.Read name
 
 -- the bit that the BIT at a place means, by its INDEX and its NAME

@@ -21,8 +21,9 @@ pub mod StoredBox
 pub mod Stored
 pub mod Parts
 pub mod CallParts
+pub mod NameOf
 pub mod Says
-pub mod Agree
+pub mod OwnNames
 pub mod Change
 pub mod Example
 pub mod PaddingAttributes

@@ -23,10 +23,8 @@ use Rattle.bits.specs.Change.{Listed}
 use Rattle.bits.proofs.Bit.{test-low}
 use Rattle.word_bytes.specs.Bytes.{wordsIn, Bytes}
 use Rattle.word_bytes.proofs.WordBytes.{word-in}
-use Rattle.entries.specs.Entry.{count, entryAt}
-use Rattle.entries.proofs.Entries.{entry-byte, same-bytes}
+use Rattle.entries.specs.Entry.{count}
 use Rattle.names.specs.Search.{lookup}
-use Rattle.names.proofs.Search.{lookup-found, lookup-named}
 use Rattle.netlink_attributes.specs.Attributes.{Attributes, attributes, partOf}
 use Rattle.netlink_attributes.specs.Attributes.Attributes.{done, attribute}
 use Rattle.netlink_attributes.specs.Claims.{Apart}
@@ -54,7 +52,7 @@ use Rattle.bitset_compact.specs.Compact.{nomaskReading, maskedReading, compactR
 use Rattle.bitset_bit.specs.Bit.{bitByIndex, bitByName, identified, onIdentityRead, bitPartsReading, bitReading}
 use Rattle.bitset_bit.proofs.Laws.{by-walk}
 use Rattle.bitset_bit.proofs.Combined.{Said, combined-said}
-use Rattle.bitset_bit.proofs.Combined.Said.{by-both, by-index, by-name}
+use Rattle.bitset_bit.proofs.Combined.Said.{both-say, index-says, name-says}
 use Rattle.bitset_bit.specs.declared.Identity.the-variants.{Number, Absent}
 use Rattle.bitset_bit.specs.declared.IdentityRead.{IdentityRead}
 use Rattle.bitset_bit.specs.declared.IdentityRead.the-variants as L
@@ -81,24 +79,13 @@ use Rattle.demands.specs.Stored.{DoneSetStored}
 use Rattle.demands.specs.Says.{Stands, Lacks, payloadIn, IsNameOf, Means, BitSays, Lists, FromBitmap, BitsetOpened, CompactSays, ListSays, BitsetSays, RequestSays}
 use Rattle.demands.specs.Says.Lists.{noMore, oneBit}
 use Rattle.demands.specs.Says.BitsetSays.{compactMasked, compactNomask, listMasked, listNomask}
+use Rattle.demands.proofs.NameOf.{found-names}
 use Rattle.demands.proofs.Parts.{front-length, three-parts, five-parts}
 use Rattle.demands.proofs.Stored as S
 
 -- the number of 32 bits in a slot that is there
 number-in : (s : List ℕ) (slot : Slot) → slot .present ≡ true → slotNumber s slot ≡ u32At (payloadIn s slot) 0
 number-in s slot h = sym (slot-there s slot (payloadIn s slot) (u32At (payloadIn s slot) 0) h refl refl)
-
--- a name that is found is that of the entry
-found-names : (names name : List ℕ) → lookup names name .found ≡ true → IsNameOf names (lookup names name .bit) name
-found-names names name h =
-    let f = lookup-found names name h in
-    let n = lookup-named names name h in
-    record {
-      inside = f .0;
-      some = n .0;
-      short = n .1;
-      bytes = λ j l. sym (entry-byte names (lookup names name .bit) (f .0) j l) ∙ same-bytes (entryAt names (lookup names name .bit)) name j (f .1) l;
-    }
 
 -- one BIT: what INDEX and NAME say, each on its own
 module _ (s names : List ℕ) (parts : BitParts) where
@@ -153,13 +140,13 @@ module _ (s names : List ℕ) (parts : BitParts) where
   parts-mean at k e = go (identified-below s names at parts k e) (combined-said at k _ _ e)
     where
       go : k < count names → Said k (bitByIndex s (count names) (parts .index)) (bitByName s names (parts .name)) → Means s names parts k
-      go l (by-both x y) =
+      go l (both-say x y) =
           let i = index-stands k x in
           record { below = l; given = inl (i .0); by-index = λ t. i .1; by-name = λ t. name-stands k y .1 }
-      go l (by-index x y) =
+      go l (index-says x y) =
           let i = index-stands k x in
           record { below = l; given = inl (i .0); by-index = λ t. i .1; by-name = λ t. absurd (clash t (name-lacks y)) }
-      go l (by-name x y) =
+      go l (name-says x y) =
           let i = name-stands k y in
           record { below = l; given = inr (i .0); by-index = λ t. absurd (clash t (index-lacks x)); by-name = λ t. i .1 }
 

@@ -53,7 +53,7 @@ compactChecks s nest n parts =
 unfoldable pub unknownName : List ℕ → List ℕ → Slot → Bool
 unknownName s names name = not (lookup names (partOf s (name .start) (name .end)) .found)
 
--- an INDEX and a NAME that mean two bits: the entry that equals NAME is not the one with INDEX's number
+-- an INDEX and a NAME, which an entry equals, mean two bits: that entry is not the one with INDEX's number
 unfoldable pub twoBits : List ℕ → List ℕ → Slot → Slot → Bool
 twoBits s names index name = not (eqb (slotNumber s index) (lookup names (partOf s (name .start) (name .end)) .bit))
 

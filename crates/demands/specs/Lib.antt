@@ -12,7 +12,7 @@ pub mod Done
 pub mod Normaliser
 pub mod Parts
 pub mod Says
-pub mod Agree
+pub mod OwnNames
 pub mod Stored
 pub mod BoxRules
 pub mod BoxFault

@@ -38,7 +38,8 @@ Lacks slot = slot .present ≡ false
 abbrev pub payloadIn : List ℕ → Slot → List ℕ
 payloadIn s slot = partOf s (slot .start) (slot .end)
 
--- the name of an entry of a list: it is not empty, and the 32 bytes of the entry are its bytes, then NULs
+-- a payload is the name of an entry of a list: it is not empty, and the 32 bytes of the entry are its bytes, its NUL among them, and NULs behind it (`getD`
+-- gives 0 past its end)
 pub record IsNameOf (names : List ℕ) (entry : ℕ) (name : List ℕ) : Type 0 where
   pub inside : entry < count names
   pub some : getD name 0 0 ≡ 0 → ⊥

@@ -9,7 +9,7 @@ use Rattle.basics.proofs.Put.{put-nil}
 use Rattle.normal.specs.Normal.{NormalAnswer, normalised}
 use Rattle.normal.proofs.Demand3.{accepted-exactly, form-exact}
 use Rattle.demands.proofs.NormalChecks.{normal-refused-exactly}
-use Rattle.demands.proofs.Agree.{normal-agrees}
+use Rattle.demands.proofs.OwnNames.{normal-own-names}
 use Rattle.exported.specs.Normalised.{NormalLent, NormalLeft, NormalLeaves, FormLeft, NothingLeft, NormalReturned}
 
 module _ (c : NormalLent) (r : NormalLeft) (h : NormalLeaves c r) where
@@ -21,7 +21,7 @@ module _ (c : NormalLent) (r : NormalLeft) (h : NormalLeaves c r) where
       let zero : answer .number ≡ 0 = sym (h .number) ∙ z in
       record {
         accepts = accepted-exactly (c .contents) (c .names) (length (c .page)) .0 zero;
-        agree = normal-agrees (c .contents) (c .names) (length (c .page)) zero;
+        own-names = normal-own-names (c .contents) (c .names) (length (c .page)) zero;
         bytes = answer .bytes;
         form = form-exact (c .contents) (c .names) (length (c .page)) zero;
         page = h .page;

@@ -24,7 +24,7 @@ use Rattle.demands.specs.Check.{AllPass, FirstIs}
 use Rattle.demands.specs.Call.{nextOf}
 use Rattle.demands.specs.Request.{isSet}
 use Rattle.demands.specs.Stored.{DoneSetStored}
-use Rattle.demands.proofs.Agree.{accepted-agree}
+use Rattle.demands.proofs.OwnNames.{accepted-own-names}
 use Rattle.demands.proofs.Stored as S
 use Rattle.exported.specs.Returned.{Lent, Left, Leaves, messageIn, checksOf, LeftRefused, LeftSet, LeftGet, Returned}
 
@@ -118,7 +118,7 @@ module _ (c : Lent) (r : Left) (h : Leaves c r) where
       record {
         response = o .response;
         done = d;
-        agree = accepted-agree _ _ _ (d .done .bits) (d .done .carries);
+        own-names = accepted-own-names _ _ _ (d .done .bits) (d .done .carries);
         wrote = wrote _ refl;
       }
 

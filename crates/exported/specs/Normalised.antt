@@ -11,7 +11,7 @@ use Rattle.normal.specs.Normal.{normalised}
 use Rattle.normal.specs.Claims.{Accepts, NormalBytes}
 use Rattle.demands.specs.Check.{FirstIs}
 use Rattle.demands.specs.NormalChecks.{normalChecks}
-use Rattle.demands.specs.Agree.{NamesAgree}
+use Rattle.demands.specs.OwnNames.{OwnNames}
 use Rattle.ethnl.specs.Exported.{Normalise}
 
 -- what a call of `ethnl_normalise` is lent: contents, name list and page
@@ -34,7 +34,7 @@ NormalLeaves c r = Normalise (normalised (c .contents) (c .names) (length (c .pa
 -- of the bitset stands at the front of the page, as long as is told
 pub record FormLeft (c : NormalLent) (r : NormalLeft) : Type 0 where
   pub accepts : Accepts (c .contents) (c .names) (length (c .page))
-  pub agree : NamesAgree (c .contents) 0 (c .names)
+  pub own-names : OwnNames (c .contents) 0 (c .names)
   pub bytes : List ℕ
   pub form : NormalBytes (count (c .names)) (accepts .bitset) bytes
   pub page : r .page ≡ put (c .page) bytes

@@ -20,7 +20,7 @@ use Rattle.demands.specs.Call.{messageOf, nextOf, callChecks}
 use Rattle.demands.specs.Request.{isSet}
 use Rattle.demands.specs.Done.{DoneGet}
 use Rattle.demands.specs.Stored.{storedRight, asWords, DoneSetStored}
-use Rattle.demands.specs.Agree.{RequestAgrees}
+use Rattle.demands.specs.OwnNames.{RequestOwnNames}
 use Rattle.ethnl.specs.Exported.{Handle}
 
 -- what a call of `ethnl_handle` is lent
@@ -71,7 +71,7 @@ pub record LeftRefused (c : Lent) (r : Left) : Type 0 where
 pub record LeftSet (c : Lent) (r : Left) : Type 0 where
   pub response : Response
   pub done : DoneSetStored (c .box) (c .settings) (c .call) (messageIn c) (messageHeader (c .datagram) (c .call .position)) (record { response = response; state = r .settings })
-  pub agree : RequestAgrees (c .box) (messageIn c) (done .done .named)
+  pub own-names : RequestOwnNames (c .box) (messageIn c) (done .done .named)
   pub wrote : Wrote c r (response .bytes)
 
 -- a GET that is done: the settings stay, byte for byte, and the reply is written, then an ACK if asked

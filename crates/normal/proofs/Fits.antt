@@ -33,7 +33,7 @@ use Rattle.bitset_compact.specs.Compact.{bitmap, nomaskReading, maskedReading, 
 use Rattle.bitset_bit.specs.Bit.{bitByIndex, bitByName, identified, onIdentityRead, bitPartsReading, bitReading}
 use Rattle.bitset_bit.proofs.Laws.{by-walk}
 use Rattle.bitset_bit.proofs.Combined.{Said, combined-said}
-use Rattle.bitset_bit.proofs.Combined.Said.{by-both, by-index, by-name}
+use Rattle.bitset_bit.proofs.Combined.Said.{both-say, index-says, name-says}
 use Rattle.refusal.specs.Refusal.{onStop}
 use Rattle.bitset_list.specs.BitList.{ListReading, onBit, bitsReading, asBitset, listReading}
 use Rattle.bitset_list.specs.BitList.ListReading.{listRefused, listEntries}
@@ -138,9 +138,9 @@ unfolding identified
 identified-below s names at parts k e = go (combined-said at k _ _ e)
   where
     go : Said k (bitByIndex s (count names) (parts .index)) (bitByName s names (parts .name)) → k < count names
-    go (by-both x y) = index-below s (count names) (parts .index) k x
-    go (by-index x y) = index-below s (count names) (parts .index) k x
-    go (by-name x y) = name-below s names (parts .name) k y
+    go (both-say x y) = index-below s (count names) (parts .index) k x
+    go (index-says x y) = index-below s (count names) (parts .index) k x
+    go (name-says x y) = name-below s names (parts .name) k y
 
 bit-below : (s names : List ℕ) (from k : ℕ) (on : Bool) → bitReading s names from ≡ B.Bit k on → k < count names
 unfolding bitPartsReading

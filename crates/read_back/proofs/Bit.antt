@@ -1,4 +1,4 @@
--- Read back: one BIT whose INDEX is below N, and whose NAME is that of INDEX's entry, says its bit, without the VALUE flag.
+-- Read back: one BIT whose INDEX is below N, and whose NAME, where it has one, is that of INDEX's entry, says its bit, without the VALUE flag.
 use Prim.Native.Nat.{ℕ, _+_, _-_, _<_}
 use mathlib.Core.Path.{_≡_, refl, sym, ap, _∙_}
 use mathlib.Core.Bool.{Bool, true, false, cond}
@@ -30,7 +30,7 @@ use Rattle.bitset_bit.specs.declared.IdentityRead.the-variants.{Read}
 use Rattle.bitset_bit.specs.declared.BitRead.the-variants.{Bit}
 use Rattle.netlink_write.proofs.attributes.Laws.{length-nameBytes}
 use Rattle.read_back.proofs.Places.{payload-at, attribute-at, walked-by}
-use Rattle.read_back.proofs.Name.{name-found}
+use Rattle.read_back.proofs.Name.{own-name-found}
 
 module _ (s front names : List ℕ) (right : namesRight names ≡ true) (i at : ℕ) (ea : at ≡ length front) (few : i < 4294967296) (l : i < count names) where
   abbrev name : List ℕ
@@ -106,10 +106,10 @@ module _ (s front names : List ℕ) (right : namesRight names ≡ true) (i at : 
 
     name-read : eqb (nulAt name) 0 ≡ false → bitByName s names (found (at + 12) end) ≡ Read (Number i)
     unfolding bitByName
-    name-read some = rw (name-is, name-found names right i l short some)
+    name-read some = rw (name-is, own-name-found names right i l short some)
 
-    same-bit : combined (at - 4) (Read (Number i)) (Read (Number i)) ≡ Read (Number i)
-    same-bit = rw (eq-eqb i i refl)
+    own-bit : combined (at - 4) (Read (Number i)) (Read (Number i)) ≡ Read (Number i)
+    own-bit = rw (eq-eqb i i refl)
 
     named-bit : eqb (nulAt name) 0 ≡ false → bitReading s names at ≡ Bit i false
     unfolding firstFault lastOfType judged ruleOf plain
@@ -118,7 +118,7 @@ module _ (s front names : List ℕ) (right : namesRight names ≡ true) (i at : 
         (walked-by bitPolicy s at (attribute 1 0 (at + 4) (at + 8) (attribute 2 0 (at + 12) end done))
         (index-at (attr 2 (nameBytes name)) e ∙ ap (attribute 1 0 (at + 4) (at + 8)) name-at)
         (rw (index-back (attr 2 (nameBytes name)) e, name-is, name-back name 32 short)))
-        (ap (combined (at - 4) (Read (Number i))) (name-read some) ∙ same-bit)
+        (ap (combined (at - 4) (Read (Number i))) (name-read some) ∙ own-bit)
 
   pub bit-back : nulAt name < 32 → s ≡ front ++ indexAndName i name → bitReading s names at ≡ Bit i false
   unfolding indexAndName nameIfAny

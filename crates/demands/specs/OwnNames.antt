@@ -1,0 +1,58 @@
+-- Request C-12: "Where a BIT carries both, both must mean the same bit". In an accepted bit list every BIT that carries an index and a name carries the
+-- name of that index's entry; and what 21 and 23 test, in plain bytes. (`BitsetSays` says of each BIT all that is read of it.)
+use Prim.Native.Nat.{ℕ}
+use mathlib.Core.Path.{_≡_}
+use mathlib.Core.List.{List}
+use mathlib.Core.Bool.{true, false}
+use Rattle.basics.specs.Numbers.{u32At}
+use Rattle.netlink_attributes.specs.Attributes.{Attributes, attributes, partOf}
+use Rattle.netlink_attributes.specs.Attributes.Attributes.{attribute}
+use Rattle.netlink.specs.Walk.{walked, slotNumber}
+use Rattle.netlink.specs.declared.walk.Slot.{Slot}
+use Rattle.bitset_form.specs.Policies.{bitsetPolicy, bitPolicy}
+use Rattle.bitset_form.specs.Parts.{bitsetParts, bitParts}
+use Rattle.bitset_form.specs.declared.parts.BitsetParts.{BitsetParts}
+use Rattle.bitset_form.specs.declared.parts.BitParts.{BitParts}
+use Rattle.layout.specs.Layout.{listOf}
+use Rattle.boxes.specs.Box.{Box}
+use Rattle.demands.specs.Bitset.{unknownName, twoBits}
+use Rattle.demands.specs.BoxFault.{Exactly}
+use Rattle.demands.specs.Message.{Named}
+use Rattle.demands.specs.Says.{Stands, payloadIn, IsNameOf}
+
+-- one of the attributes of a parent: its payload stands from start to end
+pub data Among (start end : ℕ) : Attributes → Type 0 where
+  first : {kind bits : ℕ} {rest : Attributes} → Among start end (attribute kind bits start end rest)
+  later : {kind bits a z : ℕ} {rest : Attributes} → Among start end rest → Among start end (attribute kind bits a z rest)
+
+-- of the parts of a BIT of s: where INDEX and NAME stand, NAME is the name of the entry with INDEX's number
+abbrev pub OwnName : List ℕ → List ℕ → BitParts → Type 0
+OwnName s names parts =
+    Stands (parts .index) → Stands (parts .name) → IsNameOf names (u32At (payloadIn s (parts .index)) 0) (payloadIn s (parts .name))
+
+-- of the BIT whose contents stand from start to end of s
+abbrev pub BitOwnName : List ℕ → List ℕ → ℕ → ℕ → Type 0
+BitOwnName s names start end = OwnName (partOf s 0 end) names (bitParts (walked bitPolicy (partOf s 0 end) start .slots))
+
+-- of every BIT of the BITS whose contents are the bytes of s from a position on
+abbrev pub EachOwnName : List ℕ → ℕ → List ℕ → Type 0
+EachOwnName s from names = (start end : ℕ) → Among start end (attributes s from) → BitOwnName s names start end
+
+-- of the parts of a bitset of s, where it has BITS
+abbrev pub ListOwnNames : List ℕ → List ℕ → BitsetParts → Type 0
+ListOwnNames s names parts = Stands (parts .bits) → EachOwnName (partOf s 0 (parts .bits .end)) (parts .bits .start) names
+
+-- of the bitset whose contents are the bytes of s from a position on
+abbrev pub OwnNames : List ℕ → ℕ → List ℕ → Type 0
+OwnNames s from names = ListOwnNames s names (bitsetParts (walked bitsetPolicy s from .slots))
+
+-- of the bitset that a request carries, over the names of its set
+abbrev pub RequestOwnNames : (box : Box) (m : List ℕ) → Named (box .roll) m → Type 0
+RequestOwnNames box m n = OwnNames (partOf m 0 (n .parts .bitset .end)) (n .parts .bitset .start) (listOf (box .names) (n .command .set))
+
+-- the tests of 21 and 23 in plain bytes: NAME is unknown exactly where it is the name of no entry; one that is known means another bit than INDEX exactly where
+-- it is not the name of the entry with INDEX's number
+pub record NameTests (s names : List ℕ) (index name : Slot) : Type 0 where
+  pub unknown : Exactly (unknownName s names name ≡ true) ((entry : ℕ) → IsNameOf names entry (payloadIn s name) → ⊥)
+  pub two-bits : unknownName s names name ≡ false
+      → Exactly (twoBits s names index name ≡ true) (IsNameOf names (slotNumber s index) (payloadIn s name) → ⊥)
