@@ -151,7 +151,7 @@ fn names_stand_in_the_file_that_a_table_gives_for_them() {
 fn links_lead_to_files() {
     let mut wrong = Vec::new();
     for (page, text) in tree::documents() {
-        let folder = if page.starts_with("docs/") { "docs/" } else { "" };
+        let folder = page.rfind('/').map_or("", |end| &page[..=end]);
         let links = text.split("](").skip(1).filter_map(|rest| rest.split(')').next());
         let lost = links.filter(|link| !tree::root().join(format!("{folder}{link}")).exists());
         wrong.extend(lost.map(|link| format!("{page}: no file {link}")));

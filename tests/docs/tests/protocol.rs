@@ -21,8 +21,11 @@ fn dumps(page: &str) -> Vec<Vec<u8>> {
 #[test]
 fn dumps_are_requests_and_their_answers() {
     let found = dumps(&page());
-    let [error, lacking, missing, request, reply, two, answers] = &found[..] else { panic!("{} dumps", found.len()) };
+    let [error, lacking, missing, two_bits, disagreeing, request, reply, two, answers] = &found[..] else {
+        panic!("{} dumps", found.len())
+    };
     assert_eq!(&reader::run(lacking), missing);
+    assert_eq!(&reader::run(two_bits), disagreeing);
     assert_eq!(&reader::run(request), reply);
     assert_eq!(&reader::run(two), answers);
     let mut faulty = request.clone();
