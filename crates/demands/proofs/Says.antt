@@ -137,7 +137,7 @@ module _ (s names : List ℕ) (parts : BitParts) where
 
   parts-mean : (at k : ℕ) → identified s names at parts ≡ L.Read (Number k) → Means s names parts k
   unfolding identified
-  parts-mean at k e = go (identified-below s names at parts k e) (combined-said at k _ _ e)
+  parts-mean at k e = go (identified-below s names at parts k e) (combined-said _ k _ _ e)
     where
       go : k < count names → Said k (bitByIndex s (count names) (parts .index)) (bitByName s names (parts .name)) → Means s names parts k
       go l (both-say x y) =

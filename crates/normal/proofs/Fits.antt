@@ -135,7 +135,7 @@ name-below s names name k e = go (name .present) (lookup names p .found) refl e
 
 pub identified-below : (s names : List ℕ) (at : ℕ) (parts : BitParts) (k : ℕ) → identified s names at parts ≡ L.Read (Number k) → k < count names
 unfolding identified
-identified-below s names at parts k e = go (combined-said at k _ _ e)
+identified-below s names at parts k e = go (combined-said _ k _ _ e)
   where
     go : Said k (bitByIndex s (count names) (parts .index)) (bitByName s names (parts .name)) → k < count names
     go (both-say x y) = index-below s (count names) (parts .index) k x
