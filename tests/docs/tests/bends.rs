@@ -5,7 +5,8 @@ use std::collections::BTreeSet;
 
 /// The names of the patches.
 fn patches() -> BTreeSet<String> {
-    let files = tree::files("tests/bent").into_iter().filter(|path| path.extension().is_some_and(|found| found == "patch"));
+    let files =
+        tree::files("tests/bent").into_iter().filter(|path| path.extension().is_some_and(|found| found == "patch"));
     files.map(|path| path.file_stem().expect("a name").to_string_lossy().into_owned()).collect()
 }
 
