@@ -13,7 +13,7 @@ use Rattle.basics.proofs.Numbers.{same-four}
 use Rattle.basics.proofs.Order.{lt-or-ge}
 use Rattle.basics.proofs.Truth.{false-of, both-true, clash}
 use Rattle.entries.specs.Entry.{count, entryAt, sameEntry}
-use Rattle.entries.proofs.Entries.{entry-byte, entry-length, entry-eight, same-of, same-equal}
+use Rattle.entries.proofs.Entries.{entry-byte, entry-length, entry-eight, same-of, same-equal, same-eight}
 
 -- two lists of 32 bytes whose four numbers of eight bytes are equal
 module _ (a b : List ℕ) (sa : (j : ℕ) → j < 32 → getD a j 0 < 256) (sb : (j : ℕ) → j < 32 → getD b j 0 < 256) where
@@ -85,3 +85,37 @@ module _ (list : List ℕ) (i k : ℕ) (hi : i < count list) (hk : k < count lis
               let y2 = both-true _ _ (y3 .0) in
               let y1 = both-true _ _ (y2 .0) in
               eights-same a b (small-entry i hi) (small-entry k hk) (eqb-true _ _ (y1 .0)) (eqb-true _ _ (y1 .1)) (eqb-true _ _ (y2 .1)) (eqb-true _ _ (y3 .1))
+
+-- an entry and a name by their numbers
+module _ (list name : List ℕ) (i : ℕ) (hi : i < count list) (small : (j : ℕ) → getD list j 0 < 256) (small-name : (j : ℕ) → getD name j 0 < 256) where
+  abbrev entry : List ℕ
+  entry = entryAt list i
+
+  pub name-numbers : (t0 t1 t2 t3 : Bool) → t0 ≡ eqb (u64At list (i * 32)) (u64At name 0) → t1 ≡ eqb (u64At list (i * 32 + 8)) (u64At name 8)
+      → t2 ≡ eqb (u64At list (i * 32 + 16)) (u64At name 16) → t3 ≡ eqb (u64At list (i * 32 + 24)) (u64At name 24)
+      → t0 && t1 && t2 && t3 ≡ sameEntry entry name
+  name-numbers t0 t1 t2 t3 e0 e1 e2 e3 =
+      rw
+      (e0 ∙ at 0 (i * 32) (omega arith) (omega arith), e1 ∙ at 8 (i * 32 + 8) (omega arith) refl, e2 ∙ at 16 (i * 32 + 16) (omega arith) refl, e3 ∙ at 24 (i * 32 + 24) (omega arith) refl)
+      (go (sameEntry entry name) refl)
+    where
+      at : (p q : ℕ) → p + 8 ≤ 32 → i * 32 + p ≡ q → eqb (u64At list q) (u64At name p) ≡ eqb (u64At entry p) (u64At name p)
+      at p q l eq = ap (λ (x : ℕ). eqb x (u64At name p)) (sym (entry-eight list i hi p q l eq))
+
+      small-entry : (j : ℕ) → j < 32 → getD entry j 0 < 256
+      small-entry j l = omega (arith, entry-byte list i hi j l, small (i * 32 + j))
+
+      all-true : eqb (u64At entry 0) (u64At name 0) && eqb (u64At entry 8) (u64At name 8) && eqb (u64At entry 16) (u64At name 16) && eqb (u64At entry 24) (u64At name 24) ≡ true
+          → sameEntry entry name ≡ true
+      all-true z =
+          let y3 = both-true _ _ z in
+          let y2 = both-true _ _ (y3 .0) in
+          let y1 = both-true _ _ (y2 .0) in
+          eights-same entry name small-entry (λ j l. small-name j) (eqb-true _ _ (y1 .0)) (eqb-true _ _ (y1 .1)) (eqb-true _ _ (y2 .1)) (eqb-true _ _ (y3 .1))
+
+      go : (t : Bool) → sameEntry entry name ≡ t
+          → eqb (u64At entry 0) (u64At name 0) && eqb (u64At entry 8) (u64At name 8) && eqb (u64At entry 16) (u64At name 16) && eqb (u64At entry 24) (u64At name 24) ≡ sameEntry entry name
+      go true e =
+          let x : (p : ℕ) → p + 8 ≤ 32 → eqb (u64At entry p) (u64At name p) ≡ true = λ p l. eq-eqb (u64At entry p) (u64At name p) (same-eight entry name p e l) in
+          rw (x 0 (omega arith), x 8 (omega arith), x 16 (omega arith), x 24 (omega arith)) (sym e)
+      go false e = false-of _ (λ z. clash (all-true z) e) ∙ sym e

@@ -3,12 +3,13 @@ ghost use mathlib.Core.Path.{_≡_};
 ghost use lib.ListN.{length};
 ghost use Rattle.entries.specs.Chain.{HeadRight, Indexed, IndexedIf};
 ghost use Rattle.names.specs.Search.{lookup};
-ghost use Rattle.name_index.specs.Index.{indexable};
+ghost use Rattle.name_index.specs.Index.{indexable, isAt};
 use entries::chain::distinct_in;
 use entries::chain::hash_of;
 use entries::chain::place_in;
 use entries::count;
 use entries::key::key_of;
+use entries::same::is_name;
 use names::Lookup;
 use names::find_name;
 use names::no_name;
@@ -70,4 +71,40 @@ pub fn look_up(names: &[u8], indexed: bool, head: &[u16], links: &[u16], name: &
         return find(names, head, links, name);
     }
     find_name(names, name)
+}
+
+// Whether entry i, where there is one, is the name, and not an empty one.
+fn is_at(names: &[u8], i: usize, name: &[u8]) -> bool
+    ensures { λ r. ⌜ r ≡ isAt (now (names .entry)) (now (name .entry)) i ⌝ }
+{
+    if count(names) <= i {
+        return false;
+    }
+    if no_name(name) {
+        return false;
+    }
+    is_name(names, i, name)
+}
+
+// The entry that equals the name. Where the names are distinct and entry `first` is the name, no other can be, and none is searched for.
+pub fn look_up_first(
+    names: &[u8],
+    indexed: bool,
+    head: &[u16],
+    links: &[u16],
+    first: usize,
+    name: &[u8],
+) -> Lookup
+    requires { ⌜ IndexedIf indexed (now names) (now head) (now links) ⌝ }
+    ensures { λ r. ⌜ r ≡ lookup (now (names .entry)) (now (name .entry)) ⌝ }
+{
+    if indexed {
+        if is_at(names, first, name) {
+            return Lookup {
+                found: true,
+                bit: first,
+            };
+        }
+    }
+    look_up(names, indexed, head, links, name)
 }
