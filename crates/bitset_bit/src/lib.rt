@@ -5,8 +5,12 @@ ghost use Rattle.bitset_bit.specs.declared.IdentityRead.the-variants.{Re
 ghost use Rattle.netlink.specs.Policy.{ruleOf, judged};
 ghost use Rattle.bitset_form.specs.Policies.{bitPolicy};
 ghost use Rattle.entries.specs.Entry.{count};
+ghost use Rattle.names.specs.Search.{lookup};
 ghost use Rattle.entries.specs.Chain.{IndexedIf};
 use bitset_form::parts::BitParts;
+use name_index::look_up;
+use name_index::look_up_first;
+use names::Lookup;
 use netlink::policy::Fault;
 use netlink::policy::Rule;
 use netlink::policy::Verdict;
@@ -59,12 +63,32 @@ fn bit_by_index(s: &[u8], n: usize, index: Slot) -> IdentityRead
     IdentityRead::Read(Identity::Number(number))
 }
 
+// The entry that equals the name. The one that INDEX means is compared first: as a rule it is the one, and the search is spared.
+fn entry_named(
+    names: &[u8],
+    indexed: bool,
+    head: &[u16],
+    links: &[u16],
+    index: Identity,
+    name: &[u8],
+) -> Lookup
+    requires { ⌜ IndexedIf indexed (now names) (now head) (now links) ⌝ }
+    ensures { λ r. ⌜ r ≡ lookup (now (names .entry)) (now (name .entry)) ⌝ }
+{
+    let Identity::Number(first) = index else {
+        return look_up(names, indexed, head, links, name);
+    };
+    look_up_first(names, indexed, head, links, first, name)
+}
+
+// The bit that NAME means, beside what INDEX means.
 fn bit_by_name(
     s: &[u8],
     names: &[u8],
     indexed: bool,
     head: &[u16],
     links: &[u16],
+    index: Identity,
     name: Slot,
 ) -> IdentityRead
     requires { ⌜ IndexedIf indexed (now names) (now head) (now links) ⌝ }
@@ -73,13 +97,8 @@ fn bit_by_name(
     if !name.present {
         return IdentityRead::Read(Identity::Absent);
     }
-    let lookup = name_index::look_up(
-        names,
-        indexed,
-        head,
-        links,
-        payload(s, name.start, name.end),
-    );
+    let bytes = payload(s, name.start, name.end);
+    let lookup = entry_named(names, indexed, head, links, index, bytes);
     if lookup.found {
         return IdentityRead::Read(Identity::Number(lookup.bit));
     }
@@ -123,7 +142,7 @@ fn identify(
     match bit_by_index(s, names::count(names), parts.index) {
         IdentityRead::Refused(past) => IdentityRead::Refused(past),
         IdentityRead::Read(index) => {
-            let name = bit_by_name(s, names, indexed, head, links, parts.name);
+            let name = bit_by_name(s, names, indexed, head, links, index, parts.name);
             combine(at, index, name)
         }
     }
