@@ -158,7 +158,7 @@ module _ (s names : List ℕ) (start end : ℕ) where
   abbrev bit-part : BitParts
   bit-part = bitParts (walked bitPolicy bit start .slots)
 
-  bit-read : (number : ℕ) (on : Bool) → bitReading bit names start ≡ B.Bit number on
+  pub bit-read : (number : ℕ) (on : Bool) → bitReading bit names start ≡ B.Bit number on
       → (walked bitPolicy bit start .stop ≡ Whole) × Means bit names bit-part number × (on ≡ bit-part .on .present)
   unfolding bitPartsReading
   bit-read number on e =
