@@ -78,7 +78,7 @@ use Rattle.demands.specs.Call.{messageOf}
 use Rattle.demands.specs.Request.{isSet}
 use Rattle.demands.specs.Parts.{StandsIn}
 use Rattle.demands.specs.Stored.{DoneSetStored}
-use Rattle.demands.specs.Says.{Stands, Lacks, payloadIn, SlotIs, IsNameOf, Means, BitSays, Lists, FromBitmap, BitsetOpened, CompactSays, ListSays, BitsetSays, RequestSays}
+use Rattle.demands.specs.Says.{Stands, Lacks, payloadIn, SlotIs, BitPartsAre, BitsetPartsAre, IsNameOf, Means, BitSays, Lists, FromBitmap, BitsetOpened, CompactSays, ListSays, BitsetSays, RequestSays}
 use Rattle.demands.specs.Says.SlotIs.{lastOne, noOne}
 use Rattle.demands.specs.Says.Lists.{noMore, oneBit}
 use Rattle.demands.specs.Says.BitsetSays.{compactMasked, compactNomask, listMasked, listNomask}
@@ -100,6 +100,19 @@ slot-of p s from whole kind l = rw (slot-is p s from whole kind l) (go (last-is 
         → SlotIs kind (attributes s from) (lastOfType kind absent (attributes s from))
     go (inl (q, n)) = rw q (noOne n)
     go (inr (a, e, q, i)) = rw q (lastOne i)
+
+pub bit-parts-are : (s : List ℕ) (from : ℕ) → walked bitPolicy s from .stop ≡ Whole → BitPartsAre (attributes s from) (bitParts (walked bitPolicy s from .slots))
+unfolding bitParts
+bit-parts-are s from w =
+    let slot = slot-of bitPolicy s from w in
+    record { index = slot 1 (omega arith); name = slot 2 (omega arith); on = slot 3 (omega arith) }
+
+pub bitset-parts-are : (s : List ℕ) (from : ℕ) → walked bitsetPolicy s from .stop ≡ Whole
+    → BitsetPartsAre (attributes s from) (bitsetParts (walked bitsetPolicy s from .slots))
+unfolding bitsetParts
+bitset-parts-are s from w =
+    let slot = slot-of bitsetPolicy s from w in
+    record { nomask = slot 1 (omega arith); size = slot 2 (omega arith); bits = slot 3 (omega arith); value = slot 4 (omega arith); mask = slot 5 (omega arith) }
 
 -- one BIT: what INDEX and NAME say, each on its own
 module _ (s names : List ℕ) (parts : BitParts) where
@@ -197,9 +210,7 @@ module _ (s names : List ℕ) (start end : ℕ) where
       record {
         parts = bit-part;
         whole = r .0;
-        index-is = slot-of bitPolicy bit start (r .0) 1 (omega arith);
-        name-is = slot-of bitPolicy bit start (r .0) 2 (omega arith);
-        on-is = slot-of bitPolicy bit start (r .0) 3 (omega arith);
+        are = bit-parts-are bit start (r .0);
         inside = rw (front-length s end hi) at (three-parts bitPolicy bit start (r .0));
         number = r .1;
         on = r .2;
@@ -387,11 +398,7 @@ accepted-says s from names b = go (walked bitsetPolicy s from .stop) refl
     go Whole w e = forms-say s from names parts 
         (record {
           whole = w;
-          nomask-is = slot-of bitsetPolicy s from w 1 (omega arith);
-          size-is = slot-of bitsetPolicy s from w 2 (omega arith);
-          bits-is = slot-of bitsetPolicy s from w 3 (omega arith);
-          value-is = slot-of bitsetPolicy s from w 4 (omega arith);
-          mask-is = slot-of bitsetPolicy s from w 5 (omega arith);
+          are = bitset-parts-are s from w;
           inside = five-parts bitsetPolicy s from w;
         }) b e
 
