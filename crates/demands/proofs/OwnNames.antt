@@ -8,9 +8,11 @@ use mathlib.Core.Path.{_≡_, refl, sym, ap, _∙_}
 use mathlib.Core.List.{List}
 use mathlib.Core.Bool.{Bool, true, false, not, cond}
 use lib.Dec.{eqb}
+use lib.ListN.{getD}
+use mathlib.Core.Logic.{inl, inr}
 use native.Mathlib.Omega.{arith}
-use borrow.Author.Tests.{eq-eqb, eqb-true, not-true, not-false}
-use Rattle.basics.specs.Numbers.{byteAt}
+use borrow.Author.Tests.{eq-eqb, ne-eqb, eqb-true, not-true, not-false}
+use Rattle.basics.specs.Numbers.{byteAt, u32At}
 use Rattle.basics.proofs.Truth.{clash, true-of}
 use Rattle.bits.specs.Change.{Listed}
 use Rattle.word_bytes.specs.Bytes.{Bytes}
@@ -19,8 +21,11 @@ use Rattle.names.specs.Rule.{namesRight}
 use Rattle.names.specs.Search.{foundAt, lookup}
 use Rattle.names.specs.declared.Lookup.{Lookup}
 use Rattle.netlink_attributes.specs.Attributes.{Attributes, attributes, partOf}
-use Rattle.netlink_attributes.specs.Attributes.Attributes.{attribute}
-use Rattle.netlink.specs.Walk.{walked, slotNumber}
+use Rattle.netlink_attributes.specs.Attributes.Attributes.{done, broken, attribute}
+use Rattle.netlink.specs.Walk.{absent, found, lastOfType, walked, slotNumber}
+use Rattle.netlink.specs.Claims.{None, LastIs}
+use Rattle.netlink.specs.declared.walk.Stop.the-variants.{Whole}
+use Rattle.netlink.proofs.walk.Meaning.{slot-is}
 use Rattle.netlink.specs.declared.walk.Slot.{Slot}
 use Rattle.netlink_headers.specs.Headers.{messageHeader}
 use Rattle.bitset_form.specs.Policies.{bitsetPolicy, bitPolicy, bitsPolicy}
@@ -51,11 +56,42 @@ use Rattle.demands.specs.Stored.{DoneSetStored}
 use Rattle.demands.specs.Bitset.{unknownName, twoBits}
 use Rattle.demands.specs.BoxFault.{Exactly}
 use Rattle.demands.specs.Says.{payloadIn, IsNameOf, Means}
-use Rattle.demands.specs.OwnNames.{Among, BitOwnName, EachOwnName, ListOwnNames, OwnNames, RequestOwnNames, NameTests}
+use Rattle.demands.specs.OwnNames.{Among, OwnName, BitOwnName, EachOwnName, ListOwnNames, OwnNames, RequestOwnNames, NameTests}
 use Rattle.demands.specs.OwnNames.Among.{first, later}
 use Rattle.demands.proofs.NameOf.{found-names, name-found}
-use Rattle.demands.proofs.Says.{bit-means}
+use Rattle.demands.proofs.Says.{bit-read}
 use Rattle.demands.proofs.Stored as S
+
+-- the last attribute of a type is the slot of its type
+none-left : (kind : ℕ) (slot : Slot) (xs : Attributes) → None kind xs → lastOfType kind slot xs ≡ slot
+unfolding lastOfType
+none-left kind slot done n = refl
+none-left kind slot (broken at) n = refl
+none-left kind slot (attribute k b a e rest) n =
+    ap (λ (t : Bool). lastOfType kind (cond t (found a e) slot) rest) (ne-eqb k kind (n .0)) ∙ none-left kind slot rest (n .1)
+
+last-slot : (kind : ℕ) (slot : Slot) (start end : ℕ) (xs : Attributes) → LastIs kind start end xs → lastOfType kind slot xs ≡ found start end
+unfolding lastOfType
+last-slot kind slot start end done l = absurd l
+last-slot kind slot start end (broken at) l = absurd l
+last-slot kind slot start end (attribute k b a e rest) (inl l) =
+    ap (λ (t : Bool). lastOfType kind (cond t (found a e) slot) rest) (eq-eqb k kind (l .0)) ∙ none-left kind (found a e) rest (l .3)
+    ∙ ap (λ (x : ℕ). found x e) (l .1) ∙ ap (found start) (l .2)
+last-slot kind slot start end (attribute k b a e rest) (inr l) = last-slot kind (cond (eqb k kind) (found a e) slot) start end rest l
+
+same-name : (names : List ℕ) {n m : ℕ} {p q : List ℕ} → n ≡ m → p ≡ q → IsNameOf names n p → IsNameOf names m q
+same-name names x y h = rw (x, y) at h
+
+own-name : (s names : List ℕ) (from number : ℕ) → walked bitPolicy s from .stop ≡ Whole → Means s names (bitParts (walked bitPolicy s from .slots)) number
+    → OwnName s names (attributes s from)
+unfolding bitParts
+own-name s names from number whole means a e b z index name =
+    let i : getD (walked bitPolicy s from .slots) 1 absent ≡ found a e = slot-is bitPolicy s from whole 1 (omega arith) ∙ last-slot 1 absent a e (attributes s from) index in
+    let n : getD (walked bitPolicy s from .slots) 2 absent ≡ found b z = slot-is bitPolicy s from whole 2 (omega arith) ∙ last-slot 2 absent b z (attributes s from) name in
+    same-name names
+    (means .by-index (ap (λ (x : Slot). x .present) i) ∙ ap (λ (x : Slot). u32At (payloadIn s x) 0) i)
+    (ap (payloadIn s) n)
+    (means .by-name (ap (λ (x : Slot). x .present) n))
 
 -- the BITs of a list
 module _ (s names : List ℕ) where
@@ -70,8 +106,8 @@ module _ (s names : List ℕ) where
   unfolding bitsReading
   each-own-name start end (first {kind} {bits} {rest}) es e =
       let read = bit-then (bitReading (partOf s 0 end) names start) (bitsReading s names rest) es e .0 in
-      let means = bit-means s names start end (read .0) (read .1) (read .2) in
-      λ index name. rw (means .by-index index) at (means .by-name name)
+      let bit = bit-read s names start end (read .0) (read .1) (read .2) in
+      own-name (partOf s 0 end) names start (read .0) (bit .0) (bit .1)
   each-own-name start end (later {kind} {bits} {a} {z} {rest} among) es e =
       let others = bit-then (bitReading (partOf s 0 z) names a) (bitsReading s names rest) es e .1 in
       each-own-name start end among (others .0) (others .1)

@@ -7,7 +7,7 @@ use Prim.Native.Nat.{ℕ, zero, suc, _+_, _-_, _*_, _/_, _%_, _^_, _≤_, _<_}
 use mathlib.Core.Path.{_≡_, refl, sym, ap, _∙_}
 use mathlib.Core.List.{List, [], _∷_}
 use mathlib.Core.Bool.{Bool, true, false, _&&_, not, cond}
-use mathlib.Core.Logic.{inl, inr, ⊎-elim}
+use mathlib.Core.Logic.{_⊎_, inl, inr, ⊎-elim}
 use lib.ListN.{length, take, drop, getD, length-take, List·getD-eq-default}
 use lib.Seq.{getD-take, getD-drop}
 use lib.Dec.{eqb, ltb, leb}
@@ -29,10 +29,12 @@ use Rattle.netlink_attributes.specs.Attributes.{Attributes, attributes, partOf}
 use Rattle.netlink_attributes.specs.Attributes.Attributes.{done, attribute}
 use Rattle.netlink_attributes.specs.Claims.{Apart}
 use Rattle.netlink_attributes.proofs.Apart.{apart}
-use Rattle.netlink.specs.Walk.{walked, slotNumber}
+use Rattle.netlink.specs.Walk.{absent, found, lastOfType, walked, slotNumber}
+use Rattle.netlink.specs.Claims.{None, LastIs}
+use Rattle.netlink.specs.declared.policy.Rule.{Rule}
 use Rattle.netlink.specs.Claims.{Passed}
 use Rattle.netlink.specs.Claims.Passed.{here, next}
-use Rattle.netlink.proofs.walk.Meaning.{whole-passed, stop-is}
+use Rattle.netlink.proofs.walk.Meaning.{whole-passed, stop-is, slot-is, last-is}
 use Rattle.netlink.proofs.walk.Laws.{slot-there}
 use Rattle.netlink.specs.declared.walk.Slot.{Slot}
 use Rattle.netlink.specs.declared.walk.Stop.{Stop}
@@ -76,7 +78,8 @@ use Rattle.demands.specs.Call.{messageOf}
 use Rattle.demands.specs.Request.{isSet}
 use Rattle.demands.specs.Parts.{StandsIn}
 use Rattle.demands.specs.Stored.{DoneSetStored}
-use Rattle.demands.specs.Says.{Stands, Lacks, payloadIn, IsNameOf, Means, BitSays, Lists, FromBitmap, BitsetOpened, CompactSays, ListSays, BitsetSays, RequestSays}
+use Rattle.demands.specs.Says.{Stands, Lacks, payloadIn, SlotIs, BitPartsAre, BitsetPartsAre, IsNameOf, Means, BitSays, Lists, FromBitmap, BitsetOpened, CompactSays, ListSays, BitsetSays, RequestSays}
+use Rattle.demands.specs.Says.SlotIs.{lastOne, noOne}
 use Rattle.demands.specs.Says.Lists.{noMore, oneBit}
 use Rattle.demands.specs.Says.BitsetSays.{compactMasked, compactNomask, listMasked, listNomask}
 use Rattle.demands.proofs.NameOf.{found-names}
@@ -86,6 +89,30 @@ use Rattle.demands.proofs.Stored as S
 -- the number of 32 bits in a slot that is there
 number-in : (s : List ℕ) (slot : Slot) → slot .present ≡ true → slotNumber s slot ≡ u32At (payloadIn s slot) 0
 number-in s slot h = sym (slot-there s slot (payloadIn s slot) (u32At (payloadIn s slot) 0) h refl refl)
+
+-- the slot of a type in a walk that is whole
+slot-of : (p : List Rule) (s : List ℕ) (from : ℕ) → walked p s from .stop ≡ Whole → (kind : ℕ) → kind < 8
+    → SlotIs kind (attributes s from) (getD (walked p s from .slots) kind absent)
+slot-of p s from whole kind l = rw (slot-is p s from whole kind l) (go (last-is kind (attributes s from)))
+  where
+    go : ((lastOfType kind absent (attributes s from) ≡ absent) × None kind (attributes s from))
+        ⊎ ((a : ℕ) × (e : ℕ) × (lastOfType kind absent (attributes s from) ≡ found a e) × LastIs kind a e (attributes s from))
+        → SlotIs kind (attributes s from) (lastOfType kind absent (attributes s from))
+    go (inl (q, n)) = rw q (noOne n)
+    go (inr (a, e, q, i)) = rw q (lastOne i)
+
+pub bit-parts-are : (s : List ℕ) (from : ℕ) → walked bitPolicy s from .stop ≡ Whole → BitPartsAre (attributes s from) (bitParts (walked bitPolicy s from .slots))
+unfolding bitParts
+bit-parts-are s from w =
+    let slot = slot-of bitPolicy s from w in
+    record { index = slot 1 (omega arith); name = slot 2 (omega arith); on = slot 3 (omega arith) }
+
+pub bitset-parts-are : (s : List ℕ) (from : ℕ) → walked bitsetPolicy s from .stop ≡ Whole
+    → BitsetPartsAre (attributes s from) (bitsetParts (walked bitsetPolicy s from .slots))
+unfolding bitsetParts
+bitset-parts-are s from w =
+    let slot = slot-of bitsetPolicy s from w in
+    record { nomask = slot 1 (omega arith); size = slot 2 (omega arith); bits = slot 3 (omega arith); value = slot 4 (omega arith); mask = slot 5 (omega arith) }
 
 -- one BIT: what INDEX and NAME say, each on its own
 module _ (s names : List ℕ) (parts : BitParts) where
@@ -158,7 +185,7 @@ module _ (s names : List ℕ) (start end : ℕ) where
   abbrev bit-part : BitParts
   bit-part = bitParts (walked bitPolicy bit start .slots)
 
-  bit-read : (number : ℕ) (on : Bool) → bitReading bit names start ≡ B.Bit number on
+  pub bit-read : (number : ℕ) (on : Bool) → bitReading bit names start ≡ B.Bit number on
       → (walked bitPolicy bit start .stop ≡ Whole) × Means bit names bit-part number × (on ≡ bit-part .on .present)
   unfolding bitPartsReading
   bit-read number on e =
@@ -183,7 +210,7 @@ module _ (s names : List ℕ) (start end : ℕ) where
       record {
         parts = bit-part;
         whole = r .0;
-        read = refl;
+        are = bit-parts-are bit start (r .0);
         inside = rw (front-length s end hi) at (three-parts bitPolicy bit start (r .0));
         number = r .1;
         on = r .2;
@@ -368,7 +395,12 @@ accepted-says s from names b = go (walked bitsetPolicy s from .stop) refl
     go : (t : Stop) → walked bitsetPolicy s from .stop ≡ t → onStop t refused (bitsetPartsReading s (from - 4) names parts) ≡ accepted b
         → BitsetSays s from names b
     go (At f at) w e = absurd (never _ b e)
-    go Whole w e = forms-say s from names parts (record { whole = w; read = refl; inside = five-parts bitsetPolicy s from w }) b e
+    go Whole w e = forms-say s from names parts 
+        (record {
+          whole = w;
+          are = bitset-parts-are s from w;
+          inside = five-parts bitsetPolicy s from w;
+        }) b e
 
 -- of a call of the exported handler
 module _ (box : Box) (stored : Stored) (call : Call) (datagram : List ℕ) (room : ℕ) where

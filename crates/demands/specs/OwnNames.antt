@@ -8,11 +8,11 @@ use Rattle.basics.specs.Numbers.{u32At}
 use Rattle.netlink_attributes.specs.Attributes.{Attributes, attributes, partOf}
 use Rattle.netlink_attributes.specs.Attributes.Attributes.{attribute}
 use Rattle.netlink.specs.Walk.{walked, slotNumber}
+use Rattle.netlink.specs.Claims.{LastIs}
 use Rattle.netlink.specs.declared.walk.Slot.{Slot}
-use Rattle.bitset_form.specs.Policies.{bitsetPolicy, bitPolicy}
-use Rattle.bitset_form.specs.Parts.{bitsetParts, bitParts}
+use Rattle.bitset_form.specs.Policies.{bitsetPolicy}
+use Rattle.bitset_form.specs.Parts.{bitsetParts}
 use Rattle.bitset_form.specs.declared.parts.BitsetParts.{BitsetParts}
-use Rattle.bitset_form.specs.declared.parts.BitParts.{BitParts}
 use Rattle.layout.specs.Layout.{listOf}
 use Rattle.boxes.specs.Box.{Box}
 use Rattle.demands.specs.Bitset.{unknownName, twoBits}
@@ -25,14 +25,13 @@ pub data Among (start end : ℕ) : Attributes → Type 0 where
   first : {kind bits : ℕ} {rest : Attributes} → Among start end (attribute kind bits start end rest)
   later : {kind bits a z : ℕ} {rest : Attributes} → Among start end rest → Among start end (attribute kind bits a z rest)
 
--- of the parts of a BIT of s: where INDEX and NAME stand, NAME is the name of the entry with INDEX's number
-abbrev pub OwnName : List ℕ → List ℕ → BitParts → Type 0
-OwnName s names parts =
-    Stands (parts .index) → Stands (parts .name) → IsNameOf names (u32At (payloadIn s (parts .index)) 0) (payloadIn s (parts .name))
+-- of the attributes of a BIT of s: where INDEX (type 1) and NAME (type 2) stand among them, the last NAME is the name of the entry with the last INDEX's number
+abbrev pub OwnName : List ℕ → List ℕ → Attributes → Type 0
+OwnName s names xs = (a e b z : ℕ) → LastIs 1 a e xs → LastIs 2 b z xs → IsNameOf names (u32At (partOf s a e) 0) (partOf s b z)
 
 -- of the BIT whose contents stand from start to end of s
 abbrev pub BitOwnName : List ℕ → List ℕ → ℕ → ℕ → Type 0
-BitOwnName s names start end = OwnName (partOf s 0 end) names (bitParts (walked bitPolicy (partOf s 0 end) start .slots))
+BitOwnName s names start end = OwnName (partOf s 0 end) names (attributes (partOf s 0 end) start)
 
 -- of every BIT of the BITS whose contents are the bytes of s from a position on
 abbrev pub EachOwnName : List ℕ → ℕ → List ℕ → Type 0

@@ -10,13 +10,12 @@ use Rattle.basics.specs.Numbers.{u16At, u32At}
 use Rattle.bits.specs.Bit.{test}
 use Rattle.bits.specs.Change.{Listed}
 use Rattle.entries.specs.Entry.{count}
-use Rattle.netlink_attributes.specs.Attributes.{partOf}
-use Rattle.netlink.specs.Walk.{walked}
-use Rattle.netlink.specs.Claims.{PartsIn}
+use Rattle.netlink_attributes.specs.Attributes.{Attributes, attributes, partOf}
+use Rattle.netlink.specs.Walk.{found, absent, walked}
+use Rattle.netlink.specs.Claims.{None, LastIs, PartsIn}
 use Rattle.netlink.specs.declared.walk.Slot.{Slot}
 use Rattle.netlink.specs.declared.walk.Stop.the-variants.{Whole}
 use Rattle.bitset_form.specs.Policies.{bitsetPolicy, bitsPolicy, bitPolicy}
-use Rattle.bitset_form.specs.Parts.{bitsetParts, bitParts}
 use Rattle.bitset_form.specs.declared.parts.BitsetParts.{BitsetParts}
 use Rattle.bitset_form.specs.declared.parts.BitParts.{BitParts}
 use Rattle.bitset_form.specs.Bitset.{Bitset}
@@ -37,6 +36,25 @@ Lacks slot = slot .present ≡ false
 -- the payload of an attribute of s
 abbrev pub payloadIn : List ℕ → Slot → List ℕ
 payloadIn s slot = partOf s (slot .start) (slot .end)
+
+-- the slot of a type among the attributes of a parent: that of its last attribute of the type, or absent where it has none
+pub data SlotIs (kind : ℕ) (xs : Attributes) : Slot → Type 0 where
+  lastOne : {start end : ℕ} → LastIs kind start end xs → SlotIs kind xs (found start end)
+  noOne : None kind xs → SlotIs kind xs absent
+
+-- the parts of a BIT with these attributes: 1 INDEX, 2 NAME, 3 the VALUE flag
+pub record BitPartsAre (xs : Attributes) (parts : BitParts) : Type 0 where
+  pub index : SlotIs 1 xs (parts .index)
+  pub name : SlotIs 2 xs (parts .name)
+  pub on : SlotIs 3 xs (parts .on)
+
+-- the parts of a bitset with these attributes: 1 NOMASK, 2 SIZE, 3 BITS, 4 VALUE, 5 MASK
+pub record BitsetPartsAre (xs : Attributes) (parts : BitsetParts) : Type 0 where
+  pub nomask : SlotIs 1 xs (parts .nomask)
+  pub size : SlotIs 2 xs (parts .size)
+  pub bits : SlotIs 3 xs (parts .bits)
+  pub value : SlotIs 4 xs (parts .value)
+  pub mask : SlotIs 5 xs (parts .mask)
 
 -- a payload is the name of an entry of a list: it is not empty, and the 32 bytes of the entry are its bytes, its NUL among them, and NULs behind it (`getD`
 -- gives 0 past its end)
@@ -59,7 +77,7 @@ pub record Means (s names : List ℕ) (parts : BitParts) (number : ℕ) : Type 0
 pub record BitSays (s names : List ℕ) (start end : ℕ) (entry : Listed) : Type 0 where
   pub parts : BitParts
   pub whole : walked bitPolicy (partOf s 0 end) start .stop ≡ Whole
-  pub read : parts ≡ bitParts (walked bitPolicy (partOf s 0 end) start .slots)
+  pub are : BitPartsAre (attributes (partOf s 0 end) start) parts
   pub inside : PartsIn start end (parts .index ∷ parts .name ∷ parts .on ∷ [])
   pub number : Means (partOf s 0 end) names parts (entry .bit)
   pub on : entry .on ≡ parts .on .present
@@ -82,7 +100,7 @@ FromBitmap size f bitmap = (i : ℕ) → i < size → f i ≡ bitmapBit bitmap i
 -- the bitset whose contents are the bytes of s from a position on is right as a whole, and its parts stand in it
 pub record BitsetOpened (s : List ℕ) (from : ℕ) (parts : BitsetParts) : Type 0 where
   pub whole : walked bitsetPolicy s from .stop ≡ Whole
-  pub read : parts ≡ bitsetParts (walked bitsetPolicy s from .slots)
+  pub are : BitsetPartsAre (attributes s from) parts
   pub inside : PartsIn from (length s) (parts .nomask ∷ parts .size ∷ parts .bits ∷ parts .value ∷ parts .mask ∷ [])
 
 -- SIZE and VALUE stand, BITS does not; SIZE is the number in it, and the bits below it are those of VALUE
