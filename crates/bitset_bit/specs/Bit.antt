@@ -27,21 +27,21 @@ use Rattle.bitset_bit.specs.declared.BitRead.the-variants as B
 abbrev pub ifStands : Slot → IdentityRead → IdentityRead
 ifStands slot read = cond (slot .present) read (L.Read Absent)
 
--- by INDEX: 20 at or past N
+-- the bit that INDEX means where it stands: its number, or 20 at or past N
 unfoldable pub bitByIndex : List ℕ → ℕ → Slot → IdentityRead
 bitByIndex s n index =
     ifStands index (cond (leb n (slotNumber s index)) (L.Refused (PastLength (index .start - 4))) (L.Read (Number (slotNumber s index))))
 
--- by NAME: the entry that equals it, or 21
+-- what a search came to: the entry that equals NAME, or 21
 abbrev pub onLookup : Lookup → ℕ → IdentityRead
 onLookup l at = cond (l .found) (L.Read (Number (l .bit))) (L.Refused (UnknownBit at))
 
--- the bit that NAME means, by the list of names
+-- the bit that NAME means where it stands, by the list of names
 unfoldable pub bitByName : List ℕ → List ℕ → Slot → IdentityRead
 bitByName s names name = ifStands name (onLookup (lookup names (partOf s (name .start) (name .end))) (name .start - 4))
 
 -- INDEX is judged first, then NAME. "Where a BIT carries both, both must mean the same bit", else 23 at the BIT; where it carries one, that one decides; where
--- it carries neither, there is none
+-- it carries neither, no bit is meant
 abbrev pub combined : ℕ → IdentityRead → IdentityRead → IdentityRead
 combined at (L.Refused why) name = L.Refused why
 combined at (L.Read index) (L.Refused why) = L.Refused why

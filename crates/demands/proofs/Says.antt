@@ -395,7 +395,7 @@ accepted-says s from names b = go (walked bitsetPolicy s from .stop) refl
     go : (t : Stop) → walked bitsetPolicy s from .stop ≡ t → onStop t refused (bitsetPartsReading s (from - 4) names parts) ≡ accepted b
         → BitsetSays s from names b
     go (At f at) w e = absurd (never _ b e)
-    go Whole w e = forms-say s from names parts 
+    go Whole w e = forms-say s from names parts
         (record {
           whole = w;
           are = bitset-parts-are s from w;

@@ -1,4 +1,4 @@
--- Document 01, "What a call says back" and "Bitsets": the checks of a bitset in their order. "Then the bitset is walked whole and judged: 18
+-- Document 01, "What a call says back" and "Bitsets", and request C-12: the checks of a bitset in their order. "Then the bitset is walked whole and judged: 18
 -- first, then 13, 19, 20 for a compact one. Then BITS is walked whole; then each BIT in order, walked whole and judged."
 use Prim.Native.Nat.{ℕ, _-_, _/_}
 use mathlib.Core.List.{List, [], _∷_, _++_}

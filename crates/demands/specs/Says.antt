@@ -1,4 +1,4 @@
--- Document 01, "Bitsets": what an accepted bitset says, stated a second time, from its bytes. Taken over are the walk of a parent and the four forms of
+-- Document 01, "Bitsets", and request C-12: what an accepted bitset says, stated a second time, from its bytes. Taken over are the walk of a parent and the four forms of
 -- a bitset; not the definitions by which a bitset is read, nor the search for a name.
 use Prim.Native.Nat.{ℕ, _+_, _-_, _*_, _/_, _%_, _≤_, _<_}
 use mathlib.Core.Path.{_≡_}
@@ -56,7 +56,7 @@ pub record BitsetPartsAre (xs : Attributes) (parts : BitsetParts) : Type 0 where
   pub value : SlotIs 4 xs (parts .value)
   pub mask : SlotIs 5 xs (parts .mask)
 
--- a payload is the name of an entry of a list: it is not empty, and the 32 bytes of the entry are its bytes, its NUL among them, and NULs behind it (`getD`
+-- a payload is the name of an entry of a list: its first byte is not NUL, and the 32 bytes of the entry are its bytes, its NUL among them, and NULs behind it (`getD`
 -- gives 0 past its end)
 pub record IsNameOf (names : List ℕ) (entry : ℕ) (name : List ℕ) : Type 0 where
   pub inside : entry < count names

@@ -9,6 +9,7 @@ use native.Mathlib.Omega.{arith}
 use borrow.Author.Tests.{lt-leb, eq-eqb}
 use Rattle.basics.specs.Numbers.{le32, u32At}
 use Rattle.basics.proofs.Numbers.{u32-le32}
+use Rattle.basics.proofs.Truth.{cond-true}
 use Rattle.entries.specs.Entry.{count, entryAt}
 use Rattle.names.specs.Rule.{namesRight}
 use Rattle.netlink_attributes.specs.Attributes.{attributes, partOf}
@@ -21,12 +22,13 @@ use Rattle.netlink_write.specs.Attributes.{attr, nameBytes}
 use Rattle.index_name.specs.IndexName.{nameIfAny, indexAndName}
 use Rattle.netlink_write.proofs.ReadBack.{attributes-end, name-back}
 use Rattle.netlink_write.proofs.attributes.Laws.{length-attr}
+use Rattle.refusal.specs.declared.Refusal.the-variants.{TwoBits}
 use Rattle.bitset_form.specs.Policies.{bitPolicy}
 use Rattle.bitset_form.specs.Parts.{bitParts}
 use Rattle.bitset_bit.specs.Bit.{bitByIndex, bitByName, combined, identified, onIdentityRead, bitPartsReading, bitWalked, bitReading}
 use Rattle.bitset_bit.specs.declared.Identity.the-variants.{Number}
 use Rattle.bitset_bit.specs.declared.IdentityRead.{IdentityRead}
-use Rattle.bitset_bit.specs.declared.IdentityRead.the-variants.{Read}
+use Rattle.bitset_bit.specs.declared.IdentityRead.the-variants.{Read, Refused}
 use Rattle.bitset_bit.specs.declared.BitRead.the-variants.{Bit}
 use Rattle.netlink_write.proofs.attributes.Laws.{length-nameBytes}
 use Rattle.read_back.proofs.Places.{payload-at, attribute-at, walked-by}
@@ -109,7 +111,7 @@ module _ (s front names : List ℕ) (right : namesRight names ≡ true) (i at : 
     name-read some = rw (name-is, own-name-found names right i l short some)
 
     own-bit : combined (at - 4) (Read (Number i)) (Read (Number i)) ≡ Read (Number i)
-    own-bit = rw (eq-eqb i i refl)
+    own-bit = cond-true (eqb i i) (Read (Number i)) (Refused (TwoBits (at - 4))) (eq-eqb i i refl)
 
     named-bit : eqb (nulAt name) 0 ≡ false → bitReading s names at ≡ Bit i false
     unfolding firstFault lastOfType judged ruleOf plain
