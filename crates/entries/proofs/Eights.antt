@@ -1,19 +1,19 @@
 -- Entries compared eight bytes at a time: they are the same exactly when their four numbers are.
 use Prim.Native.Nat.{ℕ, _+_, _-_, _*_, _≤_, _<_}
-use mathlib.Core.Path.{_≡_, refl, sym, ap, ap₂, _∙_}
+use mathlib.Core.Path.{_≡_, refl, sym, ap, _∙_}
 use mathlib.Core.Bool.{Bool, true, false, _&&_}
 use mathlib.Core.Logic.{⊎-elim}
 use mathlib.Core.List.{List}
 use native.Mathlib.Omega.{arith}
 use lib.Dec.{eqb}
-use lib.ListN.{getD}
+use lib.ListN.{length, getD, List·getD-eq-default}
 use borrow.Author.Tests.{eq-eqb, eqb-true}
 use Rattle.basics.specs.Numbers.{u32At, u64At}
 use Rattle.basics.proofs.Numbers.{same-four}
 use Rattle.basics.proofs.Order.{lt-or-ge}
 use Rattle.basics.proofs.Truth.{false-of, both-true, clash}
 use Rattle.entries.specs.Entry.{count, entryAt, sameEntry}
-use Rattle.entries.proofs.Entries.{entry-byte, entry-length, entry-eight, same-of, same-equal, same-eight}
+use Rattle.entries.proofs.Entries.{entry-byte, entry-length, entry-eight, same-of, same-eight}
 
 -- two lists of 32 bytes whose four numbers of eight bytes are equal
 module _ (a b : List ℕ) (sa : (j : ℕ) → j < 32 → getD a j 0 < 256) (sb : (j : ℕ) → j < 32 → getD b j 0 < 256) where
@@ -49,43 +49,6 @@ module _ (a b : List ℕ) (sa : (j : ℕ) → j < 32 → getD a j 0 < 256) (sb :
       high : (j : ℕ) → 16 ≤ j → j < 32 → getD a j 0 ≡ getD b j 0
       high j g l = ⊎-elim (λ (u : j < 24). at 16 j (omega arith) g u e2) (λ (u : 24 ≤ j). at 24 j (omega arith) u l e3) (lt-or-ge j 24)
 
--- entries by their numbers
-module _ (list : List ℕ) (i k : ℕ) (hi : i < count list) (hk : k < count list) (small : (j : ℕ) → getD list j 0 < 256) where
-  small-entry : (i : ℕ) → i < count list → (j : ℕ) → j < 32 → getD (entryAt list i) j 0 < 256
-  small-entry i h j l = omega (arith, entry-byte list i h j l, small (i * 32 + j))
-
-  pub same-numbers : (t0 t1 t2 t3 : Bool) → t0 ≡ eqb (u64At list (i * 32)) (u64At list (k * 32)) → t1 ≡ eqb (u64At list (i * 32 + 8)) (u64At list (k * 32 + 8))
-      → t2 ≡ eqb (u64At list (i * 32 + 16)) (u64At list (k * 32 + 16)) → t3 ≡ eqb (u64At list (i * 32 + 24)) (u64At list (k * 32 + 24))
-      → t0 && t1 && t2 && t3 ≡ sameEntry (entryAt list i) (entryAt list k)
-  same-numbers t0 t1 t2 t3 e0 e1 e2 e3 =
-      rw
-      (e0 ∙ at 0 (i * 32) (k * 32) (omega arith) (omega arith) (omega arith), e1 ∙ at 8 (i * 32 + 8) (k * 32 + 8) (omega arith) refl refl, e2 ∙ at 16 (i * 32 + 16) (k * 32 + 16) (omega arith) refl refl, e3 ∙ at 24 (i * 32 + 24) (k * 32 + 24) (omega arith) refl refl)
-      (go (sameEntry a b) refl)
-    where
-      a : List ℕ
-      a = entryAt list i
-
-      b : List ℕ
-      b = entryAt list k
-
-      at : (p q r : ℕ) → p + 8 ≤ 32 → i * 32 + p ≡ q → k * 32 + p ≡ r → eqb (u64At list q) (u64At list r) ≡ eqb (u64At a p) (u64At b p)
-      at p q r l eq er = sym (ap₂ eqb (entry-eight list i hi p q l eq) (entry-eight list k hk p r l er))
-
-      go : (t : Bool) → sameEntry a b ≡ t → eqb (u64At a 0) (u64At b 0) && eqb (u64At a 8) (u64At b 8) && eqb (u64At a 16) (u64At b 16) && eqb (u64At a 24) (u64At b 24) ≡ sameEntry a b
-      go true e =
-          let q = same-equal a b (entry-length list i hi) (entry-length list k hk) e in
-          let x : (p : ℕ) → eqb (u64At a p) (u64At b p) ≡ true = λ p. eq-eqb (u64At a p) (u64At b p) (ap (λ (s : List ℕ). u64At s p) q) in
-          rw (x 0, x 8, x 16, x 24) (sym e)
-      go false e =
-          false-of _ (λ z. clash (all-true z) e) ∙ sym e
-        where
-          all-true : eqb (u64At a 0) (u64At b 0) && eqb (u64At a 8) (u64At b 8) && eqb (u64At a 16) (u64At b 16) && eqb (u64At a 24) (u64At b 24) ≡ true → sameEntry a b ≡ true
-          all-true z =
-              let y3 = both-true _ _ z in
-              let y2 = both-true _ _ (y3 .0) in
-              let y1 = both-true _ _ (y2 .0) in
-              eights-same a b (small-entry i hi) (small-entry k hk) (eqb-true _ _ (y1 .0)) (eqb-true _ _ (y1 .1)) (eqb-true _ _ (y2 .1)) (eqb-true _ _ (y3 .1))
-
 -- an entry and a name by their numbers
 module _ (list name : List ℕ) (i : ℕ) (hi : i < count list) (small : (j : ℕ) → getD list j 0 < 256) (small-name : (j : ℕ) → getD name j 0 < 256) where
   abbrev entry : List ℕ
@@ -119,3 +82,23 @@ module _ (list name : List ℕ) (i : ℕ) (hi : i < count list) (small : (j : �
           let x : (p : ℕ) → p + 8 ≤ 32 → eqb (u64At entry p) (u64At name p) ≡ true = λ p l. eq-eqb (u64At entry p) (u64At name p) (same-eight entry name p e l) in
           rw (x 0 (omega arith), x 8 (omega arith), x 16 (omega arith), x 24 (omega arith)) (sym e)
       go false e = false-of _ (λ z. clash (all-true z) e) ∙ sym e
+
+-- two entries by their numbers: the second is a name of 32 bytes
+module _ (list : List ℕ) (i k : ℕ) (hi : i < count list) (hk : k < count list) (small : (j : ℕ) → getD list j 0 < 256) where
+  small-other : (j : ℕ) → getD (entryAt list k) j 0 < 256
+  small-other j =
+      ⊎-elim
+      (λ (l : j < 32). omega (arith, entry-byte list k hk j l, small (k * 32 + j)))
+      (λ (l : 32 ≤ j). let over : length (entryAt list k) ≤ j = omega (arith, entry-length list k hk) in rw (List·getD-eq-default (entryAt list k) 0 over) (omega arith))
+      (lt-or-ge j 32)
+
+  pub same-numbers : (t0 t1 t2 t3 : Bool) → t0 ≡ eqb (u64At list (i * 32)) (u64At list (k * 32)) → t1 ≡ eqb (u64At list (i * 32 + 8)) (u64At list (k * 32 + 8))
+      → t2 ≡ eqb (u64At list (i * 32 + 16)) (u64At list (k * 32 + 16)) → t3 ≡ eqb (u64At list (i * 32 + 24)) (u64At list (k * 32 + 24))
+      → t0 && t1 && t2 && t3 ≡ sameEntry (entryAt list i) (entryAt list k)
+  same-numbers t0 t1 t2 t3 e0 e1 e2 e3 =
+      name-numbers list (entryAt list k) i hi small small-other t0 t1 t2 t3
+      (e0 ∙ at 0 (i * 32) (k * 32) (omega arith) (omega arith)) (e1 ∙ at 8 (i * 32 + 8) (k * 32 + 8) (omega arith) refl)
+      (e2 ∙ at 16 (i * 32 + 16) (k * 32 + 16) (omega arith) refl) (e3 ∙ at 24 (i * 32 + 24) (k * 32 + 24) (omega arith) refl)
+    where
+      at : (p q r : ℕ) → p + 8 ≤ 32 → k * 32 + p ≡ r → eqb (u64At list q) (u64At list r) ≡ eqb (u64At list q) (u64At (entryAt list k) p)
+      at p q r l er = ap (eqb (u64At list q)) (sym (entry-eight list k hk p r l er))
