@@ -19,20 +19,22 @@ pub enum Action {
 pub struct Command {
     pub set: Set,
     pub action: Action,
+    /// Whether it may ask for all ports at once (request C-11).
+    pub dumps: bool,
 }
 
 impl Command {
     /// The command with this number, if it is listed.
     #[inline]
     pub const fn from_number(number: u8) -> Option<Self> {
-        let (set, action) = match number {
-            7 => (Set::Debug, Action::Get),
-            8 => (Set::Debug, Action::Set),
-            13 => (Set::Flags, Action::Get),
-            14 => (Set::Flags, Action::Set),
+        let (set, action, dumps) = match number {
+            7 => (Set::Debug, Action::Get, true),
+            8 => (Set::Debug, Action::Set, false),
+            13 => (Set::Flags, Action::Get, true),
+            14 => (Set::Flags, Action::Set, false),
             _ => return None,
         };
-        Some(Command { set, action })
+        Some(Command { set, action, dumps })
     }
 }
 

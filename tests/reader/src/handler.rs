@@ -1,8 +1,8 @@
-//! The handler (document 01, "What a call says back"): one message of a datagram, answered.
+//! The handler (document 01, "What a call says back"; request C-11): one message of a datagram, answered.
 
 use super::attribute::{self, Attribute, Payload, Policy, Span};
 use super::bitset::{self, Change};
-use super::command::{Action, Command};
+use super::command::{Action, Command, Set};
 use super::fault::Fault;
 use super::framing::{self, Frame};
 use super::page::{Page, ANSWER_PAGE};
@@ -24,30 +24,36 @@ const BITSET: u16 = 2;
 const GET_POLICY: Policy<1> = [Payload::Nest];
 const SET_POLICY: Policy<2> = [Payload::Nest, Payload::Nest];
 
-/// What a call returns: kind, refusal number (0 if none), next position, bytes written.
+/// What a call returns: kind, refusal number (0 if none), next position, next place in a dump, bytes written.
 #[derive(Clone, Copy, Debug, PartialEq, Eq)]
 pub struct Answer {
     pub kind: u32,
     pub refusal: u32,
     pub next: u64,
+    pub next_place: u64,
     pub written: u64,
 }
 
 impl Answer {
     /// End, skipped, and the refusals 1 to 4: nothing is written.
     const fn silent(kind: u32, refusal: u32, next: u64) -> Self {
-        Answer { kind, refusal, next, written: 0 }
+        Answer { kind, refusal, next, next_place: 0, written: 0 }
     }
 }
 
-/// One request: its bytes from the message header to the stated end.
+/// One request: its bytes from the message header to the stated end, where it begins and where the next one does.
 #[derive(Clone, Copy)]
 struct Request<'a> {
     bytes: &'a [u8],
     header: MessageHeader,
+    position: u64,
+    past: u64,
+    /// Which message of a dump is asked for.
+    place: u64,
 }
 
-/// Answers the message at a position of the datagram; settings are the little-endian bytes of their words.
+/// Answers the message at a position of the datagram, a dump by the message at a place; settings are the little-endian
+/// bytes of their words.
 #[allow(clippy::too_many_arguments)]
 pub fn handle(
     family: u32,
@@ -58,6 +64,7 @@ pub fn handle(
     settings: &mut [u8],
     datagram: &[u8],
     position: u64,
+    place: u64,
     page: &mut [u8],
 ) -> Answer {
     let mut tables = Tables::new();
@@ -65,6 +72,9 @@ pub fn handle(
     let Some(state) = SwitchBox::check(lent, settings, &mut tables) else {
         return Answer::silent(REFUSED, 1, position);
     };
+    if !state.has_place(place) {
+        return Answer::silent(REFUSED, 1, position);
+    }
     if page.len() < ANSWER_PAGE {
         return Answer::silent(REFUSED, 2, position);
     }
@@ -72,7 +82,10 @@ pub fn handle(
         Frame::End => Answer::silent(END, 0, position),
         Frame::Refused(number) => Answer::silent(REFUSED, number, position),
         Frame::Message { header, next, .. } if is_skipped(&header) => Answer::silent(SKIPPED, 0, next),
-        Frame::Message { bytes, header, next } => answer(&state, Request { bytes, header }, next, settings, page),
+        Frame::Message { bytes, header, next } => {
+            let request = Request { bytes, header, position, past: next, place };
+            answer(&state, request, settings, page)
+        }
     }
 }
 
@@ -83,42 +96,62 @@ fn is_skipped(header: &MessageHeader) -> bool {
 }
 
 /// Serves a request, or writes the error message of its first fault.
-fn answer(state: &SwitchBox, request: Request, next: u64, settings: &mut [u8], page: &mut [u8]) -> Answer {
+fn answer(state: &SwitchBox, request: Request, settings: &mut [u8], page: &mut [u8]) -> Answer {
     let mut page = Page::new(page);
-    let (kind, refusal) = match serve(state, request, settings, &mut page) {
-        Ok(()) => (DONE, 0),
+    let (kind, refusal, next_place) = match serve(state, request, settings, &mut page) {
+        Ok(next_place) => (DONE, 0, next_place),
         Err(fault) => {
             reply::error(&mut page, request.bytes, &request.header, fault);
-            (REFUSED, fault.number)
+            (REFUSED, fault.number, 0)
         }
     };
-    Answer { kind, refusal, next, written: page.written() as u64 }
+    // A dump that goes on is answered at the same position.
+    let next = if next_place == 0 { request.past } else { request.position };
+    Answer { kind, refusal, next, next_place, written: page.written() as u64 }
 }
 
-/// Judges a request whole, then carries it out and writes its reply and ACK.
-fn serve(state: &SwitchBox, request: Request, settings: &mut [u8], page: &mut Page) -> Result<(), Fault> {
+/// Judges a request whole, then carries it out and writes its reply and ACK; gives the next place.
+fn serve(state: &SwitchBox, request: Request, settings: &mut [u8], page: &mut Page) -> Result<u64, Fault> {
     let command = judge_headers(state, request)?;
     let (header, bitset) = top_level(request.bytes, command.action)?;
+    if request.header.is_dump() {
+        let compact = port_header::judge_dump(request.bytes, header)?;
+        return Ok(dump(state, request, command.set, compact, settings, page));
+    }
     let named = port_header::judge(request.bytes, header, &state.roll)?;
-    let names = state.names(command.set);
-    let place = state.place(named.port, command.set);
-    let words = &mut settings[place..place + 4 * names.words()];
     match bitset {
         Some(bitset) => {
+            let words = &mut settings[state.range(named.port, command.set)];
             let mut change = Change::none();
-            bitset::judge(request.bytes, bitset.at, bitset.span(), names, &mut change)?;
+            bitset::judge(request.bytes, bitset.at, bitset.span(), state.names(command.set), &mut change)?;
             apply(&change, words);
         }
         None => {
-            let port = state.roll.port(named.port);
-            let stored = Stored { family: state.family, set: command.set, port, names, words };
-            reply::reply(page, &request.header, &stored, named.compact);
+            let stored = stored(state, named.port, command.set, settings);
+            reply::reply(page, &request.header, 0, &stored, named.compact);
         }
     }
     if request.header.flags & wire::ACK != 0 {
         reply::ack(page, request.bytes, &request.header);
     }
-    Ok(())
+    Ok(0)
+}
+
+/// Writes the message of a dump at its place: a port's reply, or DONE behind the last; gives the next place.
+fn dump(state: &SwitchBox, request: Request, set: Set, compact: bool, settings: &[u8], page: &mut Page) -> u64 {
+    let port = request.place as usize;
+    if port == state.roll.count() {
+        reply::done(page, &request.header);
+        return 0;
+    }
+    reply::reply(page, &request.header, wire::MULTI, &stored(state, port, set, settings), compact);
+    request.place + 1
+}
+
+/// A port's set with all that its reply says about it.
+fn stored<'a>(state: &'a SwitchBox, port: usize, set: Set, settings: &'a [u8]) -> Stored<'a> {
+    let words = &settings[state.range(port, set)];
+    Stored { family: state.family, set, port: state.roll.port(port), names: state.names(set), words }
 }
 
 /// Numbers 5 to 9.
@@ -128,7 +161,7 @@ fn judge_headers(state: &SwitchBox, request: Request) -> Result<Command, Fault> 
     }
     let generic = GenericHeader::read(&request.bytes[MessageHeader::SIZE..]).ok_or(Fault::plain(6))?;
     let command = Command::from_number(generic.command).ok_or(Fault::plain(7))?;
-    if request.header.flags & wire::DUMP == wire::DUMP {
+    if request.header.is_dump() && !command.dumps {
         return Err(Fault::plain(8));
     }
     if command.action == Action::Set && !state.admin {

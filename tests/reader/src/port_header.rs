@@ -1,4 +1,4 @@
-//! The header of a request (document 01, "What a call says back"): 14 to 17.
+//! The header of a request (document 01, "What a call says back"): 14 to 17, and 8 of a dump (request C-11).
 
 use super::attribute::{self, Attribute, Payload, Policy};
 use super::fault::Fault;
@@ -24,21 +24,30 @@ pub fn judge(message: &[u8], header: Attribute, roll: &Roll) -> Result<Named, Fa
     if index.is_none() && name.is_none() {
         return Err(Fault::at(14, header.at));
     }
-    let flags = judge_flags(message, flags)?;
+    let compact = judge_flags(message, flags)?;
     let port = find_port(message, header, index, name, roll)?;
-    Ok(Named { port, compact: flags & COMPACT != 0 })
+    Ok(Named { port, compact })
 }
 
-/// Number 15: a flag other than the two known ones.
-fn judge_flags(message: &[u8], flags: Option<Attribute>) -> Result<u32, Fault> {
+/// Walks the header of a dump whole, then judges 8, since it may name no port, and 15; tells whether replies are compact.
+pub fn judge_dump(message: &[u8], header: Attribute) -> Result<bool, Fault> {
+    let [index, name, flags] = attribute::walk(message, header.span(), &POLICY)?;
+    if index.is_some() || name.is_some() {
+        return Err(Fault::plain(8));
+    }
+    judge_flags(message, flags)
+}
+
+/// Number 15: a flag other than the two known ones. Tells whether a compact reply is asked for.
+fn judge_flags(message: &[u8], flags: Option<Attribute>) -> Result<bool, Fault> {
     let Some(attribute) = flags else {
-        return Ok(0);
+        return Ok(false);
     };
     let flags = attribute.number(message);
     if flags & !(COMPACT | OMIT_REPLY) != 0 {
         return Err(Fault::at(15, attribute.at));
     }
-    Ok(flags)
+    Ok(flags & COMPACT != 0)
 }
 
 /// Numbers 16 and 17: the port by index if given, else by name; a name beside the index is its own.

@@ -24,7 +24,8 @@ impl Fixed {
     }
 }
 
-/// All answers to a datagram in order, up to the end or a refusal 1 to 4, each with its bytes. The program's sender is admin.
+/// All answers to a datagram in order, up to the end or a refusal 1 to 4, each with its bytes; a dump has one for each of
+/// its messages. The program's sender is admin.
 pub fn answers(datagram: &[u8]) -> Vec<(Answer, Vec<u8>)> {
     answers_to(1, datagram)
 }
@@ -34,15 +35,15 @@ pub fn answers_to(admin: u32, datagram: &[u8]) -> Vec<(Answer, Vec<u8>)> {
     let mut fixed = Fixed::new();
     let mut page = vec![0; ANSWER_PAGE];
     let mut answers = Vec::new();
-    let mut position = 0;
+    let (mut position, mut place) = (0, 0);
     loop {
         let (roll, debug, flags) = (&fixed.roll, &fixed.debug_names, &fixed.flag_names);
-        let answer = handle(25, admin, roll, debug, flags, &mut fixed.settings, datagram, position, &mut page);
+        let answer = handle(25, admin, roll, debug, flags, &mut fixed.settings, datagram, position, place, &mut page);
         if answer.kind == END || (1..=4).contains(&answer.refusal) {
             return answers;
         }
         answers.push((answer, page[..answer.written as usize].to_vec()));
-        position = answer.next;
+        (position, place) = (answer.next, answer.next_place);
     }
 }
 

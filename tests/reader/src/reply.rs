@@ -1,4 +1,4 @@
-//! The messages that go out (document 01, "What a call says back" and "Replies").
+//! The messages that go out (document 01, "What a call says back" and "Replies"; request C-11).
 
 use super::bitset;
 use super::command::Set;
@@ -7,7 +7,7 @@ use super::name_list::NameList;
 use super::page::Page;
 use super::roll::Port;
 use super::text;
-use super::wire::{u32_at, MessageHeader, ACK_TLVS, CAPPED, ERROR};
+use super::wire::{u32_at, MessageHeader, ACK_TLVS, CAPPED, DONE, ERROR, MULTI};
 
 /// Attribute types of an error message.
 const OFFS: u16 = 2;
@@ -55,6 +55,13 @@ pub fn ack(page: &mut Page, request: &[u8], header: &MessageHeader) {
     page.close_message(message);
 }
 
+/// DONE, behind the replies of a dump: a 32-bit 0 after the header.
+pub fn done(page: &mut Page, header: &MessageHeader) {
+    let message = page.open_message(DONE, MULTI, header.sequence, header.port_id);
+    page.put_u32(0);
+    page.close_message(message);
+}
+
 /// A set as it is stored, with all that its reply says about it.
 pub struct Stored<'a> {
     pub family: u16,
@@ -65,9 +72,9 @@ pub struct Stored<'a> {
     pub words: &'a [u8],
 }
 
-/// Reply of a GET: the port, then its set under NOMASK.
-pub fn reply(page: &mut Page, header: &MessageHeader, stored: &Stored, compact: bool) {
-    let message = page.open_message(stored.family, 0, header.sequence, header.port_id);
+/// Reply of a GET, with these message flags: the port, then its set under NOMASK.
+pub fn reply(page: &mut Page, header: &MessageHeader, flags: u16, stored: &Stored, compact: bool) {
+    let message = page.open_message(stored.family, flags, header.sequence, header.port_id);
     page.put(&[stored.set.reply_command(), 1, 0, 0]);
     port(page, &stored.port);
     let nest = page.open_nest(BITSET);

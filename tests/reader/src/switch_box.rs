@@ -4,6 +4,7 @@ use super::command::Set;
 use super::name_list::{NameList, NameSlots};
 use super::roll::{Roll, RollSlots};
 use super::wire::u32_at;
+use std::ops::Range;
 
 /// A box as the caller hands it over, nothing checked.
 #[derive(Clone, Copy)]
@@ -53,6 +54,12 @@ impl<'a> SwitchBox<'a> {
         checked.settings_fit(settings).then_some(checked)
     }
 
+    /// Whether a dump has this place: one for each port, then one for DONE (request C-11).
+    #[inline]
+    pub fn has_place(&self, place: u64) -> bool {
+        place <= self.roll.count() as u64
+    }
+
     /// Whether the settings are exactly the words of all ports, with no bit at or past N.
     fn settings_fit(&self, settings: &[u8]) -> bool {
         let ports = self.roll.count();
@@ -66,7 +73,7 @@ impl<'a> SwitchBox<'a> {
     #[inline]
     fn set_fits(&self, settings: &[u8], port: usize, set: Set) -> bool {
         let names = self.names(set);
-        let last = u32_at(settings, self.place(port, set) + 4 * (names.words() - 1));
+        let last = u32_at(settings, self.start(port, set) + 4 * (names.words() - 1));
         let used = names.bits() % 32;
         used == 0 || last >> used == 0
     }
@@ -82,11 +89,18 @@ impl<'a> SwitchBox<'a> {
 
     /// Where a port's set begins in the settings, in bytes: for each port its debug set, then its flags.
     #[inline]
-    pub fn place(&self, port: usize, set: Set) -> usize {
+    fn start(&self, port: usize, set: Set) -> usize {
         let before = port * (self.debug.words() + self.flags.words());
         match set {
             Set::Debug => 4 * before,
             Set::Flags => 4 * (before + self.debug.words()),
         }
+    }
+
+    /// Where a port's set stands in the settings.
+    #[inline]
+    pub fn range(&self, port: usize, set: Set) -> Range<usize> {
+        let start = self.start(port, set);
+        start..start + 4 * self.names(set).words()
     }
 }

@@ -2,6 +2,8 @@
 
 /// Message flag: the message asks for something.
 pub const REQUEST: u16 = 1;
+/// Message flag: one of several messages that answer a dump.
+pub const MULTI: u16 = 2;
 /// Message flag: the sender wants an ACK.
 pub const ACK: u16 = 4;
 /// Message flags: a dump, both bits.
@@ -12,6 +14,8 @@ pub const CAPPED: u16 = 0x100;
 pub const ACK_TLVS: u16 = 0x200;
 /// Message type of errors and ACKs.
 pub const ERROR: u16 = 2;
+/// Message type behind the last message of a dump.
+pub const DONE: u16 = 3;
 /// Message types below this one belong to netlink itself.
 pub const FIRST_FAMILY: u16 = 16;
 /// Attribute type bit: the payload is made of attributes.
@@ -62,6 +66,12 @@ impl MessageHeader {
             sequence: u32_at(head, 8),
             port_id: u32_at(head, 12),
         })
+    }
+
+    /// Whether both DUMP bits stand; one alone means nothing.
+    #[inline]
+    pub const fn is_dump(&self) -> bool {
+        self.flags & DUMP == DUMP
     }
 }
 

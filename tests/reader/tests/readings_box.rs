@@ -142,12 +142,15 @@ fn box_goes_before_page_and_page_before_datagram() {
 #[test]
 fn end_goes_after_a_position_past_the_end_and_before_bytes_left() {
     let mut setup = Setup::document();
-    assert_eq!(setup.call_at(&[], 0), reader::Answer { kind: 0, refusal: 0, next: 0, written: 0 });
+    assert_eq!(setup.call_at(&[], 0), reader::Answer { kind: 0, refusal: 0, next: 0, next_place: 0, written: 0 });
     assert_eq!(setup.silent(&[], 1), 3);
     assert_eq!(setup.silent(&[0; 20], 21), 3);
     assert_eq!(setup.silent(&[0; 20], u64::MAX), 3);
     assert_eq!(setup.silent(&[0; 20], 1 << 32), 3);
-    assert_eq!(setup.call_at(&[0; 20], 20), reader::Answer { kind: 0, refusal: 0, next: 20, written: 0 });
+    assert_eq!(
+        setup.call_at(&[0; 20], 20),
+        reader::Answer { kind: 0, refusal: 0, next: 20, next_place: 0, written: 0 }
+    );
     assert_eq!(setup.silent(&[0; 20], 5), 3);
     assert_eq!(setup.silent(&[0; 20], 4), 4);
     assert_eq!(setup.call_at(&vec![0; 32_768], 32_768).kind, reader::END);
@@ -168,7 +171,7 @@ fn skipping_goes_after_4_and_before_5_and_6() {
     let mut setup = Setup::document();
     for (kind, flags) in [(15, REQUEST), (0, REQUEST), (25, 0), (26, 0xFFFE)] {
         let answer = setup.call(&message_of(kind, flags, &[7]));
-        assert_eq!(answer, reader::Answer { kind: reader::SKIPPED, refusal: 0, next: 17, written: 0 });
+        assert_eq!(answer, reader::Answer { kind: reader::SKIPPED, refusal: 0, next: 17, next_place: 0, written: 0 });
         let mut cut = message_of(kind, flags, &[]);
         cut[0] = 15;
         assert_eq!(setup.call(&cut).refusal, 4);

@@ -100,11 +100,11 @@ fn empty_nests_are_legal() {
 }
 
 #[test]
-fn both_dump_bits_refuse_before_admin_and_one_alone_is_ignored() {
+fn both_dump_bits_refuse_a_set_before_admin_and_one_alone_is_ignored() {
     let mut setup = Setup::document();
     setup.admin = 0;
     assert_eq!(setup.call(&message(DEBUG_SET, REQUEST | 0x300, &[])).refusal, 8);
-    assert_eq!(setup.call(&message(DEBUG_GET, REQUEST | 0x300, &[])).refusal, 8);
+    assert_eq!(setup.call(&message(PRIVFLAGS_SET, REQUEST | 0x300, &[])).refusal, 8);
     assert_eq!(setup.call(&message(9, REQUEST | 0x300, &[])).refusal, 7);
     assert_eq!(setup.call(&message(DEBUG_SET, REQUEST | 0x100, &[])).refusal, 9);
     assert_eq!(setup.call(&message(DEBUG_GET, REQUEST | 0x200, &[by_index(3)])).refusal, 0);

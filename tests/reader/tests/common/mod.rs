@@ -136,8 +136,12 @@ impl Setup {
     }
 
     pub fn call_at(&mut self, datagram: &[u8], position: u64) -> Answer {
+        self.call_at_place(datagram, position, 0)
+    }
+
+    pub fn call_at_place(&mut self, datagram: &[u8], position: u64, place: u64) -> Answer {
         let Setup { family, admin, roll, debug_names, flag_names, settings, page } = self;
-        reader::handle(*family, *admin, roll, debug_names, flag_names, settings, datagram, position, page)
+        reader::handle(*family, *admin, roll, debug_names, flag_names, settings, datagram, position, place, page)
     }
 
     pub fn call(&mut self, datagram: &[u8]) -> Answer {
