@@ -23,11 +23,13 @@ pub unsafe extern "C" fn ethnl_handle(
     datagram: *const u8,
     datagram_len: usize,
     position: u64,
+    place: u64,
     page: *mut u8,
     page_len: usize,
     kind: *mut u32,
     refusal: *mut u32,
     next: *mut u64,
+    next_place: *mut u64,
     written: *mut u64,
 ) {
     let answer = reader::handle(
@@ -39,11 +41,13 @@ pub unsafe extern "C" fn ethnl_handle(
         from_raw_parts_mut(settings, settings_len),
         from_raw_parts(datagram, datagram_len),
         position,
+        place,
         from_raw_parts_mut(page, page_len),
     );
     *kind = answer.kind;
     *refusal = answer.refusal;
     *next = answer.next;
+    *next_place = answer.next_place;
     *written = answer.written;
 }
 
