@@ -32,8 +32,10 @@ fn any_bytes_in_any_place() {
         assert!(offset <= lengths[part as usize] as u64);
         let datagram = some_bytes(state, 200);
         let position = [0, 0, next(state) as u64 % 250, u64::MAX, 1 << 32][next(state) % 5];
-        let answer = setup.call_at(&datagram, position);
+        let place = [0, 0, 1, 2, 1 << 32, u64::MAX][next(state) % 6];
+        let answer = setup.call_at_place(&datagram, position, place);
         assert!(answer.kind <= 3 && answer.refusal <= 23 && answer.written <= setup.page.len() as u64);
+        assert!(answer.next_place <= 1 && (place <= 1 || answer.refusal == 1));
         reader::normalise(&datagram, &setup.flag_names, &mut setup.page);
         reader::run(&datagram);
     }
@@ -50,6 +52,22 @@ fn any_bytes_after_right_headers() {
         let answer = Setup::document().call(&request);
         assert!(matches!(answer.refusal, 0 | 10..=13 | 18..=23));
         assert_eq!(answer.next, request.len() as u64);
+    }
+}
+
+#[test]
+fn any_bytes_in_the_header_of_a_dump() {
+    let state = &mut 7;
+    for _ in 0..50_000 {
+        let mut inside = some_bytes(state, 16);
+        inside.iter_mut().for_each(|byte| *byte %= [9, 255][next(state) % 2]);
+        let request =
+            message([DEBUG_GET, PRIVFLAGS_GET][next(state) % 2], REQUEST | 0x300, &[attribute(0x8001, &inside)]);
+        let place = next(state) as u64 % 2;
+        let answer = Setup::document().call_at_place(&request, 0, place);
+        assert!(matches!(answer.refusal, 0 | 8 | 10..=12 | 15));
+        let goes_on = answer.refusal == 0 && place == 0;
+        assert_eq!((answer.next, answer.next_place), if goes_on { (0, 1) } else { (request.len() as u64, 0) });
     }
 }
 
