@@ -70,6 +70,19 @@ impl Model {
         Self::of(rng, family, count)
     }
 
+    /// A box for a dump: mostly of few ports, and the largest roll more often than elsewhere.
+    pub fn of_dump(rng: &mut Rng) -> Self {
+        let family = rng.pick(&[16, 25, 25, 300, 65_535]);
+        let count = match rng.below(100) {
+            0..8 => 64,
+            8 => rng.within(9, 63),
+            9..20 => rng.within(3, 8),
+            20..60 => 2,
+            _ => 1,
+        };
+        Self::of(rng, family, count)
+    }
+
     /// A box whose faults can stand at more than one port.
     pub fn of_more_ports(rng: &mut Rng) -> Self {
         let family = rng.pick(&[16, 17, 25, 256, 65_534, 65_535]);

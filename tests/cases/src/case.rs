@@ -14,6 +14,8 @@ pub struct HandleCase {
     pub settings: Vec<u8>,
     pub datagram: Vec<u8>,
     pub position: u64,
+    /// Which message of a dump is asked for.
+    pub place: u64,
     /// The page as it is before the call.
     pub page: Vec<u8>,
 }
@@ -85,7 +87,7 @@ impl Display for HandleCase {
     fn fmt(&self, out: &mut Formatter) -> Result {
         write!(out, "handle\n{}", GivenBox::from(self))?;
         writeln!(out, "datagram {}", hex(&self.datagram))?;
-        writeln!(out, "position {}", self.position)?;
+        writeln!(out, "position {}\nplace {}", self.position, self.place)?;
         writeln!(out, "page {} bytes, {}", self.page.len(), hex(&self.page))
     }
 }

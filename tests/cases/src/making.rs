@@ -6,7 +6,7 @@ use super::datagrams;
 use super::requests::Request;
 use super::rng::Rng;
 use super::tree::write_all;
-use super::{bad_box, bad_message, bad_parts, bad_tree, bad_words, bitsets};
+use super::{bad_box, bad_message, bad_parts, bad_tree, bad_words, bitsets, places};
 
 /// Shortest answer page of the handler.
 const ANSWER_PAGE: usize = 32_768;
@@ -52,10 +52,22 @@ const PARTS: [(usize, Part); 7] = [
     (10, Part::Datagram),
 ];
 
+/// A box, a request for it and a place.
+fn asked(rng: &mut Rng) -> (Model, Request, u64) {
+    if rng.per_mille(120) {
+        let model = Model::of_dump(rng);
+        let (request, place) = (Request::dump(rng, &model), places::of_dump(rng, model.ports.len()));
+        (model, request, place)
+    } else {
+        let model = Model::new(rng);
+        let (request, place) = (Request::new(rng, &model), places::of_other(rng, model.ports.len()));
+        (model, request, place)
+    }
+}
+
 fn handle(rng: &mut Rng) -> HandleCase {
-    let model = Model::new(rng);
+    let (model, mut request, place) = asked(rng);
     let mut given = model.lend(rng);
-    let mut request = Request::new(rng, &model);
     let parts: Vec<Part> = (0..damages(rng)).map(|_| rng.weighted(&PARTS)).collect();
     let (mut page, mut late) = (long_page(rng), 0);
     for part in parts {
@@ -73,10 +85,10 @@ fn handle(rng: &mut Rng) -> HandleCase {
     for _ in 0..late {
         datagrams::damage(rng, &mut datagram);
     }
-    call(given, datagram, contents_of_page(rng, page))
+    call(given, datagram, place, contents_of_page(rng, page))
 }
 
-fn call(given: BoxBytes, datagram: datagrams::Datagram, page: Vec<u8>) -> HandleCase {
+fn call(given: BoxBytes, datagram: datagrams::Datagram, place: u64, page: Vec<u8>) -> HandleCase {
     let [debug_names, flag_names] = given.lists;
     HandleCase {
         family: given.family,
@@ -87,6 +99,7 @@ fn call(given: BoxBytes, datagram: datagrams::Datagram, page: Vec<u8>) -> Handle
         settings: given.settings,
         datagram: datagram.bytes,
         position: datagram.position,
+        place,
         page,
     }
 }

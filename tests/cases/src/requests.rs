@@ -1,4 +1,4 @@
-//! Valid requests of the four commands (document 01, "What the box reads and writes").
+//! Requests of the four commands (document 01, "What the box reads and writes"), and dumps (request C-11).
 
 use super::bitsets;
 use super::boxes::Model;
@@ -36,9 +36,24 @@ pub fn list_of(command: u8) -> usize {
 }
 
 impl Request {
+    /// A valid request of one port.
     pub fn new(rng: &mut Rng, model: &Model) -> Self {
         let command = rng.pick(&[7, 8, 8, 8, 13, 14, 14, 14]);
-        let mut attributes = vec![header(rng, model)];
+        let flags = rng.pick(&[REQUEST, REQUEST | ACK, REQUEST | ACK, REQUEST | 0x100, REQUEST | 0x200 | ACK, 0xFCFF]);
+        let header = header(rng, model);
+        Self::of(rng, model, command, flags, header)
+    }
+
+    /// A dump: now and then of a SET or of one port, which is refused.
+    pub fn dump(rng: &mut Rng, model: &Model) -> Self {
+        let command = rng.weighted(&[(45, 7), (45, 13), (5, 8), (5, 14)]);
+        let flags = REQUEST | DUMP | rng.pick(&[0, 0, ACK, ACK, ACK | 8, 0xFCFE]);
+        let header = if rng.per_mille(120) { header(rng, model) } else { header_of_all(rng) };
+        Self::of(rng, model, command, flags, header)
+    }
+
+    fn of(rng: &mut Rng, model: &Model, command: u8, flags: u16, header: Attribute) -> Self {
+        let mut attributes = vec![header];
         if matches!(command, 8 | 14) {
             let contents = bitsets::contents(rng, &model.lists[list_of(command)]);
             attributes.push(Attribute::nest(BITSET, contents));
@@ -46,7 +61,6 @@ impl Request {
         if rng.per_mille(100) {
             attributes.reverse();
         }
-        let flags = rng.pick(&[REQUEST, REQUEST | ACK, REQUEST | ACK, REQUEST | 0x100, REQUEST | 0x200 | ACK, 0xFCFF]);
         Request {
             stated: None,
             kind: model.family,
@@ -99,8 +113,19 @@ fn header(rng: &mut Rng, model: &Model) -> Attribute {
         _ => vec![index, name],
     };
     if rng.per_mille(600) {
-        let flags = Attribute::number(PORT_FLAGS, rng.below(4) as u32);
+        let flags = some_flags(rng);
         parts.insert(rng.below(parts.len() + 1), flags);
     }
     Attribute::nest(HEADER, parts)
+}
+
+/// A header nest that names no port, with or without flags.
+fn header_of_all(rng: &mut Rng) -> Attribute {
+    let flags = if rng.per_mille(700) { vec![some_flags(rng)] } else { Vec::new() };
+    Attribute::nest(HEADER, flags)
+}
+
+/// Header flags that are known.
+fn some_flags(rng: &mut Rng) -> Attribute {
+    Attribute::number(PORT_FLAGS, rng.below(4) as u32)
 }

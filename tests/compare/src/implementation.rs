@@ -3,7 +3,7 @@
 use cases::{GivenBox, HandleCase, NormaliseCase};
 use reader::Answer;
 
-/// An implementation of document 01.
+/// An implementation of document 01 and its later requests.
 pub trait Implementation {
     /// Answers a call; settings and page are those of the case, to be changed in place.
     fn handle(&self, case: &HandleCase, settings: &mut [u8], page: &mut [u8]) -> Answer;
@@ -29,6 +29,7 @@ impl Implementation for Reader {
             settings,
             &case.datagram,
             case.position,
+            case.place,
             page,
         )
     }

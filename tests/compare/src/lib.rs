@@ -1,6 +1,6 @@
-//! Two implementations of document 01 over the same cases: kind, number, next position, count, every byte of the page
-//! and every byte of the settings; part and offset that the check of a box tells, and that it tells of a part exactly
-//! where the handler refuses the box.
+//! Two implementations of document 01 over the same cases: kind, number, next position, next place, count, every byte
+//! of the page and every byte of the settings; part and offset that the check of a box tells, and that the handler
+//! refuses by 1 exactly where it tells of a part or the place is above the port count.
 
 mod implementation;
 mod outcome;
@@ -37,7 +37,7 @@ pub fn compare(
     for number in 0..cases {
         let case = cases::case(seed, number);
         let (left, right) = (outcome(left, &case), outcome(right, &case));
-        if left != right || !left.agrees_on_the_box() {
+        if left != right || !left.agrees_on_the_box(&case) {
             return Some(Box::new(Difference { number, case, left, right }));
         }
         tally.count(&left);

@@ -20,11 +20,13 @@ extern "C" {
         datagram: *const u8,
         datagram_len: usize,
         position: u64,
+        place: u64,
         page: *mut u8,
         page_len: usize,
         kind: *mut u32,
         refusal: *mut u32,
         next: *mut u64,
+        next_place: *mut u64,
         written: *mut u64,
     );
 
@@ -67,7 +69,8 @@ impl Implementation for Library {
     #[cfg(feature = "library")]
     fn handle(&self, case: &HandleCase, settings: &mut [u8], page: &mut [u8]) -> Answer {
         // Results begin as values that no answer has, so that one left unwritten shows.
-        let mut answer = Answer { kind: u32::MAX, refusal: u32::MAX, next: u64::MAX - 1, written: u64::MAX };
+        let (next, next_place) = (u64::MAX - 1, u64::MAX - 1);
+        let mut answer = Answer { kind: u32::MAX, refusal: u32::MAX, next, next_place, written: u64::MAX };
         // SAFETY: each pointer comes from a live slice or place and is followed by that slice's length.
         unsafe {
             ethnl_handle(
@@ -84,11 +87,13 @@ impl Implementation for Library {
                 case.datagram.as_ptr(),
                 case.datagram.len(),
                 case.position,
+                case.place,
                 page.as_mut_ptr(),
                 page.len(),
                 &mut answer.kind,
                 &mut answer.refusal,
                 &mut answer.next,
+                &mut answer.next_place,
                 &mut answer.written,
             );
         }

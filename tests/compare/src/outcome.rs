@@ -29,14 +29,23 @@ pub enum Outcome {
 }
 
 impl Outcome {
-    /// Whether the check of a box tells of a part exactly where the handler refuses by 1.
-    pub fn agrees_on_the_box(&self) -> bool {
+    /// Whether the handler refuses by 1 exactly where the check of the box tells of a part or the place is none of the
+    /// box's.
+    pub fn agrees_on_the_box(&self, case: &Case) -> bool {
         match self {
             Outcome::Handled { answer, part, .. } | Outcome::Checked { answer, part, .. } => {
-                (answer.refusal == 1) == (*part != 0)
+                (answer.refusal == 1) == (*part != 0 || !has_place(case))
             }
             Outcome::Normalised { .. } => true,
         }
+    }
+}
+
+/// Whether the place of a call is at most the number of its ports, the roll being right.
+fn has_place(case: &Case) -> bool {
+    match case {
+        Case::Handle(HandleCase { roll, place, .. }) => *place <= roll.len() as u64 / 21,
+        Case::Normalise(_) | Case::CheckBox(_) => true,
     }
 }
 
@@ -65,9 +74,19 @@ pub fn outcome(implementation: &dyn Implementation, case: &Case) -> Outcome {
 fn answer_to_nothing(implementation: &dyn Implementation, case: &CheckBoxCase) -> Answer {
     let CheckBoxCase { family, admin, roll, debug_names, flag_names, settings } = case.clone();
     let (mut lent, mut page) = (settings.clone(), vec![0; 32_768]);
-    let (datagram, position) = (Vec::new(), 0);
-    let call =
-        HandleCase { family, admin, roll, debug_names, flag_names, settings, datagram, position, page: Vec::new() };
+    let (datagram, position, place) = (Vec::new(), 0, 0);
+    let call = HandleCase {
+        family,
+        admin,
+        roll,
+        debug_names,
+        flag_names,
+        settings,
+        datagram,
+        position,
+        place,
+        page: Vec::new(),
+    };
     implementation.handle(&call, &mut lent, &mut page)
 }
 
@@ -75,8 +94,12 @@ impl Display for Outcome {
     fn fmt(&self, out: &mut Formatter) -> Result {
         match self {
             Outcome::Handled { answer, settings, page, part } => {
-                let Answer { kind, refusal, next, written } = answer;
-                writeln!(out, "kind {kind}, refusal {refusal}, next {next}, written {written}; part at fault {part}")?;
+                let Answer { kind, refusal, next, next_place, written } = answer;
+                writeln!(
+                    out,
+                    "kind {kind}, refusal {refusal}, next {next}, next place {next_place}, written {written}"
+                )?;
+                writeln!(out, "part at fault {part}")?;
                 writeln!(out, "settings {}", hex(settings))?;
                 writeln!(out, "page {}", hex(page))
             }

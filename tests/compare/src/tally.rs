@@ -18,7 +18,14 @@ pub struct Tally {
     handled: [u64; LAST + 1],
     normalised: [u64; LAST + 1],
     checked: [u64; LAST_PART + 1],
+    /// Replies of ports in dumps, and DONE behind them.
+    dumped: [u64; 2],
 }
+
+/// The names of what is counted of dumps.
+const DUMPED: [&str; 2] = ["port's reply in a dump", "DONE of a dump"];
+/// Bytes of DONE, which no other done answer has.
+const DONE_LENGTH: u64 = 20;
 
 /// Counts one more, if the number is a known one.
 fn add(counts: &mut [u64], number: u32) {
@@ -33,6 +40,8 @@ impl Tally {
             Outcome::Handled { answer, .. } => {
                 add(&mut self.kinds, answer.kind);
                 add(&mut self.handled, answer.refusal);
+                self.dumped[0] += u64::from(answer.next_place > 0);
+                self.dumped[1] += u64::from(answer.written == DONE_LENGTH);
             }
             Outcome::Normalised { number, .. } => add(&mut self.normalised, *number),
             Outcome::Checked { part, .. } => add(&mut self.checked, *part),
@@ -40,13 +49,14 @@ impl Tally {
     }
 
     /// What was reached fewer times than it should: kinds, refusals of the handler, numbers of the normaliser and of the
-    /// check of a box.
+    /// check of a box, the two messages of dumps.
     pub fn rare(&self, least: u64) -> Vec<String> {
         let kinds = (0..4).map(|kind| (format!("kind {kind}"), self.kinds[kind]));
         let handled = (0..=LAST).map(|number| (format!("handle {number}"), self.handled[number]));
         let normalised = NORMALISER.map(|number| (format!("normalise {number}"), self.normalised[number]));
         let checked = (0..=LAST_PART).map(|part| (format!("check_box {part}"), self.checked[part]));
-        let all = kinds.chain(handled).chain(normalised).chain(checked);
+        let dumped = (0..2).map(|which| (DUMPED[which].to_string(), self.dumped[which]));
+        let all = kinds.chain(handled).chain(normalised).chain(checked).chain(dumped);
         all.filter(|(_, count)| *count < least).map(|(name, count)| format!("{name}: {count}")).collect()
     }
 }
@@ -55,6 +65,7 @@ impl Display for Tally {
     fn fmt(&self, out: &mut Formatter) -> Result {
         let [end, skipped, done, refused] = self.kinds;
         writeln!(out, "end {end}, skipped {skipped}, done {done}, refused {refused}")?;
+        writeln!(out, "{} {}, {} {}", DUMPED[0], self.dumped[0], DUMPED[1], self.dumped[1])?;
         writeln!(out, "number    handle normalise check_box")?;
         for number in 0..=LAST {
             let normalised = match NORMALISER.contains(&number) {

@@ -1,7 +1,10 @@
 //! The cases reach every way in which INDEX and NAME can stand in one BIT (request C-12), and the number told is the one
 //! that the BITs of the list ask for, judged here a third time.
 
+mod common;
 use cases::{Case, HandleCase, NormaliseCase};
+use common::{attributes, last};
+use compare::{Implementation, Reader};
 use std::collections::BTreeMap;
 
 const SEED: u64 = 1;
@@ -20,22 +23,6 @@ const WAYS: [&str; 8] = [
     AGREEING,
 ];
 const AGREEING: &str = "index and its name";
-
-/// Type, bits aside, and payload of each attribute of a parent that was walked without a fault.
-fn attributes(mut bytes: &[u8]) -> Vec<(u16, &[u8])> {
-    let mut found = Vec::new();
-    while let [low, high, kind, bits, ..] = *bytes {
-        let length = usize::from(u16::from_le_bytes([low, high]));
-        found.push((u16::from_le_bytes([kind, bits & 0x3F]), &bytes[4..length]));
-        bytes = &bytes[length.next_multiple_of(4).min(bytes.len())..];
-    }
-    found
-}
-
-/// The payload of the last attribute of a type.
-fn last<'a>(found: &[(u16, &'a [u8])], kind: u16) -> Option<&'a [u8]> {
-    found.iter().rev().find(|(other, _)| *other == kind).map(|(_, payload)| *payload)
-}
 
 /// How INDEX and NAME stand in a BIT that carries both, and the number that any BIT gets.
 fn way(bit: &[u8], names: &[u8]) -> (Option<&'static str>, u32) {
@@ -60,10 +47,8 @@ fn way(bit: &[u8], names: &[u8]) -> (Option<&'static str>, u32) {
 
 /// The contents of a SET's bitset, the names of its bits, and the number told: 0, or one that a BIT can get.
 fn handled(case: &HandleCase) -> Option<(&[u8], &[u8], u32)> {
-    let HandleCase { family, admin, roll, debug_names, flag_names, datagram, position, .. } = case;
-    let (mut settings, mut page) = (case.settings.clone(), case.page.clone());
-    let answer =
-        reader::handle(*family, *admin, roll, debug_names, flag_names, &mut settings, datagram, *position, &mut page);
+    let HandleCase { debug_names, flag_names, datagram, position, .. } = case;
+    let answer = Reader.handle(case, &mut case.settings.clone(), &mut case.page.clone());
     let message = datagram.get(*position as usize..)?;
     let names = match message.get(16)? {
         8 => debug_names,

@@ -9,7 +9,7 @@ const SEED: u64 = 3;
 fn taken_up(family: u32, admin: u32, roll: &[u8], lists: [&[u8]; 2], settings: &[u8]) -> bool {
     let [debug_names, flag_names] = lists;
     let (mut settings, mut page) = (settings.to_vec(), vec![0; 32_768]);
-    reader::handle(family, admin, roll, debug_names, flag_names, &mut settings, &[], 0, &mut page).refusal != 1
+    reader::handle(family, admin, roll, debug_names, flag_names, &mut settings, &[], 0, 0, &mut page).refusal != 1
 }
 
 const PORT: &[u8; 21] = b"\x01\x03\0\0\0sw0\0\0\0\0\0\0\0\0\0\0\0\0\0";

@@ -1,4 +1,5 @@
-//! What document 01 promises of every answer, checked on the reader without knowing the answer.
+//! What document 01 promises of every answer, checked on the reader without knowing the answer; `dump_promises.rs` has
+//! what request C-11 adds.
 
 use cases::{Case, HandleCase, NormaliseCase};
 use compare::{outcome, Outcome, Reader};
@@ -50,7 +51,7 @@ fn kind_number_and_count_fit_together() {
 #[test]
 fn next_position_is_kept_or_moves_past_the_message() {
     for (case, answer, ..) in handled() {
-        let stays = answer.kind == END || (1..=4).contains(&answer.refusal);
+        let stays = answer.kind == END || (1..=4).contains(&answer.refusal) || answer.next_place > 0;
         let moved = answer.next > case.position && answer.next <= case.datagram.len() as u64;
         assert!(if stays { answer.next == case.position } else { moved });
     }
@@ -112,7 +113,7 @@ fn effect(contents: &[u8], names: &[u8], start: &[u8]) -> Result<Vec<u8>, u32> {
     let roll = *b"\x01\x03\0\0\0sw0\0\0\0\0\0\0\0\0\0\0\0\0\0";
     let mut settings = [&[0; 4], start].concat();
     let mut page = vec![0; 32_768];
-    let answer = reader::handle(25, 1, &roll, &[0; 32], names, &mut settings, &message, 0, &mut page);
+    let answer = reader::handle(25, 1, &roll, &[0; 32], names, &mut settings, &message, 0, 0, &mut page);
     if answer.kind == DONE {
         Ok(settings[4..].to_vec())
     } else {

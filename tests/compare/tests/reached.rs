@@ -81,10 +81,11 @@ impl Implementation for OtherCheck {
 
 #[test]
 fn every_part_of_an_outcome_is_compared() {
-    let alterations: [Alteration; 6] = [
+    let alterations: [Alteration; 7] = [
         |answer, _, _| answer.kind ^= 1,
         |answer, _, _| answer.refusal ^= 1,
         |answer, _, _| answer.next ^= 1 << 40,
+        |answer, _, _| answer.next_place ^= 1 << 40,
         |answer, _, _| answer.written ^= 1 << 40,
         |_, settings, _| settings.iter_mut().last().map_or((), |byte| *byte ^= 1),
         |_, _, page| page.iter_mut().last().map_or((), |byte| *byte ^= 1),

@@ -1,8 +1,9 @@
 //! `dump --cases N --seed S`: cases and the reader's answers on standard output, in the form that `tests/c/exact.c` reads.
 //!
 //! Numbers are little-endian; a run of bytes stands after its length as a u32. A case begins with a u32:
-//! 1 handle: family, admin (u32); roll, debug names, flag names, settings, datagram (bytes); position (u64); length of
-//!   the page (u32); then the answer: kind, refusal (u32), next (u64), what was written, settings afterwards (bytes).
+//! 1 handle: family, admin (u32); roll, debug names, flag names, settings, datagram (bytes); position, place (u64); length
+//!   of the page (u32); then the answer: kind, refusal (u32), next, next place (u64), what was written, settings
+//!   afterwards (bytes).
 //! 2 normalise: contents, names (bytes); length of the page (u32); then the number (u32) and the form (bytes).
 //! 3 check_box: family, admin (u32); roll, debug names, flag names, settings (bytes); then the part at fault (u32) and the
 //!   offset (u64).
@@ -71,6 +72,7 @@ fn handled(out: &mut impl Write, mut case: HandleCase) -> io::Result<()> {
         put_bytes(out, bytes)?;
     }
     out.write_all(&case.position.to_le_bytes())?;
+    out.write_all(&case.place.to_le_bytes())?;
     put_u32(out, case.page.len() as u32)?;
     let answer = reader::handle(
         case.family,
@@ -81,11 +83,13 @@ fn handled(out: &mut impl Write, mut case: HandleCase) -> io::Result<()> {
         &mut case.settings,
         &case.datagram,
         case.position,
+        case.place,
         &mut case.page,
     );
     put_u32(out, answer.kind)?;
     put_u32(out, answer.refusal)?;
     out.write_all(&answer.next.to_le_bytes())?;
+    out.write_all(&answer.next_place.to_le_bytes())?;
     put_bytes(out, &case.page[..answer.written as usize])?;
     put_bytes(out, &case.settings)
 }
