@@ -48,7 +48,11 @@ impl Request {
     pub fn dump(rng: &mut Rng, model: &Model) -> Self {
         let command = rng.weighted(&[(45, 7), (45, 13), (5, 8), (5, 14)]);
         let flags = REQUEST | DUMP | rng.pick(&[0, 0, ACK, ACK, ACK | 8, 0xFCFE]);
-        let header = if rng.per_mille(120) { header(rng, model) } else { header_of_all(rng) };
+        let header = match rng.below(100) {
+            0..10 => header(rng, model),
+            10..13 => header_of_none(rng),
+            _ => header_of_all(rng),
+        };
         Self::of(rng, model, command, flags, header)
     }
 
@@ -123,6 +127,18 @@ fn header(rng: &mut Rng, model: &Model) -> Attribute {
 fn header_of_all(rng: &mut Rng) -> Attribute {
     let flags = if rng.per_mille(700) { vec![some_flags(rng)] } else { Vec::new() };
     Attribute::nest(HEADER, flags)
+}
+
+/// A header nest with an index and a name that no port can have, or with one of them.
+fn header_of_none(rng: &mut Rng) -> Attribute {
+    let index = Attribute::number(PORT_INDEX, rng.pick(&[0, 0, 0x8000_0000, u32::MAX]));
+    let name = Attribute::name(PORT_NAME, b"");
+    let parts = match rng.below(3) {
+        0 => vec![index],
+        1 => vec![name],
+        _ => vec![name, index],
+    };
+    Attribute::nest(HEADER, parts)
 }
 
 /// Header flags that are known.

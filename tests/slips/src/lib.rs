@@ -35,7 +35,7 @@ macro_rules! slip {
             name: stringify!($module),
             what: $what,
             handle: |case, settings, page| {
-                let HandleCase { family, admin, roll, debug_names, flag_names, datagram, position, .. } = case;
+                let HandleCase { family, admin, roll, debug_names, flag_names, datagram, position, place, .. } = case;
                 let answer = $module::handle(
                     *family,
                     *admin,
@@ -45,10 +45,11 @@ macro_rules! slip {
                     settings,
                     datagram,
                     *position,
+                    *place,
                     page,
                 );
-                let $module::Answer { kind, refusal, next, written } = answer;
-                Answer { kind, refusal, next, written }
+                let $module::Answer { kind, refusal, next, next_place, written } = answer;
+                Answer { kind, refusal, next, next_place, written }
             },
             normalise: |case, page| $module::normalise(&case.contents, &case.names, page),
             check_box: |given| {

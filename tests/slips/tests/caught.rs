@@ -13,9 +13,12 @@ fn say(line: &str) {
 }
 
 #[test]
-fn there_are_at_least_30_slips_and_6_of_the_check_of_a_box() {
-    let of_check_box = SLIPS.iter().filter(|slip| slip.name.starts_with("check_box_")).count();
-    assert!(of_check_box >= 6 && SLIPS.len() - of_check_box >= 30);
+fn there_are_slips_of_every_kind() {
+    let named = |word: &str| SLIPS.iter().filter(|slip| slip.name.contains(word)).count();
+    let of_parts = [named("check_box"), named("disagreement"), named("dump"), named("place")];
+    let least = [6, 6, 30, 15];
+    assert!(of_parts.iter().zip(least).all(|(count, least)| *count >= least), "{of_parts:?}");
+    assert!(SLIPS.len() >= 60 + of_parts.iter().sum::<usize>());
 }
 
 #[test]
