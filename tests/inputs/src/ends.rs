@@ -30,6 +30,7 @@ pub fn ends() -> Vec<(&'static str, Vec<u8>)> {
         ("too-long", [longest(), vec![0]].concat()),
         ("far-too-long", whole.repeat(4096)),
         ("cut", [&whole[..], &whole[..15]].concat()),
+        ("dump-cut", [datagram([dump(PRIVFLAGS_GET, 0, vec![])].iter()), vec![0; 15]].concat()),
         ("length-15", misstated(15)),
         ("length-past-the-end", misstated(65)),
         ("last-padding-absent", datagram([Request { stray: vec![0], ..get() }].iter())),

@@ -1,7 +1,7 @@
-//! GETs in both reply forms, and messages that are skipped.
+//! GETs of the port and of all ports in both reply forms, and messages that are skipped.
 
 use super::making::*;
-use cases::requests::{Request, ACK, PORT_NAME};
+use cases::requests::{Request, ACK, PORT_FLAGS, PORT_NAME};
 use cases::tree::Attribute;
 
 fn compact(command: u8, flags: u16) -> Request {
@@ -31,11 +31,31 @@ pub fn before() -> Vec<Message> {
     ]
 }
 
+/// A dump, compact or verbose.
+fn dumped(what: &'static str, command: u8, flags: u16, header_flags: Option<u32>) -> Message {
+    let parts = header_flags.map(|flags| Attribute::number(PORT_FLAGS, flags));
+    message(what, Outcome::Dumped, dump(command, flags, parts.into_iter().collect()))
+}
+
+/// All ports at once, with a change between two dumps, and one DUMP bit alone.
+pub fn dumps() -> Vec<Message> {
+    vec![
+        dumped("all flags, compact", PRIVFLAGS_GET, 0, Some(1)),
+        message("flag 3 on", Outcome::Done, set(PRIVFLAGS_SET, ACK, vec![bits(vec![bit_at(3, true)])])),
+        dumped("all flags, verbose, an ACK asked for", PRIVFLAGS_GET, ACK, None),
+        dumped("all debug sets, verbose, omit reply changes nothing", DEBUG_GET, 0, Some(2)),
+        dumped("all debug sets, compact, an ACK asked for", DEBUG_GET, ACK, Some(3)),
+        message("one DUMP bit alone", Outcome::Done, verbose(PRIVFLAGS_GET, 0x100)),
+        message("the other DUMP bit alone", Outcome::Done, compact(DEBUG_GET, 0x200)),
+    ]
+}
+
 /// What all the changes and refusals have left.
 pub fn after() -> Vec<Message> {
     vec![
         message("the flags at the end, verbose", Outcome::Done, verbose(PRIVFLAGS_GET, ACK)),
         message("the debug set at the end, verbose", Outcome::Done, verbose(DEBUG_GET, ACK)),
         message("the debug set at the end, compact", Outcome::Done, compact(DEBUG_GET, 0)),
+        dumped("all flags at the end, compact", PRIVFLAGS_GET, ACK, Some(1)),
     ]
 }

@@ -20,8 +20,10 @@ pub fn messages() -> Vec<Message> {
     messages.extend(changes::sheet());
     messages.extend(changes::index_and_name());
     messages.extend(changes::debug());
+    messages.extend(gets::dumps());
     messages.extend(refusals::of_message());
     messages.extend(refusals::of_header());
+    messages.extend(refusals::of_dump());
     messages.extend(refusals::of_bitset());
     messages.extend(refusals::of_index_and_name());
     messages.extend(gets::after());

@@ -1,7 +1,7 @@
 //! Messages put together by hand.
 
 use cases::bitsets::{BIT, BITS, BIT_INDEX, BIT_NAME, BIT_VALUE, MASK, NOMASK, SIZE, VALUE};
-use cases::requests::{Request, BITSET, HEADER, PORT_FLAGS, PORT_INDEX, REQUEST};
+use cases::requests::{Request, BITSET, DUMP, HEADER, PORT_FLAGS, PORT_INDEX, REQUEST};
 use cases::tree::Attribute;
 
 pub const FAMILY: u16 = 25;
@@ -10,11 +10,13 @@ pub const DEBUG_SET: u8 = 8;
 pub const PRIVFLAGS_GET: u8 = 13;
 pub const PRIVFLAGS_SET: u8 = 14;
 
-/// What the program's call says about a message.
+/// What the program's calls say about a message.
 #[derive(Clone, Copy, Debug, PartialEq, Eq)]
 pub enum Outcome {
     Skipped,
     Done,
+    /// The reply of the box's one port, then DONE, by two calls.
+    Dumped,
     Refused(u32),
 }
 
@@ -55,6 +57,11 @@ pub fn port() -> Attribute {
 /// The same with header flags.
 pub fn port_with(flags: u32) -> Attribute {
     header(vec![Attribute::number(PORT_INDEX, 3), Attribute::number(PORT_FLAGS, flags)])
+}
+
+/// A request for all ports with these parts in its header.
+pub fn dump(command: u8, flags: u16, parts: Vec<Attribute>) -> Request {
+    request(command, flags | DUMP, vec![header(parts)])
 }
 
 pub fn set(command: u8, flags: u16, contents: Vec<Attribute>) -> Request {

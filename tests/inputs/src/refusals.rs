@@ -1,4 +1,4 @@
-//! Each refusal from 5 to 23 but 9, in the ways in which document 01 and request C-12 tell them apart.
+//! Each refusal from 5 to 23 but 9, in the ways in which document 01 and the requests C-11 and C-12 tell them apart.
 
 use super::making::*;
 use cases::bitsets::{BIT, BITS, NOMASK, SIZE};
@@ -23,7 +23,8 @@ pub fn of_message() -> Vec<Message> {
         refused(6, "no generic header", Request { generic: vec![], ..get(vec![]) }),
         refused(6, "half a generic header", Request { generic: vec![13, 1], ..get(vec![]) }),
         refused(7, "a command that is not listed", request(1, ACK, vec![port()])),
-        refused(8, "both DUMP bits", Request { flags: 1 | DUMP, ..whole() }),
+        refused(8, "a SET with both DUMP bits", set(PRIVFLAGS_SET, DUMP, vec![bits(vec![])])),
+        refused(8, "the same, broken off", Request { stray: vec![4, 0, 1], ..set(DEBUG_SET, DUMP, vec![]) }),
         refused(10, "three bytes at the end", Request { stray: vec![4, 0, 1], ..whole() }),
         refused(10, "an attribute length of 3", get(vec![short])),
         refused(10, "an attribute longer than the message", get(vec![long])),
@@ -51,6 +52,28 @@ pub fn of_header() -> Vec<Message> {
         refused(16, "an unknown index", of(vec![number(PORT_INDEX, 4)])),
         refused(16, "an unknown name", of(vec![Attribute::name(PORT_NAME, b"sw1")])),
         refused(17, "another name", of(vec![number(PORT_INDEX, 3), Attribute::name(PORT_NAME, b"sw1")])),
+    ]
+}
+
+/// 8 of a dump in the place of 14, and what goes before and behind it.
+pub fn of_dump() -> Vec<Message> {
+    let number = Attribute::number;
+    let name = |name| Attribute::name(PORT_NAME, name);
+    let of = |parts| dump(PRIVFLAGS_GET, ACK, parts);
+    let none = request(PRIVFLAGS_GET, DUMP, vec![]);
+    vec![
+        refused(8, "a dump of the port by its index", of(vec![number(PORT_INDEX, 3), number(PORT_FLAGS, 1)])),
+        refused(8, "a dump of the port by its name", of(vec![name(b"sw0")])),
+        refused(8, "a dump of no port there is", of(vec![number(PORT_INDEX, 0), name(b"")])),
+        refused(8, "a dump of the port with header flag 4", of(vec![number(PORT_FLAGS, 4), name(b"sw0")])),
+        refused(11, "a bitset in a dump", request(DEBUG_GET, DUMP, vec![port(), Attribute::nest(BITSET, vec![])])),
+        refused(
+            12,
+            "a dump of a port without its NUL",
+            of(vec![number(PORT_INDEX, 3), Attribute::leaf(PORT_NAME, b"sw0")]),
+        ),
+        refused(13, "a dump without a header", none),
+        refused(15, "a dump with header flag 4", of(vec![number(PORT_FLAGS, 5)])),
     ]
 }
 

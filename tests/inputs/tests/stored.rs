@@ -1,6 +1,7 @@
 //! The stored input of the program `answer` meets what it is there for, and the stored output is the reader's.
 
 use inputs::Outcome;
+use reader::Answer;
 use std::fs;
 use std::path::Path;
 
@@ -9,12 +10,22 @@ fn stored(name: &str) -> Vec<u8> {
     fs::read(Path::new(env!("CARGO_MANIFEST_DIR")).join("../../crates/answer").join(name)).unwrap()
 }
 
-fn outcome(answer: &reader::Answer) -> Outcome {
-    match (answer.kind, answer.refusal) {
-        (reader::SKIPPED, 0) => Outcome::Skipped,
-        (reader::DONE, 0) => Outcome::Done,
-        (reader::REFUSED, number) => Outcome::Refused(number),
-        other => panic!("no answer of a run: {other:?}"),
+/// Answers with their bytes.
+type Answers = Vec<(Answer, Vec<u8>)>;
+
+/// The answers to each message: only one that hands back place 0 is the last of its message.
+fn by_message(answers: Answers) -> Vec<Answers> {
+    answers.chunk_by(|(answer, _), _| answer.next_place > 0).map(<[_]>::to_vec).collect()
+}
+
+fn outcome(answers: &Answers) -> Outcome {
+    let kinds: Vec<(u32, u32)> = answers.iter().map(|(answer, _)| (answer.kind, answer.refusal)).collect();
+    match kinds[..] {
+        [(reader::SKIPPED, 0)] => Outcome::Skipped,
+        [(reader::DONE, 0)] => Outcome::Done,
+        [(reader::DONE, 0), (reader::DONE, 0)] => Outcome::Dumped,
+        [(reader::REFUSED, number)] => Outcome::Refused(number),
+        _ => panic!("no answers of a run: {kinds:?}"),
     }
 }
 
@@ -31,12 +42,12 @@ fn stored_output_is_the_readers() {
 #[test]
 fn every_message_meets_what_it_is_there_for() {
     let messages = inputs::messages();
-    let answers = reader::answers(&stored("stdin"));
+    let answers = by_message(reader::answers(&stored("stdin")));
     assert_eq!(answers.len(), messages.len());
-    for (message, (answer, _)) in messages.iter().zip(&answers) {
-        assert_eq!(outcome(answer), message.outcome, "{}", message.what);
+    for (message, answers) in messages.iter().zip(&answers) {
+        assert_eq!(outcome(answers), message.outcome, "{}", message.what);
     }
-    assert_eq!(answers.last().unwrap().0.next, stored("stdin").len() as u64);
+    assert_eq!(answers.last().unwrap().last().unwrap().0.next, stored("stdin").len() as u64);
 }
 
 #[test]
@@ -50,7 +61,8 @@ fn every_refusal_but_9_is_met() {
 /// The program's sender is admin: only another sender can meet 9, by the same datagram.
 #[test]
 fn a_sender_who_is_not_admin_meets_9() {
-    let met = |admin| reader::answers_to(admin, &stored("stdin")).iter().filter(|(answer, _)| answer.refusal == 9).count();
+    let met =
+        |admin| reader::answers_to(admin, &stored("stdin")).iter().filter(|(answer, _)| answer.refusal == 9).count();
     assert_eq!(met(1), 0);
     assert!(met(0) > 10);
 }
@@ -78,6 +90,22 @@ fn both_reply_forms_are_met_with_and_without_ack() {
 }
 
 #[test]
+fn dumps_are_met_in_both_forms_for_both_sets_with_and_without_ack() {
+    let requests: Vec<_> = inputs::messages().into_iter().map(|message| message.request).collect();
+    let answers = by_message(reader::answers(&stored("stdin")));
+    let mut met = Vec::new();
+    for (request, answers) in requests.iter().zip(answers).filter(|(_, answers)| answers.len() == 2) {
+        let (reply, done) = (&answers[0].1, &answers[1].1);
+        assert_eq!((&reply[6..8], &done[4..8]), (&[2, 0][..], &[3, 0, 2, 0][..]));
+        assert_eq!((done.len(), &done[8..16]), (20, &reply[8..16]));
+        met.push((request.generic[0], form(reply), request.flags & 4 != 0));
+    }
+    for dump in [(13, Some(4), false), (13, Some(3), true), (7, Some(3), false), (7, Some(4), true)] {
+        assert!(met.contains(&dump), "{dump:?} of {met:?}");
+    }
+}
+
+#[test]
 fn other_inputs_end_as_they_are_called() {
     let written = |name: &str| {
         let (_, input) = inputs::ends().into_iter().find(|(known, _)| *known == name).unwrap();
@@ -90,4 +118,5 @@ fn other_inputs_end_as_they_are_called() {
         assert_eq!(written(name).1, 1, "{name}");
     }
     assert_eq!(written("longest"), (32_768, 1023));
+    assert_eq!(written("dump-cut"), (39, 2));
 }
