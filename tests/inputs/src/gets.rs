@@ -39,9 +39,10 @@ fn dumped(what: &'static str, command: u8, flags: u16, header_flags: Option<u32>
 
 /// All ports at once, with a change between two dumps, and one DUMP bit alone.
 pub fn dumps() -> Vec<Message> {
+    let change = set(PRIVFLAGS_SET, ACK, vec![bits(vec![bit_at(1, false), bit_at(39, true)])]);
     vec![
         dumped("all flags, compact", PRIVFLAGS_GET, 0, Some(1)),
-        message("flag 3 on", Outcome::Done, set(PRIVFLAGS_SET, ACK, vec![bits(vec![bit_at(3, true)])])),
+        message("flag 1 off, flag 39 on", Outcome::Done, change),
         dumped("all flags, verbose, an ACK asked for", PRIVFLAGS_GET, ACK, None),
         dumped("all debug sets, verbose, omit reply changes nothing", DEBUG_GET, 0, Some(2)),
         dumped("all debug sets, compact, an ACK asked for", DEBUG_GET, ACK, Some(3)),

@@ -89,20 +89,35 @@ fn both_reply_forms_are_met_with_and_without_ack() {
     assert!(sets.contains(&0) && sets.contains(&36));
 }
 
-#[test]
-fn dumps_are_met_in_both_forms_for_both_sets_with_and_without_ack() {
-    let requests: Vec<_> = inputs::messages().into_iter().map(|message| message.request).collect();
+/// Each dump's command, whether it asks for an ACK, and its two messages.
+fn dumps() -> Vec<(u8, bool, Vec<u8>, Vec<u8>)> {
     let answers = by_message(reader::answers(&stored("stdin")));
+    let both = inputs::messages().into_iter().zip(answers).filter(|(_, answers)| answers.len() == 2);
+    both.map(|(message, answers)| {
+        let [reply, done] = [0, 1].map(|place| answers[place].1.clone());
+        (message.request.generic[0], message.request.flags & 4 != 0, reply, done)
+    })
+    .collect()
+}
+
+#[test]
+fn dumps_are_met_in_both_forms_of_both_sets_and_done_follows() {
     let mut met = Vec::new();
-    for (request, answers) in requests.iter().zip(answers).filter(|(_, answers)| answers.len() == 2) {
-        let (reply, done) = (&answers[0].1, &answers[1].1);
+    for (command, ack, reply, done) in dumps() {
         assert_eq!((&reply[6..8], &done[4..8]), (&[2, 0][..], &[3, 0, 2, 0][..]));
         assert_eq!((done.len(), &done[8..16]), (20, &reply[8..16]));
-        met.push((request.generic[0], form(reply), request.flags & 4 != 0));
+        met.push((command, form(&reply), ack));
     }
     for dump in [(13, Some(4), false), (13, Some(3), true), (7, Some(3), false), (7, Some(4), true)] {
         assert!(met.contains(&dump), "{dump:?} of {met:?}");
     }
+}
+
+#[test]
+fn a_change_between_two_dumps_is_seen() {
+    let shown: Vec<_> =
+        dumps().into_iter().filter(|(command, _, reply, _)| (*command, form(reply)) == (13, Some(4))).collect();
+    assert!(shown.len() == 2 && shown[0].2[60..] != shown[1].2[60..]);
 }
 
 #[test]
