@@ -4,7 +4,7 @@ use super::attributes::{print, Place};
 use super::bytes_text;
 use super::errors::print_error;
 use super::policy::{self, Parent};
-use reader::wire::{step, GenericHeader, MessageHeader, ERROR, FIRST_FAMILY, REQUEST};
+use reader::wire::{step, u32_at, GenericHeader, MessageHeader, DONE, ERROR, FIRST_FAMILY, MULTI, REQUEST};
 
 /// The datagram as text; attributes of messages of `family` are named as ethtool's.
 pub fn decode(datagram: &[u8], family: Option<u16>) -> String {
@@ -31,7 +31,15 @@ pub fn decode(datagram: &[u8], family: Option<u16>) -> String {
 /// A message header on one line.
 pub fn header_text(header: &MessageHeader) -> String {
     let MessageHeader { length, kind, flags, sequence, port_id } = header;
-    format!("length {length}, type {kind}, flags {flags:#06x}, sequence {sequence}, port id {port_id}")
+    let named = flag_names(header);
+    format!("length {length}, type {kind}, flags {flags:#06x}{named}, sequence {sequence}, port id {port_id}")
+}
+
+/// The flags of a dump and of what answers it by name; in an error message the DUMP bits mean something else.
+fn flag_names(header: &MessageHeader) -> String {
+    let dump = if header.flags & REQUEST != 0 && header.is_dump() { " DUMP" } else { "" };
+    let multi = if header.flags & MULTI != 0 { " MULTI" } else { "" };
+    format!("{dump}{multi}")
 }
 
 /// Two blanks for each level.
@@ -44,6 +52,7 @@ fn body(out: &mut String, message: &[u8], header: &MessageHeader, family: Option
     let bytes = &message[MessageHeader::SIZE..];
     match GenericHeader::read(bytes) {
         _ if header.kind == ERROR => print_error(out, message, header),
+        _ if header.kind == DONE && bytes.len() == 4 => out.push_str(&format!("  DONE {}\n", u32_at(bytes, 0) as i32)),
         Some(generic) if header.kind >= FIRST_FAMILY => {
             let named = family == Some(header.kind);
             let command = if named { policy::command(generic.command, header.flags & REQUEST != 0) } else { "" };

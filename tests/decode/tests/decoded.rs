@@ -57,6 +57,26 @@ message at 0: length 52, type 2, flags 0x0300, sequence 7, port id 9
 }
 
 #[test]
+fn dump_is_told_and_done_ends_it() {
+    let messages = "\
+        18 00 00 00 19 00 05 03 07 00 00 00 09 00 00 00 0D 01 00 00 04 00 01 80 \
+        14 00 00 00 19 00 02 00 07 00 00 00 09 00 00 00 0E 01 00 00 \
+        14 00 00 00 03 00 02 00 07 00 00 00 09 00 00 00 00 00 00 00 \
+        10 00 00 00 03 00 00 00 07 00 00 00 09 00 00 00";
+    let expected = "\
+message at 0: length 24, type 25, flags 0x0305 DUMP, sequence 7, port id 9
+  command 13 PRIVFLAGS_GET, version 1
+  @20 1 HEADER, nest of 0 bytes
+message at 24: length 20, type 25, flags 0x0002 MULTI, sequence 7, port id 9
+  command 14 PRIVFLAGS_GET_REPLY, version 1
+message at 44: length 20, type 3, flags 0x0002 MULTI, sequence 7, port id 9
+  DONE 0
+message at 64: length 16, type 3, flags 0x0000, sequence 7, port id 9
+";
+    assert_eq!(decode(&bytes(messages), Some(25)), expected);
+}
+
+#[test]
 fn bad_lengths_and_stray_bytes_are_shown() {
     let mut datagram = bytes(REPLY);
     datagram[22] = 0xFF;
