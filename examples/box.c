@@ -197,9 +197,9 @@ struct ethnl_box box_lent(struct box *box)
 }
 
 struct ethnl_answer box_handle(struct box *box, const uint8_t *datagram, size_t length, uint64_t position,
-                               uint8_t *page)
+                               uint64_t place, uint8_t *page)
 {
     struct ethnl_box lent = box_lent(box);
 
-    return ethnl_box_handle(&lent, datagram, length, position, page, ETHNL_PAGE_MIN);
+    return ethnl_box_handle(&lent, datagram, length, position, place, page, ETHNL_PAGE_MIN);
 }

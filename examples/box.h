@@ -22,8 +22,8 @@ int box_read(struct box *box, const char *path);
 /* The box as the library takes it: its buffers, lent. */
 struct ethnl_box box_lent(struct box *box);
 
-/* Answers the message at a position of the datagram, into a page of ETHNL_PAGE_MIN bytes. */
+/* Answers the message at a position of the datagram, of a dump at a place, into a page of ETHNL_PAGE_MIN bytes. */
 struct ethnl_answer box_handle(struct box *box, const uint8_t *datagram, size_t length, uint64_t position,
-                               uint8_t *page);
+                               uint64_t place, uint8_t *page);
 
 #endif

@@ -2,8 +2,9 @@
  * daemon BOXFILE: serves ethtool requests for the ports of a box.
  *
  * Standard input is a run of datagrams, each after its length as a 32-bit little-endian number. Standard output
- * gets the messages that answer them likewise; a reply and its ACK are two. Settings live as long as the program
- * does. Standard error tells of every refusal, by its number in ethnl.h and a sentence.
+ * gets the messages that answer them likewise; a reply and its ACK are two, a dump gets one for each port and DONE.
+ * Settings live as long as the program does. Standard error tells of every refusal, by its number in ethnl.h and a
+ * sentence.
  *
  *     cc -o daemon daemon.c box.c $(pkg-config --cflags --libs ethnl)
  */
@@ -70,14 +71,14 @@ static void tell_refusal(uint32_t refusal, uint64_t position)
             (unsigned long)position, ethnl_strerror(refusal));
 }
 
-/* Answers each message in turn, up to the end or a refusal that says nothing can follow. */
+/* Answers each message in turn, a dump place by place, up to the end or a refusal that says nothing can follow. */
 static void serve(const struct ethnl_box *lent, uint32_t length)
 {
     struct ethnl_answer answer;
-    uint64_t position;
+    uint64_t position = 0, place = 0;
 
-    for (position = 0;; position = answer.next) {
-        answer = ethnl_box_handle(lent, datagram, length, position, page, sizeof page);
+    for (;; position = answer.next, place = answer.next_place) {
+        answer = ethnl_box_handle(lent, datagram, length, position, place, page, sizeof page);
         if (answer.kind == ETHNL_REFUSED)
             tell_refusal(answer.refusal, position);
         if (answer.kind == ETHNL_END || (answer.kind == ETHNL_REFUSED && answer.refusal <= ETHNL_LAST_SILENT))

@@ -1,5 +1,5 @@
 # Turns the comments, numbers and functions of ethnl.h into the source of the manual page ethnl(3):
-#     awk -v version=0.3.0 -f ethnl.3.awk ethnl.h
+#     awk -v version=0.4.0 -f ethnl.3.awk ethnl.h
 #
 # In a comment an empty line ends a paragraph, two blanks begin a parameter, four a line of code. The first sentence of a comment before
 # numbers is their heading.

@@ -28,18 +28,25 @@
  *
  * Answering a datagram, message by message:
  *
- *     uint64_t position = 0, next, written;
+ *     uint64_t position = 0, place = 0, next, next_place, written;
  *     uint32_t kind, refusal;
- *     for (;; position = next) {
+ *     for (;; position = next, place = next_place) {
  *         ethnl_handle(family, admin, roll, roll_len, debug_names, debug_names_len,
  *                      flag_names, flag_names_len, settings, settings_len,
- *                      datagram, datagram_len, position, page, page_len,
- *                      &kind, &refusal, &next, &written);
+ *                      datagram, datagram_len, position, place, page, page_len,
+ *                      &kind, &refusal, &next, &next_place, &written);
  *         if (kind == ETHNL_END ||
  *             (kind == ETHNL_REFUSED && refusal <= ETHNL_LAST_SILENT))
  *             break;
  *         send_messages(page, written);
  *     }
+ *
+ * Dumps. A GET with both DUMP flags (NLM_F_DUMP) whose header nest names no port asks for all ports, and the loop above
+ * goes through its answers: one call for each port and one more. Each writes one message, with the flag NLM_F_MULTI:
+ * from place 0 on the replies of the ports in roll order, then, at the place that is the number of ports, NLMSG_DONE.
+ * ACK adds nothing. Until NLMSG_DONE the same position is handed back, with the next place. Every call reads the box
+ * anew, so a SET in between, from another socket, is seen by the replies still to come. Keep the roll as it is
+ * meanwhile, since places count its ports.
  *
  * Sending. The page may hold no message, one, or two: a GET that asks for an ACK gets its reply and right behind
  * it the ACK. Each begins with its own length as 32 bits, a multiple of 4, and goes out as a datagram of its own,
@@ -60,15 +67,18 @@
 extern "C" {
 #endif
 
-/* The version of this header. */
+/*
+ * The version of this header. A program is built with the header of its archive: since 0.4.0 ethnl_handle takes a place
+ * behind the position, and hands back next_place behind next. A caller changes its call, as the loop above shows.
+ */
 #define ETHNL_VERSION_MAJOR 0
-#define ETHNL_VERSION_MINOR 3
+#define ETHNL_VERSION_MINOR 4
 #define ETHNL_VERSION_PATCH 0
 #define ETHNL_VERSION (10000 * ETHNL_VERSION_MAJOR + 100 * ETHNL_VERSION_MINOR + ETHNL_VERSION_PATCH) /* a number for #if */
 #define ETHNL_VERSION_STRING ETHNL_DOTTED(ETHNL_VERSION_MAJOR, ETHNL_VERSION_MINOR, ETHNL_VERSION_PATCH) /* major.minor.patch */
 #define ETHNL_DOTTED(major, minor, patch) ETHNL_DOTTED_TEXT(major, minor, patch)
 #define ETHNL_DOTTED_TEXT(major, minor, patch) #major "." #minor "." #patch
-#define ETHNL_LEVEL 12 /* the number of the highest change request that the library has; C-11, dumps, is not in it */
+#define ETHNL_LEVEL 12 /* the number of the highest change request that the library has; C-11, dumps, is in it since 0.4.0 */
 
 /* Sizes in bytes. */
 #define ETHNL_PAGE_MIN 32768     /* shortest answer page of ethnl_handle */
@@ -91,7 +101,7 @@ extern "C" {
 /* Kinds of an answer. */
 #define ETHNL_END 0     /* the position is the datagram's end */
 #define ETHNL_SKIPPED 1 /* message type below 16, or not a request: nothing written */
-#define ETHNL_DONE 2    /* served: a reply, an ACK, both, or nothing was written */
+#define ETHNL_DONE 2    /* served: a reply, an ACK, both, the end of a dump, or nothing was written */
 #define ETHNL_REFUSED 3 /* see the refusal number */
 
 /*
@@ -100,20 +110,20 @@ extern "C" {
  * detail: OFFS (NLMSGERR_ATTR_OFFS), where in the request the fault stands, or ETHNL_MISS_TYPE and perhaps
  * ETHNL_MISS_NEST, what is missing and in which nest.
  */
-#define ETHNL_REFUSAL_BOX 1             /* the box or a list breaks a rule; ethnl_check_box tells where */
+#define ETHNL_REFUSAL_BOX 1             /* box or list breaks a rule, as ethnl_check_box tells; or place above the number of ports */
 #define ETHNL_REFUSAL_PAGE 2            /* page too short */
 #define ETHNL_REFUSAL_DATAGRAM 3        /* datagram or contents too long, position past its end, or 1 to 15 bytes left */
 #define ETHNL_REFUSAL_MESSAGE_LEN 4     /* message length below 16 or more than is left */
 #define ETHNL_REFUSAL_FAMILY 5          /* ENOENT: message type isn't the family */
 #define ETHNL_REFUSAL_GENERIC_HEADER 6  /* EINVAL: message length 16 to 19 */
 #define ETHNL_REFUSAL_COMMAND 7         /* EOPNOTSUPP: command isn't one of the four */
-#define ETHNL_REFUSAL_DUMP 8            /* EOPNOTSUPP: a dump, both DUMP flags */
+#define ETHNL_REFUSAL_DUMP 8            /* EOPNOTSUPP: both DUMP flags in a SET, or in a GET that names a port */
 #define ETHNL_REFUSAL_ADMIN 9           /* EPERM: a SET, and the sender isn't admin */
 #define ETHNL_REFUSAL_ATTRIBUTE_LEN 10  /* EINVAL: attribute length below 4 or more than is left, or 1 to 3 bytes left; OFFS there */
 #define ETHNL_REFUSAL_ATTRIBUTE_TYPE 11 /* EINVAL: attribute type not listed here; OFFS attribute */
 #define ETHNL_REFUSAL_PAYLOAD 12        /* EINVAL: attribute's payload or type bits wrong; OFFS attribute */
 #define ETHNL_REFUSAL_MISSING 13        /* EINVAL: required attribute absent; ETHNL_MISS_TYPE, ETHNL_MISS_NEST */
-#define ETHNL_REFUSAL_NO_PORT 14        /* EINVAL: neither index nor name of a port; OFFS header nest */
+#define ETHNL_REFUSAL_NO_PORT 14        /* EINVAL: neither index nor name of a port, and no dump; OFFS header nest */
 #define ETHNL_REFUSAL_HEADER_FLAGS 15   /* EOPNOTSUPP: header flag other than 1 (compact), 2 (omit reply); OFFS flags */
 #define ETHNL_REFUSAL_UNKNOWN_PORT 16   /* ENODEV: no such port; OFFS index or name */
 #define ETHNL_REFUSAL_OTHER_PORT 17     /* ENODEV: index found, but its port has another name; OFFS header nest */
@@ -130,7 +140,7 @@ extern "C" {
 #define ETHNL_MISS_NEST 6 /* u32: the offset of the nest that lacks it; absent where the top level does */
 
 /* Parts of a box. ethnl_check_box returns one of them. */
-#define ETHNL_PART_NONE 0        /* no call with this box is refused by 1 */
+#define ETHNL_PART_NONE 0        /* no call with this box is refused by 1, but for its place */
 #define ETHNL_PART_FAMILY 1      /* family is not 16 to 65535 */
 #define ETHNL_PART_ADMIN 2       /* admin is not 0 or 1 */
 #define ETHNL_PART_ROLL 3        /* the roll */
@@ -139,7 +149,7 @@ extern "C" {
 #define ETHNL_PART_SETTINGS 6    /* the settings */
 
 /*
- * Answers the one message at a position of a datagram.
+ * Answers the one message at a position of a datagram; of a dump, which has several answers, the one at a place.
  *
  * The box (checked whole on every call; refusal 1):
  *   family       number of the generic netlink family, 16 to 65535
@@ -158,12 +168,16 @@ extern "C" {
  * The message:
  *   datagram     at most ETHNL_DATAGRAM_MAX bytes, as received; may be empty
  *   position     where the message begins: 0, then what the call before handed back in next
+ *   place        0, then what the call before handed back in next_place, together with that position. Only a dump's
+ *                answer goes by it; but above the number of ports it is refusal 1, whatever the message
  *
  * The answer:
  *   page         at least ETHNL_PAGE_MIN bytes; the answer goes to its start, bytes past `written` stay
  *   kind         ETHNL_END, ETHNL_SKIPPED, ETHNL_DONE or ETHNL_REFUSED
  *   refusal      0, or the number of the refusal where kind is ETHNL_REFUSED
- *   next         the position of the next message; for ETHNL_END and the refusals 1 to 4 the one given
+ *   next         the position of the next message; for ETHNL_END, the refusals 1 to 4 and a port's reply in a dump the
+ *                one given
+ *   next_place   after a port's reply in a dump the next place, else 0
  *   written      bytes written to the page: the lengths of its messages together
  */
 void ethnl_handle(uint32_t family, uint32_t admin,
@@ -171,9 +185,9 @@ void ethnl_handle(uint32_t family, uint32_t admin,
                   const uint8_t *debug_names, size_t debug_names_len,
                   const uint8_t *flag_names, size_t flag_names_len,
                   uint8_t *settings, size_t settings_len,
-                  const uint8_t *datagram, size_t datagram_len, uint64_t position,
+                  const uint8_t *datagram, size_t datagram_len, uint64_t position, uint64_t place,
                   uint8_t *page, size_t page_len,
-                  uint32_t *kind, uint32_t *refusal, uint64_t *next, uint64_t *written);
+                  uint32_t *kind, uint32_t *refusal, uint64_t *next, uint64_t *next_place, uint64_t *written);
 
 /*
  * Writes the normal form of a bitset: two accepted bitsets change every set alike exactly where their normal

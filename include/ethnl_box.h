@@ -3,9 +3,9 @@
  * ethnl.h says what the parts mean.
  *
  *     struct ethnl_answer answer;
- *     uint64_t position;
- *     for (position = 0;; position = answer.next) {
- *         answer = ethnl_box_handle(&box, datagram, datagram_len, position, page, sizeof page);
+ *     uint64_t position = 0, place = 0;
+ *     for (;; position = answer.next, place = answer.next_place) {
+ *         answer = ethnl_box_handle(&box, datagram, datagram_len, position, place, page, sizeof page);
  *         if (answer.kind == ETHNL_END ||
  *             (answer.kind == ETHNL_REFUSED && answer.refusal <= ETHNL_LAST_SILENT))
  *             break;
@@ -41,7 +41,7 @@ struct ethnl_box {
 
 struct ethnl_answer {
     uint32_t kind, refusal;
-    uint64_t next, written;
+    uint64_t next, next_place, written;
 };
 
 /* Which part of a box breaks a rule, and where in it. */
@@ -57,15 +57,17 @@ struct ethnl_form {
     uint8_t bytes[ETHNL_FORM_MAX];
 };
 
+/* Position and place are 0 at first, then next and next_place of the answer before. */
 ETHNL_INLINE struct ethnl_answer ethnl_box_handle(const struct ethnl_box *box, const uint8_t *datagram,
-                                                  size_t datagram_len, uint64_t position, uint8_t *page,
-                                                  size_t page_len)
+                                                  size_t datagram_len, uint64_t position, uint64_t place,
+                                                  uint8_t *page, size_t page_len)
 {
     struct ethnl_answer answer;
 
     ethnl_handle(box->family, box->admin, box->roll, box->roll_len, box->debug_names, box->debug_names_len,
                  box->flag_names, box->flag_names_len, box->settings, box->settings_len, datagram, datagram_len,
-                 position, page, page_len, &answer.kind, &answer.refusal, &answer.next, &answer.written);
+                 position, place, page, page_len, &answer.kind, &answer.refusal, &answer.next, &answer.next_place,
+                 &answer.written);
     return answer;
 }
 
@@ -95,14 +97,14 @@ ETHNL_INLINE const char *ethnl_strerror(uint32_t refusal)
 {
     static const char *const sentences[] = {
         "There is no refusal.",
-        "The box or the name list breaks a rule.",
+        "The box or the name list breaks a rule, or the place is above the number of ports.",
         "The page is too short.",
         "The datagram is too long, the position is past its end, or 1 to 15 bytes are left.",
         "The message's length is below 16 or more than is left of the datagram.",
         "The message's type is not the family's number.",
         "The message ends inside the generic header.",
         "The command is none of those that are served.",
-        "Dumps are not served.",
+        "Both DUMP flags stand in a SET, or in a request that names a port.",
         "The sender is not admin and may not change settings.",
         "An attribute's length is below 4 or more than is left, or 1 to 3 bytes are left.",
         "An attribute's type is not listed at its place.",
