@@ -68,7 +68,7 @@ static void expect(const char *what, uint32_t part, uint64_t offset)
     struct ethnl_box lent = lent_box();
     struct ethnl_fault fault = ethnl_box_check(&lent);
     uint8_t *page = lend(PAGE, NULL, ETHNL_PAGE_MIN);
-    struct ethnl_answer answer = ethnl_box_handle(&lent, lend(DATAGRAM, NULL, 0), 0, 0, page, ETHNL_PAGE_MIN);
+    struct ethnl_answer answer = ethnl_box_handle(&lent, lend(DATAGRAM, NULL, 0), 0, 0, 0, page, ETHNL_PAGE_MIN);
 
     check(fault.part == part && fault.offset == offset && is_unchanged(&lent), what);
     check(answer.refusal == (part == ETHNL_PART_NONE ? 0 : ETHNL_REFUSAL_BOX), "  and ethnl_handle agrees");

@@ -28,7 +28,7 @@ static inline void handle_at(const void *datagram, size_t length, uint64_t posit
                             sizeof flag_names, (uint8_t *)settings, sizeof settings};
 
     memset(page, 0xAA, sizeof page);
-    answer = ethnl_box_handle(&box, datagram, length, position, page, page_len);
+    answer = ethnl_box_handle(&box, datagram, length, position, 0, page, page_len);
 }
 
 static inline void handle(const struct message *message)

@@ -18,7 +18,7 @@ static const struct row refusals[] = {
     {ETHNL_REFUSAL_FAMILY, "family"},
     {ETHNL_REFUSAL_GENERIC_HEADER, "generic header"},
     {ETHNL_REFUSAL_COMMAND, "command"},
-    {ETHNL_REFUSAL_DUMP, "Dumps"},
+    {ETHNL_REFUSAL_DUMP, "DUMP"},
     {ETHNL_REFUSAL_ADMIN, "not admin"},
     {ETHNL_REFUSAL_ATTRIBUTE_LEN, "attribute's length"},
     {ETHNL_REFUSAL_ATTRIBUTE_TYPE, "attribute's type is"},

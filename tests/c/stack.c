@@ -21,6 +21,7 @@ static uint8_t settings[ETHNL_PORTS_MAX * 2 * ETHNL_SET_LEN(ETHNL_BITS_MAX)];
 static uint8_t page[ETHNL_PAGE_MIN];
 static struct ethnl_box box;
 static struct message request, contents;
+static uint64_t place;
 static uint32_t number_back;
 
 /* 64 ports, 512 names of 31 bytes in each list, all bits on. */
@@ -61,7 +62,7 @@ static void bitmap_contents(void)
 
 static void handle(void)
 {
-    number_back = ethnl_box_handle(&box, request.bytes, request.length, 0, page, sizeof page).refusal;
+    number_back = ethnl_box_handle(&box, request.bytes, request.length, 0, place, page, sizeof page).refusal;
 }
 
 static void normalise(void)

@@ -26,10 +26,10 @@ static uint32_t set_and_get(struct work *work, uint32_t value)
     begin_request(&request, PRIVFLAGS_SET, REQUEST, 3, 0);
     attribute(&request, BITSET | NESTED, contents.bytes, contents.length);
     end_request(&request);
-    set = ethnl_box_handle(&box, request.bytes, request.length, 0, work->page, sizeof work->page);
+    set = ethnl_box_handle(&box, request.bytes, request.length, 0, 0, work->page, sizeof work->page);
     begin_request(&request, PRIVFLAGS_GET, REQUEST, 3, 1);
     end_request(&request);
-    get = ethnl_box_handle(&box, request.bytes, request.length, 0, work->page, sizeof work->page);
+    get = ethnl_box_handle(&box, request.bytes, request.length, 0, 0, work->page, sizeof work->page);
     if (set.kind == ETHNL_DONE && get.kind == ETHNL_DONE && get.written == 68)
         memcpy(&low, work->page + 60, 4);
     return low;

@@ -80,9 +80,9 @@ static void print_sets(struct box *box, struct part datagram)
     struct ethnl_answer answer;
     uint32_t length;
 
-    for (uint64_t position = 0;; position = answer.next) {
+    for (uint64_t position = 0, place = 0;; position = answer.next, place = answer.next_place) {
         const uint8_t *message = datagram.bytes + position;
-        answer = box_handle(box, datagram.bytes, datagram.length, position, page);
+        answer = box_handle(box, datagram.bytes, datagram.length, position, place, page);
         if (answer.kind == ETHNL_END || (answer.kind == ETHNL_REFUSED && answer.refusal <= ETHNL_LAST_SILENT))
             return;
         memcpy(&length, message, sizeof length);
