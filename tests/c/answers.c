@@ -1,13 +1,14 @@
-/* Document 01's whole reply, an ACK, and refusals of every sort, byte by byte. */
+/* Document 01's whole reply, alone and in a dump, an ACK, and refusals of every sort, byte by byte. */
 #include "check.h"
 #include "program_box.h"
 
+static const uint8_t reply[] = {
+    0x44, 0, 0, 0, 0x19, 0, 0, 0, 7, 0, 0, 0, 9, 0, 0, 0, 0x0E, 1, 0, 0,
+    0x14, 0, 1, 0x80, 8, 0, 1, 0, 3, 0, 0, 0, 8, 0, 2, 0, 's', 'w', '0', 0,
+    0x1C, 0, 2, 0x80, 4, 0, 1, 0, 8, 0, 2, 0, 0x28, 0, 0, 0, 0x0C, 0, 4, 0, 1, 0, 0, 0, 2, 0, 0, 0};
+
 static void whole_reply(void)
 {
-    static const uint8_t reply[] = {
-        0x44, 0, 0, 0, 0x19, 0, 0, 0, 7, 0, 0, 0, 9, 0, 0, 0, 0x0E, 1, 0, 0,
-        0x14, 0, 1, 0x80, 8, 0, 1, 0, 3, 0, 0, 0, 8, 0, 2, 0, 's', 'w', '0', 0,
-        0x1C, 0, 2, 0x80, 4, 0, 1, 0, 8, 0, 2, 0, 0x28, 0, 0, 0, 0x0C, 0, 4, 0, 1, 0, 0, 0, 2, 0, 0, 0};
     struct message request;
 
     fresh_box();
@@ -18,15 +19,36 @@ static void whole_reply(void)
           "whole reply: done, 68 bytes");
     check(memcmp(page, reply, sizeof reply) == 0, "whole reply: the stated bytes");
     check(page[sizeof reply] == 0xAA && page[sizeof page - 1] == 0xAA, "whole reply: the page past it stays");
-    handle_at(request.bytes, request.length, answer.next, 1, sizeof page);
-    check(answer.kind == ETHNL_END && answer.written == 0 && answer.next == request.length, "then the end");
+    handle_at(request.bytes, request.length, answer.next, 0, 1, sizeof page);
+    check(answer.kind == ETHNL_END && answer.written == 0 && answer.next == request.length && answer.next_place == 0,
+          "then the end");
+}
+
+/* The same reply in a dump of that one port; ACK, though asked for, adds nothing. */
+static void whole_dump(void)
+{
+    static const uint8_t done[] = {0x14, 0, 0, 0, 3, 0, 2, 0, 7, 0, 0, 0, 9, 0, 0, 0, 0, 0, 0, 0};
+    struct message request;
+
+    fresh_box();
+    begin_request(&request, PRIVFLAGS_GET, REQUEST | ACK | DUMP, NO_INDEX, 1);
+    end_request(&request);
+    handle(&request);
+    check(answer.kind == ETHNL_DONE && answer.written == sizeof reply && memcmp(page, reply, 6) == 0 &&
+              page[6] == MULTI && memcmp(page + 7, reply + 7, sizeof reply - 7) == 0,
+          "a dump: the whole reply with MULTI");
+    check(answer.next == 0 && answer.next_place == 1, "  the same position, place 1");
+    handle_at(request.bytes, request.length, 0, 1, 1, sizeof page);
+    check(answer.kind == ETHNL_DONE && answer.written == sizeof done && memcmp(page, done, sizeof done) == 0,
+          "  then DONE");
+    check(answer.next == request.length && answer.next_place == 0, "  past the message, place 0");
 }
 
 /* Whether the call was refused by this number, stayed at its position and wrote nothing. */
 static int is_silent(uint32_t refusal, uint64_t position)
 {
     return answer.kind == ETHNL_REFUSED && answer.refusal == refusal && answer.next == position &&
-           answer.written == 0 && page[0] == 0xAA;
+           answer.next_place == 0 && answer.written == 0 && page[0] == 0xAA;
 }
 
 static void refusals_that_write_nothing(void)
@@ -36,13 +58,13 @@ static void refusals_that_write_nothing(void)
     fresh_box();
     begin_request(&request, PRIVFLAGS_GET, REQUEST | ACK, 3, 0);
     end_request(&request);
-    handle_at(request.bytes, request.length, 0, 2, sizeof page);
+    handle_at(request.bytes, request.length, 0, 0, 2, sizeof page);
     check(is_silent(ETHNL_REFUSAL_BOX, 0), "refusal 1: admin 2");
-    handle_at(request.bytes, request.length, 0, 1, sizeof page - 1);
+    handle_at(request.bytes, request.length, 0, 0, 1, sizeof page - 1);
     check(is_silent(ETHNL_REFUSAL_PAGE, 0), "refusal 2: page of 32,767 bytes");
-    handle_at(request.bytes, request.length, request.length - 4, 1, sizeof page);
+    handle_at(request.bytes, request.length, request.length - 4, 0, 1, sizeof page);
     check(is_silent(ETHNL_REFUSAL_DATAGRAM, request.length - 4), "refusal 3: 4 bytes left");
-    handle_at(request.bytes, request.length - 1, 0, 1, sizeof page);
+    handle_at(request.bytes, request.length - 1, 0, 0, 1, sizeof page);
     check(is_silent(ETHNL_REFUSAL_MESSAGE_LEN, 0), "refusal 4: message longer than the datagram");
     request.bytes[6] = 0;
     handle(&request);
@@ -61,7 +83,7 @@ static void refusals_with_a_message(void)
     check(answer.refusal == ETHNL_REFUSAL_COMMAND && is_error(&request, 95, 0), "refusal 7: EOPNOTSUPP, no detail");
     begin_request(&request, PRIVFLAGS_SET, REQUEST, 3, 0);
     end_request(&request);
-    handle_at(request.bytes, request.length, 0, 0, sizeof page);
+    handle_at(request.bytes, request.length, 0, 0, 0, sizeof page);
     check(answer.refusal == ETHNL_REFUSAL_ADMIN && is_error(&request, 1, 0), "refusal 9: EPERM");
     begin_request(&request, DEBUG_GET, REQUEST, 4, 0);
     end_request(&request);
@@ -109,6 +131,7 @@ static void reply_and_ack(void)
 int main(void)
 {
     whole_reply();
+    whole_dump();
     refusals_that_write_nothing();
     refusals_with_a_message();
     acknowledged_set();

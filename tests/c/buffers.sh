@@ -5,6 +5,10 @@ build exact "$here/exact.c" "$lent" "$lib"
 sanitized exact-sanitized "$here/exact.c" "$lent" "$lib"
 build faults "$here/faults.c" "$lent" "$lib"
 sanitized faults-sanitized "$here/faults.c" "$lent" "$lib"
+for program in all_ports all_ports_refused; do
+    build $program "$here/$program.c" "$lent" "$lib"
+    sanitized $program-sanitized "$here/$program.c" "$lent" "$lib"
+done
 
 # in_each_way WHAT PROGRAM: from the heap, before a guard page, after one.
 in_each_way() {
@@ -24,6 +28,8 @@ caught() {
 "$root/tests/target/release/dump" --cases "$cases" --seed 1 >"$out/cases"
 in_each_way "$cases cases" exact
 in_each_way "boxes at fault" faults
+in_each_way "dumps" all_ports
+in_each_way "dumps and places that are refused" all_ports_refused
 for program in exact faults; do
     caught "$program" end 1
     caught "$program" start 0

@@ -15,6 +15,11 @@ sanitized daemon-sanitized "$root/examples/daemon.c" "$root/examples/box.c" "$li
 serves daemon
 serves daemon-sanitized
 
+# The index of each reply's port; DONE, of type 3, has none.
+all_ports="18 00 00 00 19 00 01 03 07 00 00 00 09 00 00 00 0d 01 00 00 04 00 01 80"
+check_same "daemon tells of all ports at once" "$(echo "$all_ports" | "$out/frames" pack | "$out/daemon" "$root/examples/quay.box" |
+    "$out/frames" unpack | awk '{ print $5 == "03" ? "DONE" : $29 }' | tr '\n' ' ')" "01 02 03 04 05 06 07 08 DONE "
+
 printf '\001\200\000\000' | "$out/daemon" "$here/daemon/program.box" 2>&1 | grep -q 'datagram of 32769 bytes'
 check "daemon refuses a datagram of 32,769 bytes" $?
 printf '\024\000\000\000\024' | "$out/daemon" "$here/daemon/program.box" 2>&1 | grep -q 'inside a datagram'

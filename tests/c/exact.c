@@ -102,21 +102,22 @@ static void handle_case(void)
     uint32_t family = read_u32(), admin = read_u32();
     struct bytes roll = read_bytes(), debug_names = read_bytes(), flag_names = read_bytes();
     struct bytes settings = read_bytes(), datagram = read_bytes();
-    uint64_t position = read_u64();
+    uint64_t position = read_u64(), place = read_u64();
     uint32_t page_len = read_u32(), expected_kind = read_u32(), expected_refusal = read_u32();
-    uint64_t expected_next = read_u64();
+    uint64_t expected_next = read_u64(), expected_next_place = read_u64();
     struct bytes answer = read_bytes(), settings_after = read_bytes();
     uint8_t *lent_roll = lend_bytes(ROLL, roll), *lent_debug = lend_bytes(DEBUG_NAMES, debug_names);
     uint8_t *lent_flags = lend_bytes(FLAG_NAMES, flag_names), *lent_settings = lend_bytes(SETTINGS, settings);
     uint8_t *lent_datagram = lend_bytes(DATAGRAM, datagram), *page = lend_page(page_len);
     uint32_t *kind = lend(KIND, NULL, sizeof *kind), *refusal = lend(REFUSAL, NULL, sizeof *refusal);
-    uint64_t *next = lend(NEXT, NULL, sizeof *next), *written = lend(WRITTEN, NULL, sizeof *written);
+    uint64_t *next = lend(NEXT, NULL, sizeof *next), *next_place = lend(NEXT_PLACE, NULL, sizeof *next_place);
+    uint64_t *written = lend(WRITTEN, NULL, sizeof *written);
 
     ethnl_handle(family, admin, lent_roll, roll.length, lent_debug, debug_names.length, lent_flags,
-                 flag_names.length, lent_settings, settings.length, lent_datagram, datagram.length, position, page,
-                 page_len, kind, refusal, next, written);
+                 flag_names.length, lent_settings, settings.length, lent_datagram, datagram.length, position, place,
+                 page, page_len, kind, refusal, next, next_place, written);
     judge(*kind == expected_kind && *refusal == expected_refusal && *next == expected_next &&
-              *written == answer.length && page_holds(page, page_len, answer) &&
+              *next_place == expected_next_place && *written == answer.length && page_holds(page, page_len, answer) &&
               same(lent_settings, settings_after) && same(lent_roll, roll) && same(lent_debug, debug_names) &&
               same(lent_flags, flag_names) && same(lent_datagram, datagram),
           "handle");

@@ -13,7 +13,8 @@ enum { PORT_INDEX = 1, PORT_NAME = 2, PORT_FLAGS = 3 };
 enum { NOMASK = 1, SIZE = 2, BITS = 3, VALUE = 4, MASK = 5 };
 enum { BIT = 1, BIT_INDEX = 1, BIT_NAME = 2, BIT_VALUE = 3 };
 enum { DEBUG_GET = 7, DEBUG_SET = 8, PRIVFLAGS_GET = 13, PRIVFLAGS_SET = 14 };
-enum { REQUEST = 1, ACK = 4, DUMP = 0x300 };
+enum { REQUEST = 1, MULTI = 2, ACK = 4, DUMP = 0x300 };
+enum { CAPPED = 0x100, ACK_TLVS = 0x200, OFFS = 2, MISS_TYPE = 5 };
 
 /* A test of long messages asks for more. */
 #ifndef MESSAGE_ROOM
@@ -97,12 +98,9 @@ static inline void put_bit(struct message *message, int64_t index, const char *b
     end_nest(message, nest);
 }
 
-/* Both headers, and the header nest that names a port by its index. */
-static inline void begin_request(struct message *message, uint8_t command, uint16_t flags, uint32_t port,
-                                 uint32_t header_flags)
+/* Both headers; `end_request` fills in the length. */
+static inline void begin_message(struct message *message, uint8_t command, uint16_t flags)
 {
-    size_t nest;
-
     message->length = 0;
     put_u32(message, 0);
     put_u16(message, 25);
@@ -110,8 +108,18 @@ static inline void begin_request(struct message *message, uint8_t command, uint1
     put_u32(message, 7);
     put_u32(message, 9);
     put(message, (uint8_t[4]){command, 1, 0, 0}, 4);
+}
+
+/* Both headers, and the header nest, with a port's index where it is given. */
+static inline void begin_request(struct message *message, uint8_t command, uint16_t flags, int64_t port,
+                                 uint32_t header_flags)
+{
+    size_t nest;
+
+    begin_message(message, command, flags);
     nest = begin_nest(message, HEADER);
-    number(message, PORT_INDEX, port);
+    if (port != NO_INDEX)
+        number(message, PORT_INDEX, (uint32_t)port);
     if (header_flags != 0)
         number(message, PORT_FLAGS, header_flags);
     end_nest(message, nest);
@@ -122,6 +130,22 @@ static inline void end_request(struct message *message)
     uint32_t length = (uint32_t)message->length;
 
     memcpy(message->bytes, &length, 4);
+}
+
+/* The ACK or error message for a request: errno, its header, a detail of this type, or none where that is 0. */
+static inline struct message error_of(const uint8_t *request, int32_t errno_value, uint16_t detail, uint32_t value)
+{
+    struct message error = {.length = 0};
+
+    put_u32(&error, detail != 0 ? 44 : 36);
+    put_u16(&error, 2);
+    put_u16(&error, detail != 0 ? CAPPED | ACK_TLVS : CAPPED);
+    put(&error, request + 8, 8);
+    put_u32(&error, (uint32_t)-errno_value);
+    put(&error, request, 16);
+    if (detail != 0)
+        number(&error, detail, value);
+    return error;
 }
 
 #endif

@@ -22,34 +22,27 @@ static inline void fresh_box(void)
     memcpy(settings, (uint32_t[4]){0, 0, 1, 2}, sizeof settings);
 }
 
-static inline void handle_at(const void *datagram, size_t length, uint64_t position, uint32_t admin, size_t page_len)
+static inline void handle_at(const void *datagram, size_t length, uint64_t position, uint64_t place, uint32_t admin,
+                             size_t page_len)
 {
     struct ethnl_box box = {25, admin, roll, sizeof roll, debug_names, sizeof debug_names, flag_names,
                             sizeof flag_names, (uint8_t *)settings, sizeof settings};
 
     memset(page, 0xAA, sizeof page);
-    answer = ethnl_box_handle(&box, datagram, length, position, 0, page, page_len);
+    answer = ethnl_box_handle(&box, datagram, length, position, place, page, page_len);
 }
 
 static inline void handle(const struct message *message)
 {
-    handle_at(message->bytes, message->length, 0, 1, sizeof page);
+    handle_at(message->bytes, message->length, 0, 0, 1, sizeof page);
 }
 
-/* Whether the page has an ACK or error message: errno, the quoted header, an OFFS detail or none. */
+/* Whether the page has an ACK or error message, with OFFS or no detail, and no place is handed back. */
 static inline int is_error(const struct message *request, int32_t errno_value, uint32_t offset)
 {
-    struct message error = {.length = 0};
+    struct message error = error_of(request->bytes, errno_value, offset != 0 ? OFFS : 0, offset);
 
-    put_u32(&error, offset != 0 ? 44 : 36);
-    put_u16(&error, 2);
-    put_u16(&error, offset != 0 ? 0x300 : 0x100);
-    put(&error, request->bytes + 8, 8);
-    put_u32(&error, (uint32_t)-errno_value);
-    put(&error, request->bytes, 16);
-    if (offset != 0)
-        number(&error, 2, offset);
-    return answer.written == error.length && memcmp(page, error.bytes, error.length) == 0;
+    return answer.written == error.length && memcmp(page, error.bytes, error.length) == 0 && answer.next_place == 0;
 }
 
 /* Contents of a compact bitset. */

@@ -11,7 +11,7 @@ struct row {
 
 static const struct row refusals[] = {
     {0, "no refusal"},
-    {ETHNL_REFUSAL_BOX, "box"},
+    {ETHNL_REFUSAL_BOX, "breaks a rule, or the place"},
     {ETHNL_REFUSAL_PAGE, "page"},
     {ETHNL_REFUSAL_DATAGRAM, "datagram is too long"},
     {ETHNL_REFUSAL_MESSAGE_LEN, "message's length"},

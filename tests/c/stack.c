@@ -104,6 +104,15 @@ static void get(const char *what, uint32_t header_flags, uint32_t expected)
     measure(what, handle, expected);
 }
 
+static void dump(const char *what, uint64_t at)
+{
+    begin_request(&request, PRIVFLAGS_GET, REQUEST | ACK | DUMP, NO_INDEX, 0);
+    end_request(&request);
+    place = at;
+    measure(what, handle, 0);
+    place = 0;
+}
+
 static void set(const char *what, uint32_t expected)
 {
     begin_request(&request, PRIVFLAGS_SET, REQUEST | ACK, LAST, 0);
@@ -132,6 +141,8 @@ static void requests(void)
     get("a verbose GET", 0, 0);
     get("a compact GET", 1, 0);
     get("a GET with a wrong header flag", 4, ETHNL_REFUSAL_HEADER_FLAGS);
+    dump("the last port of a dump", LAST - 1);
+    dump("the DONE of a dump", LAST);
     lists();
     bitmap_contents();
     set("a SET of bitmaps", 0);
