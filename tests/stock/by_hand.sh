@@ -41,6 +41,13 @@ message() {
     printf '190001000700000009000000%02x010000%s\n' "$1" "$2"
 }
 
+# in_place REQUEST: what takes the place of the tool's requests from now on, up to `unset ETHNL_INSTEAD`.
+in_place() {
+    echo "$1" | "$out/frames" pack | tail -c +5 >"$out/instead"
+    ETHNL_INSTEAD=$out/instead
+    export ETHNL_INSTEAD
+}
+
 # told SET: the port that `form` tells, and the form or the refusal.
 told() {
     echo "$1" | "$out/frames" pack | "$out/form" "$ETHNL_BOX" | cut -d' ' -f1,4-

@@ -1,13 +1,21 @@
 #include "family.h"
 
 #include <linux/genetlink.h>
+#include <stdlib.h>
 
 /*
- * Commands that are announced: every one that a tool may know (ethtool 6.1 knows 37, and passes over the rest). For a
- * command that is not announced the tool turns to the cards of the machine that it runs on. A dump of the private flags
- * is announced, so that it is asked for.
+ * Commands that are announced, alone and as dumps: every one that a tool may know (ethtool 6.1 knows 37, and passes over
+ * the rest). For a command that is not announced the tool turns to the cards of the machine that it runs on.
  */
 enum { FIRST_COMMAND = 1, LAST_COMMAND = 127 };
+
+/* What can be asked for by a command; a test may have the dump of one left out. */
+static uint32_t capabilities(uint16_t command)
+{
+    const char *without = getenv("ETHNL_NO_DUMP");
+
+    return without != NULL && atoi(without) == command ? GENL_CMD_CAP_DO : GENL_CMD_CAP_DO | GENL_CMD_CAP_DUMP;
+}
 
 static void put_commands(struct message *message)
 {
@@ -16,7 +24,7 @@ static void put_commands(struct message *message)
     for (uint16_t command = FIRST_COMMAND; command <= LAST_COMMAND; command++) {
         size_t one = begin_nest(message, command);
         number(message, CTRL_ATTR_OP_ID, command);
-        number(message, CTRL_ATTR_OP_FLAGS, GENL_CMD_CAP_DO | (command == PRIVFLAGS_GET ? GENL_CMD_CAP_DUMP : 0));
+        number(message, CTRL_ATTR_OP_FLAGS, capabilities(command));
         end_nest(message, one);
     }
     end_nest(message, all);

@@ -23,13 +23,11 @@ carries INDEX -s quay1 wol pg
 instead() {
     bit=$(put 1 "$(u32 "$2")")$(named "$3")$(put 3 "")
     request=$(message "$1" "$(nest 1 "$(named quay1)")$(nest 2 "$(nest 3 "$(nest 1 "$bit")")")")
-    echo "$request" | "$out/frames" pack | tail -c +5 >"$out/instead"
+    in_place "$request"
     echo "in the tool's place: command $1, index $2 with the name $3"
 }
 
 begin "$root/examples/quay.box"
-ETHNL_INSTEAD=$out/instead
-export ETHNL_INSTEAD
 instead 14 2 storm-guard
 expect 0 "" --set-priv-flags quay1 storm-guard on
 check "its normal form is that of the bit" "$(told "$request")" "quay1 form $(compact 4 4)"

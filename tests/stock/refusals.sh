@@ -22,9 +22,6 @@ expect_refusal 16 75 "netlink error: No such device" -s quay9 msglvl 1
 expect_refusal "7 7 7 16 7" 75 "netlink error: No such device
 No data available" quay9
 
-# 8: all ports at once.
-expect_refusal 8 1 "netlink error: Operation not supported" --show-priv-flags '*'
-
 # A first name of hexadecimal digits alone is sent as a number without a mask, which means the whole set (20 here).
 expect_refusal 20 1 "netlink error: Operation not supported" --set-priv-flags quay1 fec on
 

@@ -1,14 +1,19 @@
 /*
  * Preloaded into the stock ethtool: its generic netlink socket ends in wire_end.c instead of the kernel. The other ways
  * to a network card, which lead to those of the machine that the tool runs on, are closed: ioctl and rtnetlink are
- * refused as not supported. Everything else of the tool is left alone.
+ * refused as not supported. Everything else of the tool is left alone. As from the kernel, the first message of a dump is
+ * there when the request has been sent, and each further one is made when the tool reads it.
  *
  *   ETHNL_BOX       the box, in the format of examples/quay.box
- *   ETHNL_STATE     its settings: read if the file is there, written after each datagram
+ *   ETHNL_STATE     its settings: read before each call of the library and written after it, so that several tools at
+ *                   once have one box
  *   ETHNL_SENT      gets each ethtool datagram that is sent, its 32-bit length before it
  *   ETHNL_REFUSALS  gets the number of each refusal, one a line
  *   ETHNL_OUTSIDE   gets a line "ioctl" or "rtnetlink" for each time that the machine's own cards would have been asked
  *   ETHNL_INSTEAD   a request that is sent in the place of the tool's, with the tool's message header but for the length
+ *   ETHNL_HOLD      a fifo that holds a dump: before each place but the first it gets a line with the place, and what is
+ *                   written to it then lets the dump go on
+ *   ETHNL_NO_DUMP   the number of a command whose dump is not announced
  *   ETHNL_LOSE      if set, the answers are lost; the tool, which would wait for ever, gets the error of a time limit
  */
 #define _GNU_SOURCE

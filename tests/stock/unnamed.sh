@@ -38,3 +38,13 @@ expect 0 "" -s quay.with-15.by msglvl 0x7
 expect 0 "Settings for quay.with-15.by:
         Current message level: 0x00000001 (1)
                                drv" quay.with-15.by
+
+# Of all ports at once, one that has a set bit without a name is left out; the tool says nothing of it, and ends with 0.
+sed 's/^port .*/port 3 kai3 flags 0\nport 2 kai2 flags 0 1\nport 1 kai1 flags 39/' "$out/unnamed.box" >"$out/left_out.box"
+begin "$out/left_out.box"
+expect 0 "
+Private flags for kai3:
+first: on
+
+Private flags for kai1:
+fortieth: on" --show-priv-flags '*'

@@ -63,7 +63,22 @@ expect 0 "Settings for quay1:
 # Notifications are not announced.
 expect 1 "multicast group 'monitor' not found" --monitor quay1
 expect 1 "multicast group 'monitor' not found" --cable-test quay1
-expect 1 "subcommand does not support wildcard dump" -k '*'
+
+# All ports at once, of what is not served: a dump that is refused (7), or nothing at all.
+for words in -a -k -l -T --show-fec; do
+    refused 1 $words '*'
+done
+
+# asks_nobody OUTPUT WORDS..: the tool refuses by itself.
+asks_nobody() {
+    rm -f "$ETHNL_OUTSIDE" "$ETHNL_SENT"
+    expect 1 "$@"
+    check "  asks nobody" "$(ls "$ETHNL_OUTSIDE" "$ETHNL_SENT" 2>/dev/null)" ""
+}
+asks_nobody "subcommand does not support wildcard dump" -K '*' gro on
+asks_nobody "ethtool netlink support for subcommand missing, wildcard dump not supported" -i '*'
+asks_nobody "ioctl-only request, wildcard dump not supported" -S '*'
+held_back rtnetlink 1 "netlink error: Operation not supported" -P '*'
 
 held_back ioctl 71 "Cannot get driver information: Operation not supported" -i quay1
 held_back ioctl 72 "Cannot get driver information: Operation not supported" -d quay1

@@ -4,13 +4,24 @@
 #include "family.h"
 
 #include <errno.h>
+#include <fcntl.h>
 #include <linux/genetlink.h>
 #include <linux/netlink.h>
 #include <stdio.h>
 #include <stdlib.h>
 #include <string.h>
+#include <sys/file.h>
 
 static struct box box;
+
+/* The datagram that is being answered, and the position and place of what comes next. */
+static struct {
+    uint8_t bytes[ETHNL_DATAGRAM_MAX];
+    size_t length;
+    uint64_t position, place;
+    int unfinished;
+} under_way;
+
 static uint8_t queue[4 * ETHNL_PAGE_MIN];
 static size_t queue_start, queue_end;
 
@@ -36,26 +47,32 @@ static void tell_fault(void)
 void open_box(void)
 {
     const char *path = getenv("ETHNL_BOX");
-    FILE *state = open_named("ETHNL_STATE", "rb");
 
     if (path == NULL || box_read(&box, path) != 0) {
         fputs("shim: no box\n", stderr);
         exit(99);
     }
     tell_fault();
-    if (state == NULL)
-        return;
-    if (fread(box.settings, 1, box.settings_len, state) != box.settings_len)
-        fputs("shim: the state file is too short\n", stderr);
-    fclose(state);
 }
 
-static void keep_settings(void)
+/* Reads the settings as they are now, and keeps other tools off them; null where they are in no file. */
+static FILE *take_settings(void)
 {
-    FILE *state = open_named("ETHNL_STATE", "wb");
+    const char *path = getenv("ETHNL_STATE");
+    int fd = path != NULL ? open(path, O_RDWR | O_CREAT, 0666) : -1;
+    FILE *state = fd >= 0 && flock(fd, LOCK_EX) == 0 ? fdopen(fd, "r+b") : NULL;
+    size_t length = state != NULL ? fread(box.settings, 1, box.settings_len, state) : 0;
 
+    if (length != 0 && length != box.settings_len)
+        fputs("shim: the state file is too short\n", stderr);
+    return state;
+}
+
+static void give_back_settings(FILE *state)
+{
     if (state == NULL)
         return;
+    rewind(state);
     fwrite(box.settings, 1, box.settings_len, state);
     fclose(state);
 }
@@ -105,21 +122,61 @@ static void queue_answer(const void *bytes, size_t length)
     queue_end += length;
 }
 
-/* Gives the datagram to the library, message by message. */
-static void serve(const uint8_t *datagram, size_t length)
+/* Where a dump is to be held, tells the fifo which place comes next, and waits for a word from it. */
+static void hold(void)
+{
+    FILE *fifo = under_way.place != 0 ? open_named("ETHNL_HOLD", "w") : NULL;
+
+    if (fifo == NULL)
+        return;
+    fprintf(fifo, "%lu\n", (unsigned long)under_way.place);
+    fclose(fifo);
+    fifo = open_named("ETHNL_HOLD", "r");
+    getc(fifo);
+    fclose(fifo);
+}
+
+/* One call of the library, on the settings as they are at this moment. */
+static struct ethnl_answer call(uint8_t *page)
+{
+    FILE *state = take_settings();
+    struct ethnl_answer answer = box_handle(&box, under_way.bytes, under_way.length, under_way.position,
+                                            under_way.place, page);
+
+    give_back_settings(state);
+    return answer;
+}
+
+/* Answers the datagram up to its end, a refusal that nothing can follow, or a message that a dump goes on after. */
+static void serve(void)
 {
     static uint8_t page[ETHNL_PAGE_MIN];
     struct ethnl_answer answer;
 
-    for (uint64_t position = 0;; position = answer.next) {
-        answer = box_handle(&box, datagram, length, position, page);
+    do {
+        hold();
+        answer = call(page);
         if (answer.kind == ETHNL_REFUSED)
             record_refusal(answer.refusal);
-        if (answer.kind == ETHNL_END || (answer.kind == ETHNL_REFUSED && answer.refusal <= ETHNL_LAST_SILENT))
-            return;
         if (getenv("ETHNL_LOSE") == NULL)
             queue_answer(page, answer.written);
+        under_way.position = answer.next;
+        under_way.place = answer.next_place;
+        under_way.unfinished = answer.kind != ETHNL_END &&
+                               !(answer.kind == ETHNL_REFUSED && answer.refusal <= ETHNL_LAST_SILENT);
+    } while (under_way.unfinished && under_way.place == 0);
+}
+
+static void begin_serving(const void *datagram, size_t length)
+{
+    if (length > sizeof under_way.bytes || under_way.unfinished) {
+        fputs("shim: a datagram too long, or in the middle of a dump\n", stderr);
+        exit(99);
     }
+    memcpy(under_way.bytes, datagram, length);
+    under_way.length = length;
+    under_way.position = under_way.place = 0;
+    serve();
 }
 
 /* Reads the request that takes the place of the tool's; the header's type, flags, sequence and port id stay the tool's. */
@@ -154,8 +211,7 @@ void take_datagram(const void *datagram, size_t length)
         length = instead_length;
     }
     record(datagram, (uint32_t)length);
-    serve(datagram, length);
-    keep_settings();
+    begin_serving(datagram, length);
 }
 
 void refuse_datagram(const void *datagram, size_t length)
@@ -173,6 +229,8 @@ long next_message(void *buffer, size_t room)
 {
     uint32_t length;
 
+    while (queue_start == queue_end && under_way.unfinished)
+        serve();
     if (queue_start == queue_end)
         return -1;
     memcpy(&length, queue + queue_start, sizeof length);

@@ -5,10 +5,10 @@
 #include <stddef.h>
 #include <stdint.h>
 
-/* Reads the box and its settings; ends the program if there is no box. */
+/* Reads the box; ends the program if there is none. */
 void open_box(void);
 
-/* Takes a datagram that the tool sends, and queues the answers to it. */
+/* Takes a datagram that the tool sends, and queues the answers to it, of a dump the first. */
 void take_datagram(const void *datagram, size_t length);
 
 /* Takes a datagram that would have gone to the machine's own cards: not supported. */
@@ -17,7 +17,7 @@ void refuse_datagram(const void *datagram, size_t length);
 /* Writes down that the machine's own cards would have been asked, and how. */
 void record_outside(const char *how);
 
-/* Hands out the next message of the queue into a buffer; -1 if there is none. */
+/* Hands out the next message into a buffer, the next of a dump where nothing is queued; -1 if there is none. */
 long next_message(void *buffer, size_t room);
 
 #endif
