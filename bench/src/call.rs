@@ -3,6 +3,7 @@
 use crate::lent::Lent;
 use crate::library;
 use crate::requests::{self, Told, PRIVFLAGS_GET, PRIVFLAGS_SET};
+use reader::Answer;
 use std::hint::black_box;
 
 #[derive(Clone, Copy, PartialEq, Eq)]
@@ -13,6 +14,10 @@ pub enum Made {
 
 enum Input {
     Message(Vec<u8>),
+    /// Several datagrams of one message, one after the other.
+    Messages(Vec<Vec<u8>>),
+    /// A message that is answered place by place.
+    Dump(Vec<u8>),
     /// A position at the datagram's end: the answer comes right after the box check.
     End,
     Contents(Vec<u8>),
@@ -37,7 +42,7 @@ impl Call {
     }
 
     fn set(name: &str, ports: usize, bits: usize, contents: &[u8]) -> Self {
-        let message = requests::request(PRIVFLAGS_SET, ports - 1, false, Some(contents));
+        let message = requests::request(PRIVFLAGS_SET, Some(ports - 1), false, Some(contents));
         Self::new(name, ports, bits, Input::Message(message))
     }
 
@@ -56,13 +61,26 @@ impl Call {
     }
 
     pub fn compact_get(ports: usize, bits: usize) -> Self {
-        let message = requests::request(PRIVFLAGS_GET, ports - 1, true, None);
+        let message = requests::request(PRIVFLAGS_GET, Some(ports - 1), true, None);
         Self::new("compact GET", ports, bits, Input::Message(message))
     }
 
     pub fn verbose_get(ports: usize, bits: usize) -> Self {
-        let message = requests::request(PRIVFLAGS_GET, ports - 1, false, None);
+        let message = requests::request(PRIVFLAGS_GET, Some(ports - 1), false, None);
         Self::new(&format!("verbose GET of {bits} bits"), ports, bits, Input::Message(message))
+    }
+
+    /// A whole dump: a call for each port, and one for DONE.
+    pub fn dump(compact: bool, ports: usize, bits: usize) -> Self {
+        let message = requests::request(PRIVFLAGS_GET, None, compact, None);
+        Self::new(&format!("{} dump of {ports} ports", form(compact)), ports, bits, Input::Dump(message))
+    }
+
+    /// What a dump takes the place of: a GET for each port.
+    pub fn gets(compact: bool, ports: usize, bits: usize) -> Self {
+        let get = |port| requests::request(PRIVFLAGS_GET, Some(port), compact, None);
+        let messages = (0..ports).map(get).collect();
+        Self::new(&format!("{ports} {} GETs, one for each port", form(compact)), ports, bits, Input::Messages(messages))
     }
 
     /// The check of one list of names of 16 bytes, and next to nothing else: the normal form of a bitset of no bits.
@@ -87,7 +105,8 @@ impl Call {
     /// Bytes of the datagram or contents.
     pub fn input_bytes(&self) -> usize {
         match &self.input {
-            Input::Message(bytes) | Input::Contents(bytes) => bytes.len(),
+            Input::Message(bytes) | Input::Dump(bytes) | Input::Contents(bytes) => bytes.len(),
+            Input::Messages(datagrams) => datagrams.iter().map(Vec::len).sum(),
             Input::End | Input::Parts(_) => 0,
         }
     }
@@ -95,24 +114,24 @@ impl Call {
     /// The kind that an answered message has, the number of accepted contents, or the part at fault.
     pub fn expected(&self) -> u32 {
         match &self.input {
-            Input::Message(_) => reader::DONE,
+            Input::Message(_) | Input::Messages(_) | Input::Dump(_) => reader::DONE,
             Input::End => reader::END,
             Input::Contents(_) => 0,
             Input::Parts(part) => *part,
         }
     }
 
-    /// Makes the call; the kind (or number, or part) and the bytes written (or the offset).
+    /// Makes the call, or all of them; the last kind (or number, or part) and the bytes written in all (or the offset).
     #[inline(never)]
     pub fn make(&mut self, made: Made) -> (u32, u64) {
         let Call { lent, input, page, .. } = self;
         match (black_box(&*input), made) {
             (Input::Contents(contents), Made::Library) => library::normalise(contents, &lent.flag_names, page),
             (Input::Contents(contents), Made::Reader) => reader::normalise(contents, &lent.flag_names, page),
-            (Input::Message(datagram), Made::Library) => library::handle(lent, datagram, 0, page),
-            (Input::Message(datagram), Made::Reader) => read(lent, datagram, page),
-            (Input::End, Made::Library) => library::handle(lent, &[], 0, page),
-            (Input::End, Made::Reader) => read(lent, &[], page),
+            (Input::Message(datagram), made) => told(&handle(made, lent, datagram, 0, page)),
+            (Input::Messages(datagrams), made) => each(made, lent, datagrams, page),
+            (Input::Dump(datagram), made) => whole_dump(made, lent, datagram, page),
+            (Input::End, made) => told(&handle(made, lent, &[], 0, page)),
             (Input::Parts(_), Made::Library) => library::check_box(lent),
             (Input::Parts(_), Made::Reader) => {
                 reader::check_box(25, 1, &lent.roll, &lent.debug_names, &lent.flag_names, &lent.settings)
@@ -121,8 +140,40 @@ impl Call {
     }
 }
 
-fn read(lent: &mut Lent, datagram: &[u8], page: &mut [u8]) -> (u32, u64) {
-    let Lent { roll, debug_names, flag_names, settings } = lent;
-    let answer = reader::handle(25, 1, roll, debug_names, flag_names, settings, datagram, 0, page);
+fn form(compact: bool) -> &'static str {
+    if compact {
+        "compact"
+    } else {
+        "verbose"
+    }
+}
+
+fn told(answer: &Answer) -> (u32, u64) {
     (answer.kind, answer.written)
+}
+
+/// The answer to a datagram's first message.
+fn handle(made: Made, lent: &mut Lent, datagram: &[u8], place: u64, page: &mut [u8]) -> Answer {
+    let Lent { roll, debug_names, flag_names, settings } = lent;
+    match made {
+        Made::Library => library::handle(lent, datagram, place, page),
+        Made::Reader => reader::handle(25, 1, roll, debug_names, flag_names, settings, datagram, 0, place, page),
+    }
+}
+
+fn each(made: Made, lent: &mut Lent, datagrams: &[Vec<u8>], page: &mut [u8]) -> (u32, u64) {
+    let answers = datagrams.iter().map(|datagram| told(&handle(made, lent, datagram, 0, page)));
+    answers.fold((0, 0), |(_, all), (kind, written)| (kind, all + written))
+}
+
+fn whole_dump(made: Made, lent: &mut Lent, datagram: &[u8], page: &mut [u8]) -> (u32, u64) {
+    let (mut place, mut all) = (0, 0);
+    loop {
+        let answer = handle(made, lent, datagram, place, page);
+        all += answer.written;
+        place = answer.next_place;
+        if place == 0 {
+            return (answer.kind, all);
+        }
+    }
 }

@@ -1,6 +1,7 @@
 //! The linked library behind its C interface (`include/ethnl.h`).
 
 use crate::lent::Lent;
+use reader::Answer;
 
 extern "C" {
     fn ethnl_handle(
@@ -17,11 +18,13 @@ extern "C" {
         datagram: *const u8,
         datagram_len: usize,
         position: u64,
+        place: u64,
         page: *mut u8,
         page_len: usize,
         kind: *mut u32,
         refusal: *mut u32,
         next: *mut u64,
+        next_place: *mut u64,
         written: *mut u64,
     );
 
@@ -50,9 +53,9 @@ extern "C" {
     ) -> u32;
 }
 
-/// Kind and bytes written.
-pub fn handle(lent: &mut Lent, datagram: &[u8], position: u64, page: &mut [u8]) -> (u32, u64) {
-    let (mut kind, mut refusal, mut next, mut written) = (0, 0, 0, 0);
+/// The answer to a datagram's first message.
+pub fn handle(lent: &mut Lent, datagram: &[u8], place: u64, page: &mut [u8]) -> Answer {
+    let mut answer = Answer { kind: 0, refusal: 0, next: 0, next_place: 0, written: 0 };
     // SAFETY: each pointer comes from a live slice or place and is followed by that slice's length.
     unsafe {
         ethnl_handle(
@@ -68,16 +71,18 @@ pub fn handle(lent: &mut Lent, datagram: &[u8], position: u64, page: &mut [u8]) 
             lent.settings.len(),
             datagram.as_ptr(),
             datagram.len(),
-            position,
+            0,
+            place,
             page.as_mut_ptr(),
             page.len(),
-            &mut kind,
-            &mut refusal,
-            &mut next,
-            &mut written,
+            &mut answer.kind,
+            &mut answer.refusal,
+            &mut answer.next,
+            &mut answer.next_place,
+            &mut answer.written,
         );
     }
-    (kind, written)
+    answer
 }
 
 /// The number and the bytes written.

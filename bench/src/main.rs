@@ -21,8 +21,8 @@ fn main() -> ExitCode {
     }
     let (mut compared, mut growing) = (compared(), growing());
     let mut distinct = [64, 512].map(Call::list_check);
-    let mut parts = parts();
-    let calls = compared.iter_mut().chain(&mut growing).chain(&mut distinct).chain(&mut parts);
+    let (mut dumps, mut parts) = (dumps(), parts());
+    let calls = compared.iter_mut().chain(&mut growing).chain(&mut distinct).chain(&mut dumps).chain(&mut parts);
     if let Some(name) = calls.into_iter().find_map(differs) {
         eprintln!("bench: library and reader differ: {name}");
         return ExitCode::FAILURE;
@@ -30,6 +30,7 @@ fn main() -> ExitCode {
     println!("Medians of {runs} runs, nanoseconds per call.\n");
     tables::compared(&mut compared, runs);
     tables::distinct(&mut distinct, runs);
+    tables::dumps(&mut dumps, runs);
     tables::growth(&mut growing, runs);
     tables::parts(&mut parts, runs);
     ExitCode::SUCCESS
@@ -49,6 +50,12 @@ fn compared() -> Vec<Call> {
     };
     let checks = [(1, 40), (1, 512), (8, 512), (64, 512)].map(|(ports, bits)| Call::box_check(ports, bits));
     over(1, 40).into_iter().chain(over(64, 512)).chain(checks).collect()
+}
+
+/// All ports of the largest box, one by one and at once.
+fn dumps() -> Vec<Call> {
+    let over = |compact| [Call::gets(compact, 64, 512), Call::dump(compact, 64, 512)];
+    [false, true].into_iter().flat_map(over).collect()
 }
 
 /// The largest box judged part by part: right, and with a fault that is found soon or late.

@@ -14,6 +14,16 @@ pub struct Times {
     pub reader: f64,
     /// The median of the runs' ratios.
     pub ratio: f64,
+    /// Library and reader in each run.
+    runs: Vec<(f64, f64)>,
+}
+
+impl Times {
+    /// How many times as long as another call of the same runs, by the library and by the reader.
+    pub fn against(&self, other: &Times) -> (f64, f64) {
+        let pairs = || self.runs.iter().zip(&other.runs);
+        (median(pairs().map(|(own, others)| own.0 / others.0)), median(pairs().map(|(own, others)| own.1 / others.1)))
+    }
 }
 
 fn time(call: &mut Call, made: Made, times: u32) -> Duration {
@@ -55,13 +65,14 @@ pub fn measure(calls: &mut [Call], runs: usize) -> Vec<Times> {
             runs.push(run(call));
         }
     }
-    measured.iter().map(|runs| times(runs)).collect()
+    measured.into_iter().map(times).collect()
 }
 
-fn times(runs: &[(f64, f64)]) -> Times {
+fn times(runs: Vec<(f64, f64)>) -> Times {
     Times {
         library: median(runs.iter().map(|run| run.0)),
         reader: median(runs.iter().map(|run| run.1)),
         ratio: median(runs.iter().map(|run| run.0 / run.1)),
+        runs,
     }
 }

@@ -23,9 +23,13 @@ fn name(kind: u16, text: &str) -> Vec<u8> {
     attribute(kind, &[text.as_bytes(), &[0]].concat())
 }
 
-/// A request about the flags of a port, by name and with an ACK, as the stock tool sends it.
-pub fn request(command: u8, port: usize, compact: bool, bitset: Option<&[u8]>) -> Vec<u8> {
-    let mut header = name(2, &port_name(port));
+/// REQUEST and ACK, as the stock tool sends every request, and with both DUMP bits.
+const ONE_PORT: u16 = 0x005;
+const ALL_PORTS: u16 = 0x305;
+
+/// A request about the flags of a port, by name, or of all ports where none is given.
+pub fn request(command: u8, port: Option<usize>, compact: bool, bitset: Option<&[u8]>) -> Vec<u8> {
+    let mut header = port.map_or(Vec::new(), |port| name(2, &port_name(port)));
     if compact {
         header.extend(number(3, 1));
     }
@@ -35,7 +39,9 @@ pub fn request(command: u8, port: usize, compact: bool, bitset: Option<&[u8]>) -
         body.extend(attribute(2 | NESTED, contents));
     }
     let mut message = (16 + body.len() as u32).to_le_bytes().to_vec();
-    message.extend(*b"\x19\0\x05\0\x07\0\0\0\x09\0\0\0");
+    message.extend([25, 0]);
+    message.extend(if port.is_some() { ONE_PORT } else { ALL_PORTS }.to_le_bytes());
+    message.extend(*b"\x07\0\0\0\x09\0\0\0");
     message.extend(body);
     message
 }

@@ -6,7 +6,7 @@ use crate::measure::{measure, Times};
 fn row(call: &Call, times: &Times) -> String {
     let ports = call.lent.roll.len() / 21;
     let names = call.lent.flag_names.len() / 32;
-    let Times { library, reader, ratio } = times;
+    let Times { library, reader, ratio, .. } = times;
     format!("| {} | {ports} | {names} | {} | {library:.0} | {reader:.0} | {ratio:.2} |", call.name, call.input_bytes())
 }
 
@@ -48,6 +48,19 @@ pub fn distinct(calls: &mut [Call], runs: usize) {
     if let [few, .., many] = &times[..] {
         println!("The most against the fewest: {:.2} times.\n", many.library / few.library);
     }
+}
+
+/// What a whole dump costs against a GET for each port; the calls come in pairs.
+pub fn dumps(calls: &mut [Call], runs: usize) {
+    println!("All ports, one by one and at once, nanoseconds for all calls together:\n");
+    let times = table(calls, runs);
+    for (pair, calls) in times.chunks(2).zip(calls.chunks(2)) {
+        if let ([gets, dump], [_, call]) = (pair, calls) {
+            let (library, reader) = dump.against(gets);
+            println!("A {} against the GETs: library {library:.3} times, reader {reader:.3}.", call.name);
+        }
+    }
+    println!();
 }
 
 /// How the cost grows with names, ports and the datagram's length.
