@@ -1,6 +1,8 @@
 //! Requests and boxes put together by hand.
 #![allow(dead_code)]
 
+pub mod dumps;
+
 use reader::Answer;
 
 pub const NOMASK: u16 = 1;
