@@ -10,6 +10,7 @@ fn whole(setup: &mut Setup, request: &[u8]) -> Vec<Vec<u8>> {
     let (mut position, mut place) = (0, 0);
     let mut messages = Vec::new();
     while position < request.len() as u64 {
+        assert!(messages.len() < 65, "more messages than 64 ports and DONE");
         let (answer, bytes) = shown(setup, request, position, place);
         assert_eq!((answer.kind, answer.refusal), (DONE, 0));
         messages.push(bytes);
