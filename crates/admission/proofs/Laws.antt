@@ -5,7 +5,7 @@ use mathlib.Core.List.{List}
 use mathlib.Core.Bool.{Bool, true, false, _&&_, not, cond}
 use mathlib.Core.Logic.{⊎-elim}
 use lib.ListN.{length}
-use lib.Dec.{ltb}
+use lib.Dec.{ltb, eqb}
 use native.Mathlib.Omega.{arith}
 use borrow.Author.Tests.{lt-ltb, le-ltb, eq-eqb, ne-eqb}
 use Rattle.basics.specs.Numbers.{byteAt}
@@ -19,7 +19,7 @@ use Rattle.netlink_headers.specs.declared.headers.MessageHeader.{MessageHeader}
 use Rattle.netlink_headers.proofs.headers.Laws.{generic-short, generic-whole}
 use Rattle.refusal.specs.declared.Refusal.the-variants as R
 use Rattle.admission.specs.Commands.{commandOf}
-use Rattle.admission.specs.Admission.{notPermitted, permitted, onCommand, admitted}
+use Rattle.admission.specs.Admission.{isDump, noDump, notPermitted, permitted, onCommand, admitted}
 use Rattle.admission.specs.declared.commands.Command.{Command}
 use Rattle.admission.specs.declared.commands.CommandRead.{CommandRead}
 use Rattle.admission.specs.declared.commands.CommandRead.the-variants.{Listed, Unlisted}
@@ -37,21 +37,39 @@ module _ (command : Command) (admin : Bool) where
 
 pub ruleset permission-laws = (permission-change, permission-get)
 
+pub dump-is : (h : MessageHeader) → eqb (h .flags / 256 % 4) 3 ≡ isDump h
+unfolding isDump
+dump-is h = refl
+
+module _ (h : MessageHeader) (command : Command) where
+  pub asked-dump : (b : Bool) → b ≡ isDump h → b ≡ true → not (command .dump) ≡ noDump h command
+  unfolding noDump
+  asked-dump b e q = sym (ap (λ (x : Bool). x && not (command .dump)) (sym e ∙ q))
+
+  pub asked-one : (b : Bool) → b ≡ isDump h → b ≡ false → false ≡ noDump h command
+  unfolding noDump
+  asked-one b e q = sym (ap (λ (x : Bool). x && not (command .dump)) (sym e ∙ q))
+
+pub ruleset no-dump-laws = (asked-dump, asked-one)
+
 module _ (h : MessageHeader) (command : Command) (admin : Bool) where
-  pub permit-dump : h .flags / 256 % 4 ≡ 3 → Refused R.Dump ≡ permitted h admin command
-  unfolding permitted
-  permit-dump q = sym (rw (eq-eqb _ _ q))
-
-  module _ (q : h .flags / 256 % 4 ≡ 3 → ⊥) (b : Bool) (eb : b ≡ notPermitted command admin) where
-    no-dump : permitted h admin command ≡ cond b (Refused R.Permission) (Admitted command)
+  module _ (d : Bool) (ed : d ≡ noDump h command) where
+    by-dump : permitted h admin command ≡ cond d (Refused R.Dump) (cond (notPermitted command admin) (Refused R.Permission) (Admitted command))
     unfolding permitted
-    no-dump = rw (ne-eqb _ _ q, eb)
+    by-dump = rw (← ed)
 
-    pub permit-refused : b ≡ true → Refused R.Permission ≡ permitted h admin command
-    permit-refused z = sym (no-dump ∙ cond-true b _ _ z)
+    pub permit-dump : d ≡ true → Refused R.Dump ≡ permitted h admin command
+    permit-dump q = sym (by-dump ∙ cond-true d _ _ q)
 
-    pub permit-admitted : b ≡ false → Admitted command ≡ permitted h admin command
-    permit-admitted z = sym (no-dump ∙ cond-false b _ _ z)
+    module _ (q : d ≡ false) (b : Bool) (eb : b ≡ notPermitted command admin) where
+      past-dump : permitted h admin command ≡ cond b (Refused R.Permission) (Admitted command)
+      past-dump = by-dump ∙ cond-false d _ _ q ∙ rw (← eb)
+
+      pub permit-refused : b ≡ true → Refused R.Permission ≡ permitted h admin command
+      permit-refused z = sym (past-dump ∙ cond-true b _ _ z)
+
+      pub permit-admitted : b ≡ false → Admitted command ≡ permitted h admin command
+      permit-admitted z = sym (past-dump ∙ cond-false b _ _ z)
 
 pub ruleset permit-laws = (permit-dump, permit-refused, permit-admitted)
 

@@ -1,4 +1,4 @@
--- Document 01, "What a call says back": skipped, and refusals 5 to 9.
+-- Document 01, "What a call says back", and request C-11: skipped, and refusals 5 to 9.
 use Prim.Native.Nat.{ℕ, _/_, _%_}
 use mathlib.Core.List.{List}
 use mathlib.Core.Bool.{Bool, _&&_, _||_, not, cond}
@@ -14,14 +14,22 @@ use Rattle.admission.specs.declared.commands.CommandRead.the-variants.{L
 use Rattle.admission.specs.declared.Admission.{Admission}
 use Rattle.admission.specs.declared.Admission.the-variants.{Admitted, Skipped, Refused}
 
+-- "both DUMP bits" (0x300): the message asks for a dump
+unfoldable pub isDump : MessageHeader → Bool
+isDump h = eqb (h .flags / 256 % 4) 3
+
+-- "8 now stands for a SET with both bits, at its old place": the command is not one that may be dumped
+unfoldable pub noDump : MessageHeader → Command → Bool
+noDump h command = isDump h && not (command .dump)
+
 -- "SET, not admin"
 unfoldable pub notPermitted : Command → Bool → Bool
 notPermitted command admin = command .change && not admin
 
--- a listed command: 8 where both DUMP bits (0x300) stand, then 9
+-- a listed command: 8, then 9
 unfoldable pub permitted : MessageHeader → Bool → Command → Admission
 permitted h admin command =
-    cond (eqb (h .flags / 256 % 4) 3) (Refused R.Dump)
+    cond (noDump h command) (Refused R.Dump)
     (cond (notPermitted command admin) (Refused R.Permission)
     (Admitted command))
 

@@ -19,12 +19,13 @@ const PRIVFLAGS_GET_REPLY: u8 = 14;
 // How many commands there are.
 const COUNT: usize = 4;
 
-// A command: its number, whether it changes the set (SET) or asks for it (GET), the set, and the command of its reply.
+// A command: its number, whether it changes the set (SET) or asks for it (GET), the set, the command of its reply, and whether it may be dumped.
 pub struct Command {
     pub number: u8,
     pub change: bool,
     pub set: Set,
     pub reply: u8,
+    pub dump: bool,
 }
 
 pub enum CommandRead {
@@ -32,14 +33,15 @@ pub enum CommandRead {
     Unlisted,
 }
 
-fn command_row(number: u8, change: bool, set: Set, reply: u8) -> Command
-    ensures { λ r. ⌜ r ≡ commandRow number change set reply ⌝ }
+fn command_row(number: u8, change: bool, set: Set, reply: u8, dump: bool) -> Command
+    ensures { λ r. ⌜ r ≡ commandRow number change set reply dump ⌝ }
 {
     Command {
         number,
         change,
         set,
         reply,
+        dump,
     }
 }
 
@@ -48,10 +50,10 @@ fn commands() -> [Command; COUNT]
     ensures { λ r. ⌜ r ≡ commands ⌝ }
 {
     [
-        command_row(DEBUG_GET, false, Set::Debug, DEBUG_GET_REPLY),
-        command_row(DEBUG_SET, true, Set::Debug, DEBUG_GET_REPLY),
-        command_row(PRIVFLAGS_GET, false, Set::Flags, PRIVFLAGS_GET_REPLY),
-        command_row(PRIVFLAGS_SET, true, Set::Flags, PRIVFLAGS_GET_REPLY),
+        command_row(DEBUG_GET, false, Set::Debug, DEBUG_GET_REPLY, true),
+        command_row(DEBUG_SET, true, Set::Debug, DEBUG_GET_REPLY, false),
+        command_row(PRIVFLAGS_GET, false, Set::Flags, PRIVFLAGS_GET_REPLY, true),
+        command_row(PRIVFLAGS_SET, true, Set::Flags, PRIVFLAGS_GET_REPLY, false),
     ]
 }
 

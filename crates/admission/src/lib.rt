@@ -1,6 +1,6 @@
 // Whether a message is taken up, by its two headers: skipped, and refusals 5 to 9.
 ghost use mathlib.Core.Path.{_≡_};
-ghost use Rattle.admission.specs.Admission.{notPermitted, permitted, admitted};
+ghost use Rattle.admission.specs.Admission.{isDump, noDump, notPermitted, permitted, admitted};
 use crate::commands::Command;
 use crate::commands::CommandRead;
 use crate::commands::read_command;
@@ -17,6 +17,23 @@ pub enum Admission {
     Refused(Refusal),
 }
 
+// Whether a message asks for a dump: both DUMP bits.
+pub fn is_dump(h: MessageHeader) -> bool
+    ensures { λ r. ⌜ r ≡ isDump h ⌝ }
+{
+    h.flags / 256 % 4 == 3
+}
+
+// Whether a message asks for the dump of a command that has none.
+fn no_dump(h: MessageHeader, command: Command) -> bool
+    ensures { λ r. ⌜ r ≡ noDump h command ⌝ }
+{
+    if is_dump(h) {
+        return !command.dump;
+    }
+    false
+}
+
 // Whether a command is a SET and its sender is not admin.
 fn not_permitted(command: Command, admin: bool) -> bool
     ensures { λ r. ⌜ r ≡ notPermitted command admin ⌝ }
@@ -27,11 +44,11 @@ fn not_permitted(command: Command, admin: bool) -> bool
     false
 }
 
-// Judges a listed command by both DUMP bits, then by its sender.
+// Judges a listed command by whether it may be dumped, then by its sender.
 fn permit(h: MessageHeader, command: Command, admin: bool) -> Admission
     ensures { λ r. ⌜ r ≡ permitted h admin command ⌝ }
 {
-    if h.flags / 256 % 4 == 3 {
+    if no_dump(h, command) {
         return Admission::Refused(Refusal::Dump);
     }
     if not_permitted(command, admin) {

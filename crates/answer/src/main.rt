@@ -31,7 +31,7 @@ fn goes_on(kind: Kind) -> bool
     }
 }
 
-// Answers the message at a position, for the program's box.
+// Answers the message at a position, at a place of a dump, for the program's box.
 fn answer_one<'a>(
     roll: &[u8],
     debug: &'a [u8],
@@ -39,20 +39,22 @@ fn answer_one<'a>(
     settings: &mut [u32],
     datagram: &[u8],
     at: usize,
+    place: usize,
     page: &mut [u8],
 ) -> Answer
     requires { ⌜ (boxOf (now roll) (now debug) (now flags) ≡ programBox) × (length (now page) ≡ 32768) ⌝ }
-    ensures { λ r. ⌜ Performs (call (now (datagram .entry)) (stateOf (now (settings .entry))) at) (now (page .entry)) (now (page .exit)) (stateOf (now (settings .exit))) r ⌝ }
+    ensures { λ r. ⌜ Performs (call (now (datagram .entry)) (stateOf (now (settings .entry))) at place) (now (page .entry)) (now (page .exit)) (stateOf (now (settings .exit))) r ⌝ }
 {
     let call = Call {
         family: 25,
         admin: 1,
         position: at,
+        place,
     };
     handle(call, roll, debug, flags, settings, datagram, page)
 }
 
-// Writes the answers to a datagram in order.
+// Writes the answers to a datagram in order; a dump is gone through place by place.
 fn answer_all<'a>(
     roll: &[u8],
     debug: &'a [u8],
@@ -65,9 +67,10 @@ fn answer_all<'a>(
     ensures { λ r. ⌜ r .count ≡ length (answers (now (datagram .entry))) ⌝ }
 {
     let mut at: usize = 0;
+    let mut place: usize = 0;
     let mut written = Written::nothing();
     loop {
-        let a = answer_one(roll, debug, flags, settings, datagram, at, page);
+        let a = answer_one(roll, debug, flags, settings, datagram, at, place, page);
         let kind = a.kind;
         if !goes_on(kind) {
             return written;
@@ -75,6 +78,7 @@ fn answer_all<'a>(
         let n = a.written;
         written = written.send(datagram, &page[..n]);
         at = a.next;
+        place = a.place;
     }
 }
 

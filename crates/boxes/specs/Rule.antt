@@ -1,4 +1,4 @@
--- The rules of the box (document 01, "The box a call is given"; refusal 1: "box breaks a rule above").
+-- The rules of the box (document 01, "The box a call is given"; refusal 1: "box breaks a rule above"; request C-11: "1 for a place above the port count").
 use Prim.Native.Nat.{ℕ}
 use mathlib.Core.Bool.{Bool, _&&_}
 use lib.Dec.{leb}
@@ -17,14 +17,19 @@ familyRight family = leb 16 family && leb family 65535
 unfoldable pub adminRight : ℕ → Bool
 adminRight admin = leb admin 1
 
+-- 0 for the first port, "the port count for DONE"
+unfoldable pub placeRight : ℕ → ℕ → Bool
+placeRight ports place = leb place ports
+
 -- the name list of every set
 unfoldable pub listsRight : Names → Bool
 listsRight names = everySet (λ set. namesRight (listOf names set))
 
--- the box breaks no rule: family, admin, roll, name lists, settings
+-- the box breaks no rule: family, admin, roll, place, name lists, settings
 unfoldable pub boxRight : Box → State → Call → Bool
 boxRight box state call =
     familyRight (call .family)
     && (adminRight (call .admin)
     && (rollRight (box .roll)
-    && (listsRight (box .names) && settingsRight (state .words) (portsIn box) (sizesIn box))))
+    && (placeRight (portsIn box) (call .place)
+    && (listsRight (box .names) && settingsRight (state .words) (portsIn box) (sizesIn box)))))

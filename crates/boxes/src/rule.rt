@@ -32,6 +32,9 @@ pub fn box_right(
     if !roll_rule::roll_right(roll, ports) {
         return false;
     }
+    if ports.len() < call.place {
+        return false;
+    }
     if !lists_right(debug, flags) {
         return false;
     }

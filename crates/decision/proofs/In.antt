@@ -42,6 +42,7 @@ module _ (roll : List ℕ) where
       → PortIn roll (targetDecision a change set .plan)
   unfolding PortIn
   on-target-in (A.Refused why) change set h f = tt
+  on-target-in (A.Unnamed flags) change set h f = tt
   on-target-in (A.Port target) true set h f = f (target .position) h
   on-target-in (A.Port target) false set h f = h
 
@@ -59,15 +60,15 @@ module _ (roll : List ℕ) where
   unfolding PortIn
   set-in p position nest h q = rw q at h
 
-module _ (box : Box) (m : List ℕ) (command : Command) where
-  header-in : (parts : TopParts) → PortIn (box .roll) (headerDecision box m command parts .plan)
+module _ (box : Box) (m : List ℕ) (command : Command) (dump : Bool) where
+  header-in : (parts : TopParts) → PortIn (box .roll) (headerDecision box m command dump parts .plan)
   unfolding headerDecision
   header-in parts =
       let names = listOf (box .names) (command .set) in
-      on-target-in (box .roll) (targetOf m (parts .header) (box .roll)) (command .change) (bitsetDecision m (parts .bitset) names)
-      (target-counted (box .roll) m (parts .header)) (bitset-in (box .roll) m (parts .bitset) names)
+      on-target-in (box .roll) (targetOf m (parts .header) dump (box .roll)) (command .change) (bitsetDecision m (parts .bitset) names)
+      (target-counted (box .roll) m (parts .header) dump) (bitset-in (box .roll) m (parts .bitset) names)
 
   -- whatever is decided
-  pub decided-in : (d : Decision) (roll : List ℕ) → d ≡ decided box m command → roll ≡ box .roll → PortIn roll (d .plan)
+  pub decided-in : (d : Decision) (roll : List ℕ) → d ≡ decided box m command dump → roll ≡ box .roll → PortIn roll (d .plan)
   unfolding decided
-  decided-in d roll e er = rw (e, er) (on-top-in (box .roll) (topOf m (command .change)) (headerDecision box m command) header-in)
+  decided-in d roll e er = rw (e, er) (on-top-in (box .roll) (topOf m (command .change)) (headerDecision box m command dump) header-in)

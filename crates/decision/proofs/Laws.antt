@@ -2,7 +2,7 @@
 use Prim.Native.Nat.{ℕ, _-_}
 use mathlib.Core.Path.{_≡_, refl, sym, ap, _∙_}
 use mathlib.Core.List.{List}
-use mathlib.Core.Bool.{true, false, cond}
+use mathlib.Core.Bool.{Bool, true, false, cond}
 use native.Mathlib.Omega.{arith}
 use Rattle.basics.proofs.Truth.{cond-true, cond-false}
 use Rattle.entries.specs.Entry.{count}
@@ -64,33 +64,37 @@ module _ (m : List ℕ) (bitset : Slot) (names : List ℕ) (position : ℕ) (p :
 pub ruleset bitset-laws = (bitset-refused, bitset-accepted)
 
 -- the header level
-module _ (box : Box) (m : List ℕ) (command : Command) (parts : TopParts) (a : TargetRead) (ea : a ≡ targetOf m (parts .header) (box .roll)) (d : Decision) where
-  pub header-refused : (why : Refusal) → a ≡ A.Refused why → d ≡ withoutForm (P.Refused why) → d ≡ headerDecision box m command parts
+module _ (box : Box) (m : List ℕ) (command : Command) (dump : Bool) (parts : TopParts) (a : TargetRead) (ea : a ≡ targetOf m (parts .header) dump (box .roll)) (d : Decision) where
+  pub header-refused : (why : Refusal) → a ≡ A.Refused why → d ≡ withoutForm (P.Refused why) → d ≡ headerDecision box m command dump parts
   unfolding headerDecision
   header-refused why q e = e ∙ sym (rw (← ea, q))
 
+  pub header-dump : (flags : ℕ) → a ≡ A.Unnamed flags → d ≡ withoutForm (P.Dump flags) → d ≡ headerDecision box m command dump parts
+  unfolding headerDecision
+  header-dump flags q e = e ∙ sym (rw (← ea, q))
+
   module _ (target : Target) (q : a ≡ A.Port target) where
-    by-target : headerDecision box m command parts
+    by-target : headerDecision box m command dump parts
         ≡ cond (command .change) (bitsetDecision m (parts .bitset) (listOf (box .names) (command .set)) (target .position)) (withoutForm (P.Get target))
     unfolding headerDecision
     by-target = rw (← ea, q)
 
     pub header-set : (names : List ℕ) → command .change ≡ true → names ≡ listOf (box .names) (command .set)
-        → d ≡ bitsetDecision m (parts .bitset) names (target .position) → d ≡ headerDecision box m command parts
+        → d ≡ bitsetDecision m (parts .bitset) names (target .position) → d ≡ headerDecision box m command dump parts
     header-set names c en e = e ∙ (rw en) ∙ sym (by-target ∙ cond-true (command .change) _ _ c)
 
-    pub header-get : command .change ≡ false → d ≡ withoutForm (P.Get target) → d ≡ headerDecision box m command parts
+    pub header-get : command .change ≡ false → d ≡ withoutForm (P.Get target) → d ≡ headerDecision box m command dump parts
     header-get c e = e ∙ sym (by-target ∙ cond-false (command .change) _ _ c)
 
-pub ruleset header-laws = (header-refused, header-set, header-get)
+pub ruleset header-laws = (header-refused, header-dump, header-set, header-get)
 
 -- the top level
-module _ (box : Box) (m : List ℕ) (command : Command) (t : Top) (et : t ≡ topOf m (command .change)) (d : Decision) where
-  pub decide-refused : (why : Refusal) → t ≡ T.Refused why → d ≡ withoutForm (P.Refused why) → d ≡ decided box m command
+module _ (box : Box) (m : List ℕ) (command : Command) (dump : Bool) (t : Top) (et : t ≡ topOf m (command .change)) (d : Decision) where
+  pub decide-refused : (why : Refusal) → t ≡ T.Refused why → d ≡ withoutForm (P.Refused why) → d ≡ decided box m command dump
   unfolding decided
   decide-refused why q e = e ∙ sym (rw (← et, q))
 
-  pub decide-nests : (parts : TopParts) → t ≡ T.Nests parts → d ≡ headerDecision box m command parts → d ≡ decided box m command
+  pub decide-nests : (parts : TopParts) → t ≡ T.Nests parts → d ≡ headerDecision box m command dump parts → d ≡ decided box m command dump
   unfolding decided
   decide-nests parts q e = e ∙ sym (rw (← et, q))
 

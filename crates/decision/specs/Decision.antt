@@ -1,4 +1,4 @@
--- Document 01, "What a call says back", the levels below the table: what an admitted request asks for.
+-- Document 01, "What a call says back", the levels below the table, and request C-11: what an admitted request asks for.
 use Prim.Native.Nat.{ℕ, _-_}
 use mathlib.Core.List.{List}
 use mathlib.Core.Bool.{Bool, cond}
@@ -38,15 +38,16 @@ unfoldable pub bitsetDecision : List ℕ → Slot → List ℕ → ℕ → Decis
 bitsetDecision m bitset names position =
     readingDecision (bitsetReading (partOf m 0 (bitset .end)) (bitset .start) names) (count names) position (bitset .start - 4)
 
--- the port that is named: a SET goes on to the bitset, a GET is decided
+-- the port that is named: a SET goes on to the bitset, a GET is decided; a dump names none
 abbrev pub targetDecision : TargetRead → Bool → (ℕ → Decision) → Decision
 targetDecision (A.Refused why) change set = withoutForm (P.Refused why)
+targetDecision (A.Unnamed flags) change set = withoutForm (P.Dump flags)
 targetDecision (A.Port target) change set = cond change (set (target .position)) (withoutForm (P.Get target))
 
 -- "Then the header is walked whole, then 14 to 17"
-unfoldable pub headerDecision : Box → List ℕ → Command → TopParts → Decision
-headerDecision box m command parts =
-    targetDecision (targetOf m (parts .header) (box .roll)) (command .change) (bitsetDecision m (parts .bitset) (listOf (box .names) (command .set)))
+unfoldable pub headerDecision : Box → List ℕ → Command → Bool → TopParts → Decision
+headerDecision box m command dump parts =
+    targetDecision (targetOf m (parts .header) dump (box .roll)) (command .change) (bitsetDecision m (parts .bitset) (listOf (box .names) (command .set)))
 
 -- the nests of the top level, or what is wrong in it or absent
 abbrev pub topDecision : Top → (TopParts → Decision) → Decision
@@ -54,5 +55,5 @@ topDecision (T.Refused why) rest = withoutForm (P.Refused why)
 topDecision (T.Nests parts) rest = rest parts
 
 -- "top level is walked whole (10, 11, 12 for each attribute in turn), then header missing (13), then bitset missing in a SET (13)"
-unfoldable pub decided : Box → List ℕ → Command → Decision
-decided box m command = topDecision (topOf m (command .change)) (headerDecision box m command)
+unfoldable pub decided : Box → List ℕ → Command → Bool → Decision
+decided box m command dump = topDecision (topOf m (command .change)) (headerDecision box m command dump)

@@ -8,5 +8,6 @@ use Rattle.decision.specs.declared.Plan.the-variants as P
 -- the port that a plan names is one of the roll's
 unfoldable pub PortIn : List ℕ → Plan → Type 0
 PortIn roll (P.Refused why) = Unit {0}
+PortIn roll (P.Dump flags) = Unit {0}
 PortIn roll (P.Get target) = target .position < portCount roll
 PortIn roll (P.Set position nest) = position < portCount roll

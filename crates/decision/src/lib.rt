@@ -22,6 +22,8 @@ use request::top::read_top;
 pub enum Plan {
     Refused(Refusal),
     Get(Target),
+    // All ports, one a call: the flags of the header.
+    Dump(u32),
     // The port whose set takes the form, and where the bitset stands in the request.
     Set { position: usize, bitset: usize },
 }
@@ -70,6 +72,7 @@ fn decide_bitset(m: &[u8], bitset: Slot, names: &[u8], position: usize) -> Decis
 fn decide_header<'a>(
     m: &[u8],
     command: Command,
+    dump: bool,
     parts: TopParts,
     roll: &[u8],
     ports: &[u64],
@@ -77,14 +80,17 @@ fn decide_header<'a>(
     flags: &'a [u8],
 ) -> Decision
     requires { ⌜ Tabled (now roll) (now ports) ⌝ }
-    ensures { λ r. ⌜ r ≡ headerDecision (boxOf (now (roll .entry)) (now (debug .entry)) (now (flags .entry))) (now (m .entry)) command parts ⌝ }
+    ensures { λ r. ⌜ r ≡ headerDecision (boxOf (now (roll .entry)) (now (debug .entry)) (now (flags .entry))) (now (m .entry)) command dump parts ⌝ }
 {
     let header = parts.header;
     let bitset = parts.bitset;
     let set = command.set;
-    match read_target(m, header, roll, ports) {
+    match read_target(m, header, dump, roll, ports) {
         TargetRead::Refused(why) => {
             return without_form(Plan::Refused(why));
+        }
+        TargetRead::Unnamed(asked) => {
+            return without_form(Plan::Dump(asked));
         }
         TargetRead::Port(target) => {
             if command.change {
@@ -100,20 +106,21 @@ fn decide_header<'a>(
 pub fn decide<'a>(
     m: &[u8],
     command: Command,
+    dump: bool,
     roll: &[u8],
     ports: &[u64],
     debug: &'a [u8],
     flags: &'a [u8],
 ) -> Decision
     requires { ⌜ Tabled (now roll) (now ports) ⌝ }
-    ensures { λ r. ⌜ r ≡ decided (boxOf (now (roll .entry)) (now (debug .entry)) (now (flags .entry))) (now (m .entry)) command ⌝ }
+    ensures { λ r. ⌜ r ≡ decided (boxOf (now (roll .entry)) (now (debug .entry)) (now (flags .entry))) (now (m .entry)) command dump ⌝ }
 {
     match read_top(m, command.change) {
         Top::Refused(why) => {
             return without_form(Plan::Refused(why));
         }
         Top::Nests(parts) => {
-            return decide_header(m, command, parts, roll, ports, debug, flags);
+            return decide_header(m, command, dump, parts, roll, ports, debug, flags);
         }
     }
 }

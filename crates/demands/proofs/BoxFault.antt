@@ -30,7 +30,7 @@ use Rattle.demands.specs.BoxRules.{NameList, PortRoll, Settings, StoredR
 use Rattle.demands.specs.BoxFault.{BoxParts, callAt, Exactly, Kept, AllKept, FirstBroken, LongestRight, SettingsPlace, FaultTold}
 use Rattle.demands.specs.BoxFault.Kept.{family-kept, admin-kept, roll-kept, debug-kept, flags-kept, settings-kept}
 use Rattle.demands.proofs.BoxNames.{list-exactly}
-use Rattle.demands.proofs.BoxRoll.{roll-exactly}
+use Rattle.demands.proofs.BoxRoll.{roll-exactly, rules-counted}
 use Rattle.demands.proofs.BoxRules.{settings-exactly, told, counted}
 use Rattle.demands.proofs.BoxPlace.{roll-longest, list-longest, place-other, place-exact, right-long}
 
@@ -225,15 +225,15 @@ module _ (c : BoxParts) where
       (λ b4. stage P.FlagNames _ _ _ (omega arith) (omega arith) flags-stage (flags-place _ (list-longest _)) b4 from-settings))))
 
   -- every part, and the rules of the box over bytes
-  pub kept-rules : AllKept c → (position : ℕ) → StoredRules box (c .settings) (callAt c position)
-  kept-rules all position = by (all 1 (omega arith) (omega arith)) (all 2 (omega arith) (omega arith)) (all 6 (omega arith) (omega arith))
+  pub kept-rules : AllKept c → (position place : ℕ) → place ≤ portsIn box → StoredRules box (c .settings) (callAt c position place)
+  kept-rules all position place few = by (all 1 (omega arith) (omega arith)) (all 2 (omega arith) (omega arith)) (all 6 (omega arith) (omega arith))
     where
-      by : Kept c 1 → Kept c 2 → Kept c 6 → StoredRules box (c .settings) (callAt c position)
+      by : Kept c 1 → Kept c 2 → Kept c 6 → StoredRules box (c .settings) (callAt c position place)
       by (family-kept l u) (admin-kept a) (settings-kept roll debug flags whole s) =
-          (whole, record { family-low = l; family-high = u; admin = a; roll = roll; debug = debug; flags = flags; settings = s })
+          (whole, record { family-low = l; family-high = u; admin = a; roll = roll; place = rw (← rules-counted (box .roll) roll) few; debug = debug; flags = flags; settings = s })
 
-  pub rules-kept : (position : ℕ) → StoredRules box (c .settings) (callAt c position) → AllKept c
-  rules-kept position r n l u =
+  pub rules-kept : (position place : ℕ) → StoredRules box (c .settings) (callAt c position place) → AllKept c
+  rules-kept position place r n l u =
       let rules = r .1 in
       before-next 6
       (before-next 5

@@ -25,7 +25,7 @@ use Rattle.layout.proofs.Laws.{sizes-of, each-every}
 use Rattle.boxes.specs.Box.{Box, State, portsIn, sizesIn}
 use Rattle.boxes.specs.declared.Call.{Call}
 use Rattle.boxes.specs.Settings.{setClear, portClear, settingsRight}
-use Rattle.boxes.specs.Rule.{familyRight, adminRight, listsRight, boxRight}
+use Rattle.boxes.specs.Rule.{familyRight, adminRight, placeRight, listsRight, boxRight}
 use Rattle.boxes.proofs.rule.Meaning.{box-means}
 use Rattle.boxes.proofs.settings.Laws as S
 use Rattle.handler.specs.Bytes.{Stored, inWords}
@@ -127,20 +127,22 @@ module _ (box : Box) (state : State) (call : Call) where
         family-high = r .family-high;
         admin = r .admin-bit;
         roll = roll;
+        place = rw (← rules-counted (box .roll) roll) (r .place-counted);
         debug = debug;
         flags = flags;
         settings = told box roll debug flags Sets (settings-means (state .words) (portsIn box) (sizesIn box) (r .settings-right));
       }
 
   of-rules : BoxRules box state call → boxRight box state call ≡ true
-  unfolding boxRight familyRight adminRight listsRight everySet listOf
+  unfolding boxRight familyRight adminRight placeRight listsRight everySet listOf
   of-rules r =
       let low = le-leb 16 (call .family) (r .family-low) in
       let high = le-leb (call .family) 65535 (r .family-high) in
       let admin = le-leb (call .admin) 1 (r .admin) in
+      let place = le-leb (call .place) (portsIn box) (rw (rules-counted (box .roll) (r .roll)) (r .place)) in
       let debug = list-exactly (box .names .debug) .1 (r .debug) in
       let flags = list-exactly (box .names .flags) .1 (r .flags) in
-      rw (low, high, admin, roll-exactly (box .roll) .1 (r .roll), debug, flags)
+      rw (low, high, admin, roll-exactly (box .roll) .1 (r .roll), place, debug, flags)
       (means-settings (state .words) (portsIn box) (sizesIn box) (counted box (r .roll) (r .debug) (r .flags) Sets (r .settings)))
 
   pub box-exactly : (boxRight box state call ≡ true → BoxRules box state call) × (BoxRules box state call → boxRight box state call ≡ true)

@@ -51,7 +51,7 @@ module _ (box : Box) (state : State) (call : Call) (datagram : List ℕ) where
       let m = messageOf datagram position in
       let h = messageHeader datagram position in
       messageAnswered right lo hi (long lo hi)
-      (message-first box state m h next call) (message-case box state m h next call)
+      (message-first box state call m h next) (message-case box state call m h next)
 
   -- the message at the position
   position-case : boxRight box state call ≡ true → CallCase box state call datagram (positionOutcome box state call datagram)

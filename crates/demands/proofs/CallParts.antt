@@ -24,7 +24,7 @@ use Rattle.refusal.specs.declared.Refusal.{Refusal}
 use Rattle.refusal.specs.declared.Refusal.the-variants as R
 use Rattle.boxes.specs.Box.{Box, State}
 use Rattle.boxes.specs.declared.Call.{Call}
-use Rattle.admission.specs.Admission.{notPermitted, permitted, onCommand, admitted}
+use Rattle.admission.specs.Admission.{noDump, notPermitted, permitted, onCommand, admitted}
 use Rattle.admission.specs.Commands.{commandOf}
 use Rattle.admission.specs.declared.Admission.{Admission}
 use Rattle.admission.specs.declared.Admission.the-variants as A
@@ -36,6 +36,7 @@ use Rattle.response.specs.declared.Kind.{Kind}
 use Rattle.response.specs.declared.Kind.the-variants.{End, Skipped, Done, Refused}
 use Rattle.handler.specs.Call.{onAdmission, messageOutcome, outcome, endsRun}
 use Rattle.handler.specs.Bytes.{Stored, inWords, bytesOutcome}
+use Rattle.demands.specs.Request.{asksDump}
 use Rattle.demands.specs.Call.{messageOf, nextOf}
 use Rattle.demands.specs.CallCase.{CallCase}
 use Rattle.demands.specs.CallCase.CallCase.{ended, notRead, messageAnswered}
@@ -89,7 +90,7 @@ module _ (box : Box) (datagram : List ℕ) (position : ℕ) where
         size = size;
         headers = omega (arith, size, long);
         in-order = apart m 20;
-        nested = top-read m box command;
+        nested = top-read m box (asksDump (messageHeader datagram position)) command;
       }
 
 -- what comes past 9 is admitted
@@ -112,7 +113,7 @@ admission-number m h family admin why e =
     by false true c x e = told R.Family (omega arith) e
     by false false true x e = told R.Short (omega arith) e
     by false false false Unlisted e = told R.Command (omega arith) e
-    by false false false (Listed c) e = permits (eqb (h .flags / 256 % 4) 3) (notPermitted c admin) c e
+    by false false false (Listed c) e = permits (noDump h c) (notPermitted c admin) c e
 
 module _ (box : Box) (stored : Stored) (call : Call) (datagram : List ℕ) (room : ℕ) where
   abbrev header : MessageHeader
@@ -129,7 +130,7 @@ module _ (box : Box) (stored : Stored) (call : Call) (datagram : List ℕ) (room
 
   -- what the message comes to is what the call says
   by-admission : (next : ℕ) (a : Admission) → admitted message header (call .family) (eqb (call .admin) 1) ≡ a
-      → kind (onAdmission a box (inWords stored) message header next) ≡ said → pastNine said ≡ true → Parted
+      → kind (onAdmission a box (inWords stored) call message header next) ≡ said → pastNine said ≡ true → Parted
   by-admission next A.Skipped e q past = absurd (clash (ap pastNine q ∙ past) refl)
   by-admission next (A.Refused why) e q past =
       let l = leb-true 10 (numberOf why) (ap pastNine q ∙ past) in
@@ -159,4 +160,4 @@ module _ (box : Box) (stored : Stored) (call : Call) (datagram : List ℕ) (room
       by (messageAnswered right lo hi long first c) =
           let next = nextOf datagram (call .position) in
           by-admission next (admitted message header (call .family) (eqb (call .admin) 1)) refl
-          (message-first box (inWords stored) message header next call ∙ sym first ∙ ap (λ (r : Response). r .kind) same) past
+          (message-first box (inWords stored) call message header next ∙ sym first ∙ ap (λ (r : Response). r .kind) same) past

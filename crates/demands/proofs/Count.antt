@@ -16,6 +16,8 @@ use Rattle.netlink_headers.specs.declared.headers.MessageHeader.{MessageHeader}
 use Rattle.netlink_write.specs.Attributes.{attr}
 use Rattle.netlink_error.specs.Error.{detailBytes, flagsOf, errorHeader, errorStart, errorMessage}
 use Rattle.netlink_write.specs.Headers.{messageHeaderBytes}
+use Rattle.netlink_dump.specs.Dump.{doneHeader, doneMessage}
+use Rattle.netlink_dump.proofs.Laws.{done-long}
 use Rattle.netlink_error.specs.declared.Detail.{Detail}
 use Rattle.netlink_error.specs.declared.Detail.the-variants.{Nothing, Offset, MissTop, MissIn}
 use Rattle.netlink_write.proofs.attributes.Laws.{length-attr}
@@ -75,6 +77,16 @@ ack-counted m h long = go (eqb (h .flags / 4 % 2) 1)
     go : (t : Bool) → Counted (cond t (errorMessage m 0 Nothing) []) × (length (cond t (errorMessage m 0 Nothing) []) ≤ 36)
     go true = (error-counted m long 0 Nothing, ack-long m long)
     go false = (none-counted, omega arith)
+
+-- DONE
+done-stated : (h : MessageHeader) → u32At (doneMessage h) 0 ≡ 20
+unfolding doneMessage doneHeader messageHeaderBytes u32At
+done-stated h = refl
+
+pub done-counted : (h : MessageHeader) → Counted (doneMessage h)
+done-counted h =
+    let long = done-long h in
+    record { messages = rw (← append-nil (doneMessage h)) (next (doneMessage h) [] (omega arith) (done-stated h ∙ sym long) none); words = omega arith; most = omega arith }
 
 -- a reply, and messages after it
 module _ (h : Heading) (content : Content) (port : nulAt (content .name) < 16) (right : namesRight (content .names) ≡ true)

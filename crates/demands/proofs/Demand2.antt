@@ -1,16 +1,21 @@
 -- Demand 2: what a done request has brought about.
 --     effect           a done SET: the named set of the named port is what `effect` makes of it, every other word is as before
---     read-back        a done GET: the settings stay, and the reply's bitset, read by our own reader, makes the stored set of every starting set
+--     read-back        a done GET that is no dump: the settings stay, and the reply's bitset, read by our own reader, makes the stored set of every starting set
+--     dump             a done call of a dump: the settings stay, and the reply of the port at the place, or DONE, is written
 --     box-kept         a right box stays right, whatever is asked
 --     small-kept       words of 32 bits stay words of 32 bits
 --     bytes-counted    what is written is whole messages, each as long as it states, and never more than 24,684 bytes
 use Prim.Native.Nat.{ℕ, _+_, _-_, _≤_, _<_}
 use mathlib.Core.Path.{_≡_, refl, sym, ap, _∙_}
-use mathlib.Core.List.{List, _++_}
-use mathlib.Core.Bool.{Bool, true, false}
+use mathlib.Core.List.{List, [], _++_, append-nil}
+use mathlib.Core.Logic.{⊎-elim}
+use mathlib.Core.Bool.{Bool, true, false, cond}
 use lib.ListN.{length}
+use lib.Dec.{ltb}
+use borrow.Author.Tests.{lt-ltb, le-ltb}
 use native.Mathlib.Omega.{arith}
 use Rattle.basics.specs.Numbers.{byteAt}
+use Rattle.basics.proofs.Order.{lt-or-ge}
 use Rattle.basics.proofs.Truth.{clash}
 use Rattle.bits.specs.Set.{has, wordsFor}
 use Rattle.bits.specs.Change.{Below}
@@ -36,20 +41,27 @@ use Rattle.layout.proofs.Laws.{lists-of, sizes-of, set-length}
 use Rattle.boxes.proofs.rule.Meaning.{Right, box-means}
 use Rattle.read_back.proofs.Reply.{reply-attributes, reply-back}
 use Rattle.admission.specs.Commands.{commandOf}
-use Rattle.response.specs.Answer.{Outcome, ackBytes}
+use Rattle.admission.specs.Admission.{isDump}
+use Rattle.admission.specs.declared.commands.Command.{Command}
+use Rattle.netlink_dump.specs.Dump.{doneHeader, doneMessage}
+use Rattle.netlink_write.specs.Headers.{messageHeaderBytes, genericHeaderBytes}
+use Rattle.response.specs.Answer.{Response, Outcome, responseOf, ackBytes, unchanged}
 use Rattle.handler.specs.Call.{outcome}
-use Rattle.reply.specs.Message.{headingOf, Content, replyBytes}
-use Rattle.execute.specs.Execute.{requestOf, contentIn, replyAndAck, getBytes}
+use Rattle.reply.specs.Message.{headingOf, headersBytes, Content, replyBytes}
+use Rattle.reply.specs.declared.message.Heading.{Heading}
+use Rattle.execute.specs.declared.Request.{Request}
+use Rattle.execute.specs.Execute.{requestOf, contentIn, replyAndAck, getBytes, portResponse, dumpResponse}
 use Rattle.response.specs.declared.Kind.the-variants.{Done}
-use Rattle.demands.specs.Answer.{ackIfAsked, Counted}
+use Rattle.demands.specs.Answer.{ackIfAsked, doneBytes, withMulti, Counted}
 use Rattle.demands.specs.Call.{messageOf, nextOf}
 use Rattle.demands.specs.CallCase.{CallCase}
 use Rattle.demands.specs.CallCase.CallCase.{ended, notRead, messageAnswered}
-use Rattle.demands.specs.Message.{Named, Carries}
-use Rattle.demands.specs.CallCase.MessageCase.{messageSkipped, messageRefused, getDone, setDone}
-use Rattle.demands.specs.Done.{DoneSet, DoneGet, askedContent, replyTo}
-use Rattle.demands.specs.Request.{isSet}
-use Rattle.demands.proofs.Count.{none-counted, error-counted, ack-counted, reply-counted}
+use Rattle.demands.specs.Message.{Named, Dump, Carries}
+use Rattle.demands.specs.CallCase.MessageCase.{messageSkipped, messageRefused, getDone, dumpDone, setDone}
+use Rattle.demands.specs.Done.{DoneSet, contentAbout, replyAbout, replyTo, TellsSet, DoneGet, DonePort, DoneLast, DoneDump}
+use Rattle.demands.specs.Request.{isSet, asksDump}
+use Rattle.demands.proofs.Count.{none-counted, error-counted, ack-counted, done-counted, reply-counted}
+use Rattle.demands.proofs.Request.{dump-kind}
 use Rattle.demands.proofs.CallCase.{call-case}
 use Rattle.demands.proofs.Effect.{after, set-own, set-others, set-elsewhere, set-small, set-right}
 use Rattle.demands.proofs.Port.{port-short}
@@ -59,6 +71,11 @@ module _ (roll m : List ℕ) (n : Named roll m) where
   named-set : isSet (commandOf (byteAt m 16)) ≡ n .command .change
   unfolding isSet
   named-set = ap isSet (n .listed)
+
+-- a reply with MULTI is the reply but for its message flags
+multi-reply : (h : MessageHeader) (command : ℕ) (content : Content) → replyBytes (headingOf h 2 command) content ≡ withMulti (replyBytes (headingOf h 0 command) content)
+unfolding replyBytes headersBytes messageHeaderBytes withMulti
+multi-reply h command content = refl
 
 -- the stored set of a right box: its names, its words, its bits
 module _ (box : Box) (state : State) (call : Call) (right : boxRight box state call ≡ true) (position : ℕ) (inside : position < portsIn box)
@@ -125,16 +142,16 @@ module _ (box : Box) (state : State) (call : Call) (datagram : List ℕ) (room :
           bytes = eb;
         }
 
-  -- a GET
-  module _ (right : boxRight box state call ≡ true) (n : Named (box .roll) m) where
+  -- the reply about a port
+  module _ (right : boxRight box state call ≡ true) (command : Command) (flags : ℕ) (k : ℕ) (inside : k < portsIn box) where
     abbrev content : Content
-    content = askedContent box state m n
+    content = contentAbout box state command flags k
 
-    size-is : sizeOf (sizesIn box) (n .command .set) ≡ content .bits
-    size-is = lists-of count (box .names) (n .command .set)
+    size-is : sizeOf (sizesIn box) (command .set) ≡ content .bits
+    size-is = lists-of count (box .names) (command .set)
 
     -- what is shown is what must be
-    content-is : contentIn box state (n .command .set) (n .target) ≡ content
+    content-is : contentIn box state (command .set) (record { position = k; flags = flags }) ≡ content
     unfolding contentIn indexOf nameOf
     content-is =
         ap
@@ -148,56 +165,134 @@ module _ (box : Box) (state : State) (call : Call) (datagram : List ℕ) (room :
         })
         size-is
 
-    inside : n .target .position < portsIn box
-    inside = n .port .inside
-
     short : nulAt (content .name) < 16
-    short = port-short (box .roll) (n .target .position) (rules box state call right (n .target .position) inside (n .command .set) .roll-right) inside
+    short = port-short (box .roll) k (rules box state call right k inside (command .set) .roll-right) inside
 
     named : namesRight (content .names) ≡ true
-    named = names-right box state call right (n .target .position) inside (n .command .set)
-
-    counted : count (content .names) ≡ content .bits
-    counted = refl
+    named = names-right box state call right k inside (command .set)
 
     long : length (content .words) ≡ wordsFor (content .bits)
-    long = stored-long box state call right (n .target .position) inside (n .command .set) ∙ ap wordsFor size-is
+    long = stored-long box state call right k inside (command .set) ∙ ap wordsFor size-is
 
-    got-bytes : (next : ℕ) → getBytes box state m (requestOf h next (n .command)) (n .target) ≡ replyTo box state m h n ++ ackIfAsked m h
-    unfolding getBytes replyAndAck ackIfAsked ackBytes
-    got-bytes next = ap (λ (c : Content). replyBytes (headingOf h (n .command .reply)) c ++ ackBytes m h) content-is
-
-    done-get : (next : ℕ) {p : Outcome State} → n .command .change ≡ false → p .state ≡ state
-        → p .response .bytes ≡ getBytes box state m (requestOf h next (n .command)) (n .target) → DoneGet box state m h p
-    done-get next change ew eb =
-        let heading = headingOf h (n .command .reply) in
+    reply-tells : (heading : Heading) → TellsSet (replyBytes heading content) (listOf (box .names) (command .set)) (has (setOf box state k (command .set)))
+    reply-tells heading =
         let x = content .index in
         let name-of = content .name in
-        let parts = reply-attributes heading x name-of (content .compact) (content .names) (content .words) (content .bits) named counted long short in
+        let parts = reply-attributes heading x name-of (content .compact) (content .names) (content .words) (content .bits) named refl long short in
         let at : 24 + length (indexNest 1 x name-of) - 4 ≡ 20 + length (indexNest 1 x name-of) = omega arith in
+        record {
+          contents = 24 + length (indexNest 1 x name-of);
+          parts = rw at parts;
+          reads-back =
+              reply-back heading x name-of (content .compact) (content .names) (content .words) (content .bits) named refl long
+              (rw size-is at (stored-below box state call right k inside (command .set)));
+        }
+
+    about-counted : (heading : Heading) (rest : List ℕ) → Counted rest → length rest ≤ 36 → Counted (replyBytes heading content ++ rest)
+    about-counted heading = reply-counted heading content short named refl long
+
+  -- a GET
+  module _ (right : boxRight box state call ≡ true) (n : Named (box .roll) m) where
+    abbrev inside : n .target .position < portsIn box
+    inside = n .port .inside
+
+    got-bytes : (next : ℕ) → getBytes box state m (requestOf call h next (n .command)) (n .target) ≡ replyTo box state m h n ++ ackIfAsked m h
+    unfolding getBytes replyAndAck ackIfAsked ackBytes
+    got-bytes next =
+        ap (λ (c : Content). replyBytes (headingOf h 0 (n .command .reply)) c ++ ackBytes m h)
+        (content-is right (n .command) (n .target .flags) (n .target .position) inside)
+
+    done-get : (next : ℕ) {p : Outcome State} → n .command .change ≡ false → p .state ≡ state
+        → p .response .bytes ≡ getBytes box state m (requestOf call h next (n .command)) (n .target) → DoneGet box state m h p
+    done-get next change ew eb =
         record {
           named = n;
           is-get = change;
           keeps = ew;
           bytes = eb ∙ got-bytes next;
-          contents = 24 + length (indexNest 1 x name-of);
-          parts = rw at parts;
-          reads-back =
-              reply-back heading x name-of (content .compact) (content .names) (content .words) (content .bits) named counted long
-              (rw size-is at (stored-below box state call right (n .target .position) inside (n .command .set)));
+          tells = reply-tells right (n .command) (n .target .flags) (n .target .position) inside (headingOf h 0 (n .command .reply));
         }
 
-    get-counted : (next : ℕ) → 16 ≤ length m → Counted (getBytes box state m (requestOf h next (n .command)) (n .target))
+    get-counted : (next : ℕ) → 16 ≤ length m → Counted (getBytes box state m (requestOf call h next (n .command)) (n .target))
     unfolding ackIfAsked ackBytes
     get-counted next most =
         let ack = ack-counted m h most in
-        rw (got-bytes next) (reply-counted (headingOf h (n .command .reply)) content short named counted long (ackBytes m h) (ack .0) (ack .1))
+        rw (got-bytes next)
+        (about-counted right (n .command) (n .target .flags) (n .target .position) inside (headingOf h 0 (n .command .reply)) (ackBytes m h) (ack .0) (ack .1))
+
+  -- a dump
+  module _ (right : boxRight box state call ≡ true) (d : Dump m) (next : ℕ) where
+    abbrev request : Request
+    request = requestOf call h next (d .command)
+
+    abbrev told : Response
+    told = dumpResponse box state request (d .flags)
+
+    abbrev heading : Heading
+    heading = headingOf h 2 (d .command .reply)
+
+    place-counted : call .place ≤ portsIn box
+    place-counted = box-means box state call right .place-counted
+
+    at-port : call .place < portsIn box → told ≡ portResponse box state request (d .flags)
+    unfolding dumpResponse
+    at-port l = rw (lt-ltb _ _ l)
+
+    at-end : call .place ≡ portsIn box → told ≡ responseOf Done next (doneMessage h)
+    unfolding dumpResponse
+    at-end e = rw (le-ltb (call .place) (portsIn box) (omega arith))
+
+    -- the bytes of the port's reply
+    port-bytes : call .place < portsIn box → told .bytes ≡ replyBytes heading (contentAbout box state (d .command) (d .flags) (call .place))
+    unfolding portResponse
+    port-bytes l = ap (λ (r : Response). r .bytes) (at-port l) ∙ ap (replyBytes heading) (content-is right (d .command) (d .flags) (call .place) l)
+
+    done-port : call .place < portsIn box → DonePort box state call m h d told
+    unfolding portResponse
+    done-port l =
+        record {
+          bytes = port-bytes l ∙ multi-reply h (d .command .reply) (contentAbout box state (d .command) (d .flags) (call .place));
+          tells = rw (port-bytes l) (reply-tells right (d .command) (d .flags) (call .place) l heading);
+          next = ap (λ (r : Response). r .next) (at-port l);
+          place = ap (λ (r : Response). r .place) (at-port l);
+        }
+
+    done-last : call .place ≡ portsIn box → DoneLast h next told
+    unfolding doneMessage doneHeader messageHeaderBytes doneBytes
+    done-last e =
+        record {
+          bytes = ap (λ (r : Response). r .bytes) (at-end e);
+          next-is = ap (λ (r : Response). r .next) (at-end e);
+          place = ap (λ (r : Response). r .place) (at-end e);
+        }
+
+    done-dump : {p : Outcome State} → p ≡ unchanged told state → DoneDump box state call m h next p
+    done-dump e =
+        rw e
+        (record {
+          dump = d;
+          keeps = refl;
+          counted = place-counted;
+          port = done-port;
+          last = done-last;
+        })
+
+    dump-counted : Counted (told .bytes)
+    dump-counted =
+        let few = place-counted in
+        ⊎-elim
+        (λ (l : call .place < portsIn box).
+        rw (port-bytes l, ← append-nil (replyBytes heading (contentAbout box state (d .command) (d .flags) (call .place))))
+        (about-counted right (d .command) (d .flags) (call .place) l heading [] none-counted (omega arith)))
+        (λ (l : portsIn box ≤ call .place). rw (ap (λ (r : Response). r .bytes) (at-end (omega arith))) (done-counted h))
+        (lt-or-ge (call .place) (portsIn box))
 
   -- the theorems
   abbrev is-set : Bool
   is-set = isSet (commandOf (byteAt m 16))
 
   pub effect : o .response .kind ≡ Done → is-set ≡ true → DoneSet box state call m h o
+  unfolding isSet
   effect kind-of request = by (call-case box state call datagram room)
     where
       by : CallCase box state call datagram o → DoneSet box state call m h o
@@ -205,19 +300,35 @@ module _ (box : Box) (state : State) (call : Call) (datagram : List ℕ) (room :
       by (notRead w l e) = absurd (let q = kind-is e ∙ kind-of in let z : _≡_ {A = ℕ} 0 1 = cc in omega arith)
       by (messageAnswered right lo hi long first (messageSkipped e)) = absurd (let q = kind-is e ∙ kind-of in let z : _≡_ {A = ℕ} 0 1 = cc in omega arith)
       by (messageAnswered right lo hi long first (messageRefused w e)) = absurd (let q = kind-is e ∙ kind-of in let z : _≡_ {A = ℕ} 0 1 = cc in omega arith)
-      by (messageAnswered right lo hi long first (getDone n g e)) = absurd (clash request (named-set (box .roll) m n ∙ g))
-      by (messageAnswered right lo hi long first (setDone n g b c e)) = rw e (done-set right n g b c refl refl)
+      by (messageAnswered right lo hi long first (getDone q n g e)) = absurd (clash request (named-set (box .roll) m n ∙ g))
+      by (messageAnswered right lo hi long first (dumpDone q d e)) = absurd (clash request (ap isSet (d .listed) ∙ d .is-get))
+      by (messageAnswered right lo hi long first (setDone q n g b c e)) = rw e (done-set right n g b c refl refl)
 
-  pub read-back : o .response .kind ≡ Done → is-set ≡ false → DoneGet box state m h o
-  read-back kind-of request = by (call-case box state call datagram room)
+  pub read-back : o .response .kind ≡ Done → is-set ≡ false → asksDump h ≡ false → DoneGet box state m h o
+  unfolding asksDump isDump
+  read-back kind-of request one = by (call-case box state call datagram room)
     where
       by : CallCase box state call datagram o → DoneGet box state m h o
       by (ended e) = absurd (let q = kind-is e ∙ kind-of in let z : _≡_ {A = ℕ} 0 1 = cc in omega arith)
       by (notRead w l e) = absurd (let q = kind-is e ∙ kind-of in let z : _≡_ {A = ℕ} 0 1 = cc in omega arith)
       by (messageAnswered right lo hi long first (messageSkipped e)) = absurd (let q = kind-is e ∙ kind-of in let z : _≡_ {A = ℕ} 0 1 = cc in omega arith)
       by (messageAnswered right lo hi long first (messageRefused w e)) = absurd (let q = kind-is e ∙ kind-of in let z : _≡_ {A = ℕ} 0 1 = cc in omega arith)
-      by (messageAnswered right lo hi long first (getDone n g e)) = rw e (done-get right n (nextOf datagram position) g refl refl)
-      by (messageAnswered right lo hi long first (setDone n g b c e)) = absurd (clash (named-set (box .roll) m n ∙ g) request)
+      by (messageAnswered right lo hi long first (getDone q n g e)) = rw e (done-get right n (nextOf datagram position) g refl refl)
+      by (messageAnswered right lo hi long first (dumpDone q d e)) = absurd (clash q one)
+      by (messageAnswered right lo hi long first (setDone q n g b c e)) = absurd (clash (named-set (box .roll) m n ∙ g) request)
+
+  pub dump : o .response .kind ≡ Done → asksDump h ≡ true → DoneDump box state call m h (nextOf datagram position) o
+  unfolding asksDump isDump
+  dump kind-of all = by (call-case box state call datagram room)
+    where
+      by : CallCase box state call datagram o → DoneDump box state call m h (nextOf datagram position) o
+      by (ended e) = absurd (let q = kind-is e ∙ kind-of in let z : _≡_ {A = ℕ} 0 1 = cc in omega arith)
+      by (notRead w l e) = absurd (let q = kind-is e ∙ kind-of in let z : _≡_ {A = ℕ} 0 1 = cc in omega arith)
+      by (messageAnswered right lo hi long first (messageSkipped e)) = absurd (let q = kind-is e ∙ kind-of in let z : _≡_ {A = ℕ} 0 1 = cc in omega arith)
+      by (messageAnswered right lo hi long first (messageRefused w e)) = absurd (let q = kind-is e ∙ kind-of in let z : _≡_ {A = ℕ} 0 1 = cc in omega arith)
+      by (messageAnswered right lo hi long first (getDone q n g e)) = absurd (clash all q)
+      by (messageAnswered right lo hi long first (dumpDone q d e)) = done-dump right d (nextOf datagram position) e
+      by (messageAnswered right lo hi long first (setDone q n g b c e)) = absurd (clash all q)
 
   pub box-kept : boxRight box state call ≡ true → boxRight box (o .state) call ≡ true
   box-kept kept = by (call-case box state call datagram room)
@@ -230,8 +341,9 @@ module _ (box : Box) (state : State) (call : Call) (datagram : List ℕ) (room :
       by (notRead w l e) = same e refl
       by (messageAnswered right lo hi long first (messageSkipped e)) = same e refl
       by (messageAnswered right lo hi long first (messageRefused w e)) = same e refl
-      by (messageAnswered right lo hi long first (getDone n g e)) = same e refl
-      by (messageAnswered right lo hi long first (setDone n g b c e)) =
+      by (messageAnswered right lo hi long first (getDone q n g e)) = same e refl
+      by (messageAnswered right lo hi long first (dumpDone q d e)) = same e refl
+      by (messageAnswered right lo hi long first (setDone q n g b c e)) =
           rw e (set-right box state call right (n .target .position) (n .port .inside) (n .command .set) b (fits right n g b c))
 
   pub small-kept : Small (state .words) → Small (o .state .words)
@@ -245,8 +357,9 @@ module _ (box : Box) (state : State) (call : Call) (datagram : List ℕ) (room :
       by (notRead w l e) = same e refl
       by (messageAnswered right lo hi long first (messageSkipped e)) = same e refl
       by (messageAnswered right lo hi long first (messageRefused w e)) = same e refl
-      by (messageAnswered right lo hi long first (getDone n g e)) = same e refl
-      by (messageAnswered right lo hi long first (setDone n g b c e)) =
+      by (messageAnswered right lo hi long first (getDone q n g e)) = same e refl
+      by (messageAnswered right lo hi long first (dumpDone q d e)) = same e refl
+      by (messageAnswered right lo hi long first (setDone q n g b c e)) =
           rw e (set-small box state call right (n .target .position) (n .port .inside) (n .command .set) b (fits right n g b c) small)
 
   pub bytes-counted : Counted (o .response .bytes)
@@ -257,5 +370,6 @@ module _ (box : Box) (state : State) (call : Call) (datagram : List ℕ) (room :
       by (notRead w l e) = rw (bytes-are e) none-counted
       by (messageAnswered right lo hi long first (messageSkipped e)) = rw (bytes-are e) none-counted
       by (messageAnswered right lo hi long first (messageRefused w e)) = rw (bytes-are e) (error-counted m long (errnoOf w) (detailOf w))
-      by (messageAnswered right lo hi long first (getDone n g e)) = rw (bytes-are e) (get-counted right n (nextOf datagram position) long)
-      by (messageAnswered right lo hi long first (setDone n g b c e)) = rw (bytes-are e) (ack-counted m h long .0)
+      by (messageAnswered right lo hi long first (getDone q n g e)) = rw (bytes-are e) (get-counted right n (nextOf datagram position) long)
+      by (messageAnswered right lo hi long first (dumpDone q d e)) = rw (bytes-are e) (dump-counted right d (nextOf datagram position))
+      by (messageAnswered right lo hi long first (setDone q n g b c e)) = rw (bytes-are e) (ack-counted m h long .0)

@@ -67,7 +67,7 @@ module _ (box : Box) (state : State) (call : Call) (datagram : List ℕ) (room :
       (stop-step read-kind Done over ends AtEnd (cond cut Cut (cond wrong Misstated message)) _ (end Done _)
       (step read-kind Done cut R.Datagram Cut (cond wrong Misstated message) _ refl
       (step read-kind Done wrong R.Length Misstated message _ refl
-      (message-first box state (partOf datagram position (position + u32At datagram position)) (messageHeader datagram position) _ call))))
+      (message-first box state call (partOf datagram position (position + u32At datagram position)) (messageHeader datagram position) _))))
 
   pub exact : answered .response .kind ≡ firstKind Done checks
   unfolding outcome positionOutcome callChecks

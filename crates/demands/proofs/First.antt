@@ -29,6 +29,13 @@ module _ {A : Type 0} (kind : A → Kind) (last : Kind) where
   unfolding refuseIf firstKind
   step t why a x checks h e = stop-step t (refuses why) a x checks h e
 
+  -- the same, where what comes after it rests on its passing
+  pub passed-step : (t : Bool) (why : Refusal) (a x : A) (checks : List Check) → kind a ≡ Refused why → (t ≡ false → kind x ≡ firstKind last checks)
+      → kind (cond t a x) ≡ firstKind last (refuseIf t why ∷ checks)
+  unfolding refuseIf firstKind
+  passed-step true why a x checks h e = h
+  passed-step false why a x checks h e = e refl
+
   pub walk-step : (stop : Stop) (on : Stop → A) (checks : List Check) → ((fault : Fault) (at : ℕ) → kind (on (At fault at)) ≡ Refused (ofFault fault at))
       → kind (on Whole) ≡ firstKind last checks → kind (on stop) ≡ firstKind last (walks stop ∷ checks)
   unfolding walks firstKind

@@ -40,15 +40,16 @@ bitset-late s from names = weaker OfBitset Late (λ why n. from-five (numberOf w
     from-five n (walking l u) = omega arith
     from-five n (judging l u) = omega arith
 
-level-late : (box : Box) (m : List ℕ) (command : CommandRead) (parts : TopParts) → Every Late (levelChecks box m command parts)
+level-late : (box : Box) (m : List ℕ) (dump : Bool) (command : CommandRead) (parts : TopParts) → Every Late (levelChecks box m dump command parts)
 unfolding levelChecks topChecks headerChecks portChecks
-level-late box m command parts =
+level-late box m dump command parts =
     row Late _ _ (omega arith)
     (row Late _ _ (omega arith)
     (walk Late _ fault-late
     (row Late _ _ (omega arith)
     (row Late _ _ (omega arith)
-    (row Late _ _ (omega arith) (row Late _ _ (omega arith) (row Late _ _ (omega arith) (choice Late (isSet command) _ _ (bitset-late _ _ _) nothing))))))))
+    (row Late _ _ (omega arith)
+    (row Late _ _ (omega arith) (row Late _ _ (omega arith) (row Late _ _ (omega arith) (choice Late (isSet command) _ _ (bitset-late _ _ _) nothing)))))))))
 
 skip-late : (h : MessageHeader) {checks : List Check} → Every Late checks → Every Late (skipIf h ∷ checks)
 unfolding skipIf
@@ -64,7 +65,7 @@ message-late box call m h =
     skip-late h
     (row Late _ _ (omega arith)
     (row Late _ _ (omega arith)
-    (row Late _ _ (omega arith) (row Late _ _ (omega arith) (row Late _ _ (omega arith) (walk Late _ fault-late (level-late box m _ _)))))))
+    (row Late _ _ (omega arith) (row Late _ _ (omega arith) (row Late _ _ (omega arith) (walk Late _ fault-late (level-late box m _ _ _)))))))
 
 pub message-number : (box : Box) (call : Call) (m : List ℕ) (h : MessageHeader) (why : Refusal)
     → FirstIs why (messageChecks box call m h) → 5 ≤ numberOf why

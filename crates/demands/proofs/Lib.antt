@@ -39,3 +39,4 @@ pub mod BoxRefused
 pub mod BoxBeginnings
 pub mod BoxPlace
 pub mod BoxFault
+pub mod Dump

@@ -1,6 +1,6 @@
--- Every message comes to one of the four cases.
-use Prim.Native.Nat.{ℕ, _/_, _%_}
-use mathlib.Core.Path.{_≡_, refl, ap}
+-- Every message comes to one of the five cases.
+use Prim.Native.Nat.{ℕ, _%_}
+use mathlib.Core.Path.{_≡_, refl, sym, ap, _∙_}
 use mathlib.Core.List.{List}
 use mathlib.Core.Bool.{Bool, true, false, _||_, not, cond}
 use lib.ListN.{length}
@@ -16,7 +16,7 @@ use Rattle.bitset.specs.Judge.{bitsetReading}
 use Rattle.layout.specs.Layout.{listOf}
 use Rattle.boxes.specs.Box.{Box, State}
 use Rattle.boxes.specs.declared.Call.{Call}
-use Rattle.admission.specs.Admission.{notPermitted, permitted, onCommand, admitted}
+use Rattle.admission.specs.Admission.{isDump, noDump, notPermitted, permitted, onCommand, admitted}
 use Rattle.request.specs.Target.{targetOf}
 use Rattle.admission.specs.Commands.{commandOf}
 use Rattle.request.specs.Top.{topOf}
@@ -36,63 +36,90 @@ use Rattle.execute.specs.Execute.{requestOf, getBytes, readingOutcome, setOutco
 use Rattle.handler.specs.Call.{onAdmission, messageOutcome}
 use Rattle.demands.specs.Message.{Named}
 use Rattle.demands.specs.CallCase.{MessageCase}
-use Rattle.demands.proofs.Named.{header-gives}
-use Rattle.demands.specs.CallCase.MessageCase.{messageSkipped, messageRefused, getDone, setDone}
+use Rattle.demands.proofs.Named.{header-gives, dump-gives, dump-unnamed, one-named}
+use Rattle.demands.proofs.Request.{listed-dump, not-both}
+use Rattle.demands.specs.CallCase.MessageCase.{messageSkipped, messageRefused, getDone, dumpDone, setDone}
 
--- a command that is admitted is listed
-go-listed : (m : List ℕ) (h : MessageHeader) (family : ℕ) (admin : Bool) (command : Command) → admitted m h family admin ≡ A.Admitted command
-    → commandOf (byteAt m 16) ≡ Listed command
+-- a command that is admitted is listed, and is no SET that asks for a dump
+pub go-listed : (m : List ℕ) (h : MessageHeader) (family : ℕ) (admin : Bool) (command : Command) → admitted m h family admin ≡ A.Admitted command
+    → (commandOf (byteAt m 16) ≡ Listed command) × (noDump h command ≡ false)
 unfolding admitted permitted
 go-listed m h family admin command e =
     by (ltb (h .kind) 16 || eqb (h .flags % 2) 0) (not (eqb (h .kind) family)) (ltb (length m) 20) (commandOf (byteAt m 16)) e
   where
-    admits : (a b : Bool) (c : Command) → cond a (A.Refused R.Dump) (cond b (A.Refused R.Permission) (A.Admitted c)) ≡ A.Admitted command → c ≡ command
-    admits true b c e = absurd (let z : _≡_ {A = ℕ} 0 1 = cc in omega arith)
-    admits false true c e = absurd (let z : _≡_ {A = ℕ} 0 1 = cc in omega arith)
-    admits false false c e = cc
+    admits : (a b : Bool) (c : Command) → noDump h c ≡ a → cond a (A.Refused R.Dump) (cond b (A.Refused R.Permission) (A.Admitted c)) ≡ A.Admitted command
+        → (c ≡ command) × (noDump h command ≡ false)
+    admits true b c q e = absurd (let z : _≡_ {A = ℕ} 0 1 = cc in omega arith)
+    admits false true c q e = absurd (let z : _≡_ {A = ℕ} 0 1 = cc in omega arith)
+    admits false false c q e = let same : c ≡ command = cc in (same, rw same at q)
 
     by : (a b c : Bool) (x : CommandRead)
-        → cond a A.Skipped (cond b (A.Refused R.Family) (cond c (A.Refused R.Short) (onCommand x (permitted h admin)))) ≡ A.Admitted command → x ≡ Listed command
+        → cond a A.Skipped (cond b (A.Refused R.Family) (cond c (A.Refused R.Short) (onCommand x (permitted h admin)))) ≡ A.Admitted command
+        → (x ≡ Listed command) × (noDump h command ≡ false)
     by true b c x e = absurd (let z : _≡_ {A = ℕ} 0 1 = cc in omega arith)
     by false true c x e = absurd (let z : _≡_ {A = ℕ} 0 1 = cc in omega arith)
     by false false true x e = absurd (let z : _≡_ {A = ℕ} 0 1 = cc in omega arith)
     by false false false Unlisted e = absurd (let z : _≡_ {A = ℕ} 0 1 = cc in omega arith)
-    by false false false (Listed c) e = ap Listed (admits (eqb (h .flags / 256 % 4) 3) (notPermitted c admin) c e)
+    by false false false (Listed c) e = let a = admits (noDump h c) (notPermitted c admin) c refl e in (ap Listed (a .0), a .1)
 
-module _ (box : Box) (state : State) (m : List ℕ) (h : MessageHeader) (next : ℕ) where
-  module _ (n : Named (box .roll) m) where
-    set-case : n .command .change ≡ true → MessageCase box state m h next (setOutcome box state m (requestOf h next (n .command)) (n .parts .bitset) (n .target .position))
+module _ (box : Box) (state : State) (call : Call) (m : List ℕ) (h : MessageHeader) (next : ℕ) where
+  module _ (one : isDump h ≡ false) (n : Named (box .roll) m) where
+    set-case : n .command .change ≡ true → MessageCase box state call m h next (setOutcome box state m (requestOf call h next (n .command)) (n .parts .bitset) (n .target .position))
     unfolding setOutcome
     set-case change = go (bitsetReading (partOf m 0 (n .parts .bitset .end)) (n .parts .bitset .start) (listOf (box .names) (n .command .set))) refl
       where
         go : (x : Reading) → bitsetReading (partOf m 0 (n .parts .bitset .end)) (n .parts .bitset .start) (listOf (box .names) (n .command .set)) ≡ x
-            → MessageCase box state m h next (readingOutcome x box state m (requestOf h next (n .command)) (n .target .position))
+            → MessageCase box state call m h next (readingOutcome x box state m (requestOf call h next (n .command)) (n .target .position))
         go (refused why) e = messageRefused why refl
-        go (accepted b) e = setDone n change b e refl
+        go (accepted b) e = setDone one n change b e refl
 
-    port-outcome-case : MessageCase box state m h next (portOutcome box state m (requestOf h next (n .command)) (n .parts .bitset) (n .target))
+    port-outcome-case : MessageCase box state call m h next (portOutcome box state m (requestOf call h next (n .command)) (n .parts .bitset) (n .target))
     unfolding portOutcome
     port-outcome-case = go (n .command .change) refl
       where
         got : Outcome State
-        got = unchanged (responseOf Done next (getBytes box state m (requestOf h next (n .command)) (n .target))) state
+        got = unchanged (responseOf Done next (getBytes box state m (requestOf call h next (n .command)) (n .target))) state
 
         go : (t : Bool) → n .command .change ≡ t
-            → MessageCase box state m h next (cond t (setOutcome box state m (requestOf h next (n .command)) (n .parts .bitset) (n .target .position)) got)
+            → MessageCase box state call m h next (cond t (setOutcome box state m (requestOf call h next (n .command)) (n .parts .bitset) (n .target .position)) got)
         go true e = set-case e
-        go false e = getDone n e refl
+        go false e = getDone one n e refl
 
-  module _ (command : Command) (listed : commandOf (byteAt m 16) ≡ Listed command) where
+  module _ (command : Command) (listed : commandOf (byteAt m 16) ≡ Listed command) (may : noDump h command ≡ false) where
+    -- a dump is of a GET
+    dump-get : isDump h ≡ true → command .change ≡ false
+    unfolding noDump
+    dump-get d = sym (listed-dump (byteAt m 16) command listed) ∙ not-both (isDump h) (not (command .dump)) may d
+
     header-case : (parts : TopParts) → topOf m (command .change) ≡ T.Nests parts
-        → MessageCase box state m h next (headerOutcome box state m (requestOf h next command) parts)
+        → MessageCase box state call m h next (headerOutcome box state m (requestOf call h next command) parts)
     unfolding headerOutcome
-    header-case parts nests = go (targetOf m (parts .header) (box .roll)) refl
+    header-case parts nests = go (isDump h) refl (targetOf m (parts .header) (isDump h) (box .roll)) refl
       where
-        go : (a : TargetRead) → targetOf m (parts .header) (box .roll) ≡ a → MessageCase box state m h next (targetOutcome a state m (requestOf h next command) (portOutcome box state m (requestOf h next command) (parts .bitset)))
-        go (P.Refused why) e = messageRefused why refl
-        go (P.Port target) e =
+        go : (d : Bool) → isDump h ≡ d → (a : TargetRead) → targetOf m (parts .header) d (box .roll) ≡ a → MessageCase box state call m h next (targetOutcome a box state m (requestOf call h next command) (portOutcome box state m (requestOf call h next command) (parts .bitset)))
+        go d q (P.Refused why) e = messageRefused why refl
+        go false q (P.Unnamed flags) e = absurd (one-named (box .roll) m (parts .header) flags e)
+        go true q (P.Port target) e = absurd (dump-unnamed (box .roll) m (parts .header) target e)
+        go true q (P.Unnamed flags) e =
+            let given = dump-gives (box .roll) m (parts .header) flags e in
+            dumpDone q
+            (record {
+              command = command;
+              listed = listed;
+              is-get = dump-get q;
+              parts = parts;
+              nests = rw (dump-get q) at nests;
+              header = given .header;
+              flags = flags;
+              read = given .read;
+              flags-are = given .flags-are;
+              no-index = given .no-index;
+              no-name = given .no-name;
+            })
+            refl
+        go false q (P.Port target) e =
             let given = header-gives (box .roll) m (parts .header) target e in
-            port-outcome-case
+            port-outcome-case q
             (record {
               command = command;
               listed = listed;
@@ -106,20 +133,20 @@ module _ (box : Box) (state : State) (m : List ℕ) (h : MessageHeader) (next : 
               port = given .port;
             })
 
-    request-case : MessageCase box state m h next (requestOutcome box state m (requestOf h next command))
+    request-case : MessageCase box state call m h next (requestOutcome box state m (requestOf call h next command))
     unfolding requestOutcome
     request-case = go (topOf m (command .change)) refl
       where
-        go : (t : Top) → topOf m (command .change) ≡ t → MessageCase box state m h next (topOutcome t state m (requestOf h next command) (headerOutcome box state m (requestOf h next command)))
+        go : (t : Top) → topOf m (command .change) ≡ t → MessageCase box state call m h next (topOutcome t state m (requestOf call h next command) (headerOutcome box state m (requestOf call h next command)))
         go (T.Refused why) e = messageRefused why refl
         go (T.Nests parts) e = header-case parts e
 
-  pub message-case : (call : Call) → MessageCase box state m h next (messageOutcome box state call m h next)
+  pub message-case : MessageCase box state call m h next (messageOutcome box state call m h next)
   unfolding messageOutcome
-  message-case call = go (admitted m h (call .family) (eqb (call .admin) 1)) refl
+  message-case = go (admitted m h (call .family) (eqb (call .admin) 1)) refl
     where
       go : (a : Admission) → admitted m h (call .family) (eqb (call .admin) 1) ≡ a
-          → MessageCase box state m h next (onAdmission a box state m h next)
+          → MessageCase box state call m h next (onAdmission a box state call m h next)
       go A.Skipped e = messageSkipped refl
       go (A.Refused why) e = messageRefused why refl
-      go (A.Admitted command) e = request-case command (go-listed m h (call .family) (eqb (call .admin) 1) command e)
+      go (A.Admitted command) e = let l = go-listed m h (call .family) (eqb (call .admin) 1) command e in request-case command (l .0) (l .1)

@@ -1,5 +1,6 @@
--- The port that a request's header gives is the one that is found.
+-- The port that a request's header gives is the one that is found; that of a dump gives none.
 --     header-gives     the header's parts, its flags, and the record of the roll that has the index and the name that are given
+--     dump-gives       of a dump: the header's parts, its flags, and that neither index nor name stands
 use Prim.Native.Nat.{ℕ, _-_, _<_}
 use mathlib.Core.Path.{_≡_, refl, sym, ap, _∙_}
 use mathlib.Core.List.{List}
@@ -14,7 +15,7 @@ use Rattle.netlink.specs.declared.walk.Stop.{Stop}
 use Rattle.netlink.specs.declared.walk.Stop.the-variants.{Whole, At}
 use Rattle.netlink.specs.declared.walk.Walked.{Walked}
 use Rattle.refusal.specs.Refusal.{onStop}
-use Rattle.refusal.specs.declared.Refusal.the-variants.{NoPort, HeaderFlag, UnknownPort, OtherName}
+use Rattle.refusal.specs.declared.Refusal.the-variants.{Dump, NoPort, HeaderFlag, UnknownPort, OtherName}
 use Rattle.roll.specs.Name.{holdsName}
 use Rattle.roll.specs.Record.{portCount, portAt, indexOf, nameOf}
 use Rattle.roll.specs.Find.{foundByIndex, foundByName}
@@ -23,7 +24,7 @@ use Rattle.roll.specs.declared.find.Found.the-variants as F
 use Rattle.roll.proofs.find.Laws.{index-is, name-is}
 use Rattle.request.specs.Policies.{headerPolicy}
 use Rattle.request.specs.Parts.{headerParts}
-use Rattle.request.specs.Header.{flagsJudged, partsOf, headerOf}
+use Rattle.request.specs.Header.{flagsJudged, partsOf, dumpPartsOf, headerOf}
 use Rattle.request.specs.Port.{onFound, otherName, portByIndex, portByName, portOf}
 use Rattle.request.specs.Target.{withFlags, onHeader, targetOf}
 use Rattle.request.specs.declared.parts.HeaderParts.{HeaderParts}
@@ -43,7 +44,7 @@ module _ (m : List ℕ) (nest : Slot) (header : HeaderParts) (flags : ℕ) where
   abbrev read : HeaderParts
   read = headerParts (walk .slots)
 
-  parts-are : headerOf m nest ≡ H.Parts header flags → (flags ≡ slotNumber m (header .flags)) × (header .index .present || header .name .present ≡ true)
+  parts-are : headerOf m nest false ≡ H.Parts header flags → (flags ≡ slotNumber m (header .flags)) × (header .index .present || header .name .present ≡ true)
   unfolding headerOf partsOf flagsJudged
   parts-are = go (walk .stop)
     where
@@ -62,6 +63,29 @@ module _ (m : List ℕ) (nest : Slot) (header : HeaderParts) (flags : ℕ) where
           → (flags ≡ slotNumber m (header .flags)) × (header .index .present || header .name .present ≡ true)
       go (At fault at) e = absurd (let z : _≡_ {A = ℕ} 0 1 = cc in omega arith)
       go Whole e = by (read .index .present || read .name .present) (ltb 3 (slotNumber m (read .flags))) refl e
+
+  -- and in a dump none is
+  dump-parts-are : headerOf m nest true ≡ H.Parts header flags
+      → (flags ≡ slotNumber m (header .flags)) × (header .index .present ≡ false) × (header .name .present ≡ false)
+  unfolding headerOf dumpPartsOf flagsJudged
+  dump-parts-are = go (walk .stop)
+    where
+      by : (i n b : Bool) → read .index .present ≡ i → read .name .present ≡ n
+          → cond (i || n) (H.Refused Dump)
+          (cond b (H.Refused (HeaderFlag (read .flags .start - 4))) (H.Parts read (slotNumber m (read .flags)))) ≡ H.Parts header flags
+          → (flags ≡ slotNumber m (header .flags)) × (header .index .present ≡ false) × (header .name .present ≡ false)
+      by true n b p q e = absurd (let z : _≡_ {A = ℕ} 0 1 = cc in omega arith)
+      by false true b p q e = absurd (let z : _≡_ {A = ℕ} 0 1 = cc in omega arith)
+      by false false true p q e = absurd (let z : _≡_ {A = ℕ} 0 1 = cc in omega arith)
+      by false false false p q e =
+          let same : read ≡ header = cc in
+          let number : slotNumber m (read .flags) ≡ flags = cc in
+          (sym number ∙ ap (λ (x : HeaderParts). slotNumber m (x .flags)) same, rw same at p, rw same at q)
+
+      go : (t : Stop) → onStop t H.Refused (dumpPartsOf m read) ≡ H.Parts header flags
+          → (flags ≡ slotNumber m (header .flags)) × (header .index .present ≡ false) × (header .name .present ≡ false)
+      go (At fault at) e = absurd (let z : _≡_ {A = ℕ} 0 1 = cc in omega arith)
+      go Whole e = by (read .index .present) (read .name .present) (ltb 3 (slotNumber m (read .flags))) refl refl e
 
 -- the port level: the record that is found has the index and the name
 module _ (roll m : List ℕ) (nest : Slot) (header : HeaderParts) (position : ℕ) where
@@ -117,12 +141,12 @@ module _ (roll m : List ℕ) (nest : Slot) (header : HeaderParts) (position : �
 -- what the header nest of the message m gives
 pub record Gives (roll m : List ℕ) (nest : Slot) (target : Target) : Type 0 where
   pub header : HeaderParts
-  pub read : headerOf m nest ≡ H.Parts header (target .flags)
+  pub read : headerOf m nest false ≡ H.Parts header (target .flags)
   pub flags : target .flags ≡ slotNumber m (header .flags)
   pub port : IsPort roll m header (target .position)
 
 module _ (roll m : List ℕ) (nest : Slot) (target : Target) where
-  gives : (header : HeaderParts) → headerOf m nest ≡ H.Parts header (target .flags) → portOf m nest header roll ≡ T.Port (target .position)
+  gives : (header : HeaderParts) → headerOf m nest false ≡ H.Parts header (target .flags) → portOf m nest header roll ≡ T.Port (target .position)
       → Gives roll m nest target
   gives header read port =
       let parts = parts-are m nest header (target .flags) read in
@@ -134,18 +158,60 @@ module _ (roll m : List ℕ) (nest : Slot) (target : Target) where
         port = record { inside = has .0; given = parts .1; index = has .1; name = has .2 };
       }
 
-  pub header-gives : targetOf m nest roll ≡ A.Port target → Gives roll m nest target
+  pub header-gives : targetOf m nest false roll ≡ A.Port target → Gives roll m nest target
   unfolding targetOf withFlags
-  header-gives = go (headerOf m nest) refl
+  header-gives = go (headerOf m nest false) refl
     where
-      with-port : (header : HeaderParts) (flags : ℕ) → headerOf m nest ≡ H.Parts header flags
+      with-port : (header : HeaderParts) (flags : ℕ) → headerOf m nest false ≡ H.Parts header flags
           → (p : PortRead) → portOf m nest header roll ≡ p → withFlags p flags ≡ A.Port target → Gives roll m nest target
       with-port header flags read (T.Refused why) port e = absurd (let z : _≡_ {A = ℕ} 0 1 = cc in omega arith)
       with-port header flags read (T.Port k) port e =
           let same : _≡_ {A = Target} (record { position = k; flags = flags }) target = cc in
           gives header (read ∙ ap (λ (x : Target). H.Parts header (x .flags)) same) (port ∙ ap (λ (x : Target). T.Port (x .position)) same)
 
-      go : (h : Header) → headerOf m nest ≡ h → onHeader h (λ parts flags. withFlags (portOf m nest parts roll) flags) ≡ A.Port target
+      go : (h : Header) → headerOf m nest false ≡ h → onHeader h (λ parts flags. withFlags (portOf m nest parts roll) flags) ≡ A.Port target
           → Gives roll m nest target
       go (H.Refused why) r e = absurd (let z : _≡_ {A = ℕ} 0 1 = cc in omega arith)
       go (H.Parts header flags) r e = with-port header flags r (portOf m nest header roll) refl e
+
+-- what the header nest of the dump m gives
+pub record DumpGives (m : List ℕ) (nest : Slot) (flags : ℕ) : Type 0 where
+  pub header : HeaderParts
+  pub read : headerOf m nest true ≡ H.Parts header flags
+  pub flags-are : flags ≡ slotNumber m (header .flags)
+  pub no-index : header .index .present ≡ false
+  pub no-name : header .name .present ≡ false
+
+module _ (roll m : List ℕ) (nest : Slot) where
+  pub dump-gives : (flags : ℕ) → targetOf m nest true roll ≡ A.Unnamed flags → DumpGives m nest flags
+  unfolding targetOf
+  dump-gives flags = go (headerOf m nest true) refl
+    where
+      go : (h : Header) → headerOf m nest true ≡ h → onHeader h (λ parts asked. A.Unnamed asked) ≡ A.Unnamed flags → DumpGives m nest flags
+      go (H.Refused why) r e = absurd (let z : _≡_ {A = ℕ} 0 1 = cc in omega arith)
+      go (H.Parts header asked) r e =
+          let same : asked ≡ flags = cc in
+          let read = r ∙ ap (H.Parts header) same in
+          let are = dump-parts-are m nest header flags read in
+          record { header = header; read = read; flags-are = are .0; no-index = are .1; no-name = are .2 }
+
+  -- a dump names no port, and another request does
+  pub dump-unnamed : (target : Target) → targetOf m nest true roll ≡ A.Port target → ⊥
+  unfolding targetOf
+  dump-unnamed target = go (headerOf m nest true)
+    where
+      go : (h : Header) → onHeader h (λ parts asked. A.Unnamed asked) ≡ A.Port target → ⊥
+      go (H.Refused why) e = let z : _≡_ {A = ℕ} 0 1 = cc in omega arith
+      go (H.Parts header asked) e = let z : _≡_ {A = ℕ} 0 1 = cc in omega arith
+
+  pub one-named : (flags : ℕ) → targetOf m nest false roll ≡ A.Unnamed flags → ⊥
+  unfolding targetOf withFlags
+  one-named flags = go (headerOf m nest false)
+    where
+      by : (p : PortRead) (asked : ℕ) → withFlags p asked ≡ A.Unnamed flags → ⊥
+      by (T.Refused why) asked e = let z : _≡_ {A = ℕ} 0 1 = cc in omega arith
+      by (T.Port k) asked e = let z : _≡_ {A = ℕ} 0 1 = cc in omega arith
+
+      go : (h : Header) → onHeader h (λ parts asked. withFlags (portOf m nest parts roll) asked) ≡ A.Unnamed flags → ⊥
+      go (H.Refused why) e = let z : _≡_ {A = ℕ} 0 1 = cc in omega arith
+      go (H.Parts header asked) e = by (portOf m nest header roll) asked e

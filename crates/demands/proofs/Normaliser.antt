@@ -10,7 +10,7 @@ use lib.ListN.{length, length-take, length-drop}
 use lib.Dec.{eqb, ltb}
 use native.Mathlib.Omega.{arith}
 use borrow.Author.Tests.{lt-ltb, ltb-false}
-use Rattle.basics.specs.Numbers.{u32At}
+use Rattle.basics.specs.Numbers.{byteAt, u32At}
 use Rattle.basics.proofs.Order.{lt-or-ge}
 use Rattle.basics.proofs.Truth.{clash}
 use Rattle.names.specs.Rule.{namesRight}
@@ -33,7 +33,7 @@ use Rattle.boxes.specs.Box.{Box, State}
 use Rattle.boxes.specs.declared.Call.{Call}
 use Rattle.boxes.specs.Rule.{boxRight}
 use Rattle.boxes.proofs.rule.Meaning.{box-means}
-use Rattle.admission.specs.Admission.{admitted}
+use Rattle.admission.specs.Admission.{isDump, noDump, admitted}
 use Rattle.admission.specs.declared.Admission.{Admission}
 use Rattle.admission.specs.declared.Admission.the-variants as A
 use Rattle.request.specs.Policies.{topPolicy}
@@ -42,6 +42,7 @@ use Rattle.request.specs.Top.{nestsOf, topOf}
 use Rattle.request.specs.declared.parts.TopParts.{TopParts}
 use Rattle.request.specs.declared.top.Top.{Top}
 use Rattle.request.specs.declared.top.Top.the-variants as T
+use Rattle.request.specs.Target.{targetOf}
 use Rattle.request.specs.declared.target.TargetRead.{TargetRead}
 use Rattle.response.specs.Answer.{Outcome, responseOf, unchanged}
 use Rattle.response.specs.declared.Kind.the-variants.{Done}
@@ -55,7 +56,8 @@ use Rattle.demands.specs.Message.{Named}
 use Rattle.demands.specs.Normaliser.{namesFor, AnsweredAlike}
 use Rattle.demands.specs.Normaliser.AnsweredAlike.{both-done, both-refused}
 use Rattle.demands.proofs.Bitset.{kindOf}
-use Rattle.demands.proofs.Request.{kind, message-first}
+use Rattle.demands.proofs.Request.{kind, message-first, listed-dump}
+use Rattle.demands.proofs.Message.{go-listed}
 use Rattle.demands.proofs.CallCase.{call-case}
 
 -- a part is no longer than the whole
@@ -143,17 +145,30 @@ module _ (box : Box) (state : State) (call : Call) (datagram : List ℕ) (room :
 
       -- a SET that is admitted, names a port and so comes to its bitset
       module _ (change : n .command .change ≡ true) (admit : admitted m h (call .family) (eqb (call .admin) 1) ≡ A.Admitted (n .command)) where
+        -- it asks for no dump
+        one : isDump h ≡ false
+        unfolding noDump
+        one =
+            let may = go-listed m h (call .family) (eqb (call .admin) 1) (n .command) admit .1 in
+            let set = listed-dump (byteAt m 16) (n .command) (n .listed) ∙ change in
+            by (isDump h) (not (n .command .dump)) set may
+          where
+            by : (a b : Bool) → b ≡ true → a && b ≡ false → a ≡ false
+            by true b q e = absurd (clash q e)
+            by false b q e = refl
+
         set-kind : (next : ℕ) → kind (messageOutcome box state call m h next) ≡ kindOf reading
         unfolding messageOutcome requestOutcome headerOutcome portOutcome setOutcome
         set-kind next =
-            ap (λ (a : Admission). kind (onAdmission a box state m h next)) admit
+            ap (λ (a : Admission). kind (onAdmission a box state call m h next)) admit
             ∙ ap (λ (t : Top). kind (topOutcome t state m request (headerOutcome box state m request))) (n .nests)
-            ∙ ap (λ (a : TargetRead). kind (targetOutcome a state m request (portOutcome box state m request (n .parts .bitset)))) (n .found)
+            ∙ ap (λ (d : Bool). kind (targetOutcome (targetOf m (n .parts .header) d (box .roll)) box state m request (portOutcome box state m request (n .parts .bitset)))) one
+            ∙ ap (λ (a : TargetRead). kind (targetOutcome a box state m request (portOutcome box state m request (n .parts .bitset)))) (n .found)
             ∙ ap (λ (t : Bool). kind (cond t (setOutcome box state m request (n .parts .bitset) (n .target .position)) got)) change
             ∙ read-kind reading
           where
             request : Request
-            request = requestOf h next (n .command)
+            request = requestOf call h next (n .command)
 
             got : Outcome State
             got = unchanged (responseOf Done next (getBytes box state m request (n .target))) state
@@ -169,7 +184,7 @@ module _ (box : Box) (state : State) (call : Call) (datagram : List ℕ) (room :
             by (ended e) = absurd (clash (ap (λ (x : Outcome State). endsRun (x .response .kind)) e) going)
             by (notRead w l e) = absurd (clash (ap (λ (x : Outcome State). endsRun (x .response .kind)) e ∙ lt-ltb (numberOf w) 5 (omega arith)) going)
             by (messageAnswered right lo hi long first c) =
-                let next = nextOf datagram position in first ∙ sym (message-first box state m h next call) ∙ set-kind next
+                let next = nextOf datagram position in first ∙ sym (message-first box state call m h next) ∙ set-kind next
 
         pub set-alike : (page : ℕ) → 144 ≤ page → AnsweredAlike box m n page (o .response .kind)
         set-alike page wide = go reading refl

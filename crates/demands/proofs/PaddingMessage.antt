@@ -27,7 +27,7 @@ use Rattle.bitset.specs.Judge.{bitsetReading}
 use Rattle.layout.specs.Layout.{listOf}
 use Rattle.boxes.specs.Box.{Box, State}
 use Rattle.boxes.specs.declared.Call.{Call}
-use Rattle.admission.specs.Admission.{admitted}
+use Rattle.admission.specs.Admission.{isDump, admitted}
 use Rattle.admission.specs.declared.Admission.{Admission}
 use Rattle.admission.specs.declared.Admission.the-variants as A
 use Rattle.request.specs.Top.{topOf}
@@ -114,14 +114,15 @@ module _ (s t : List ℕ) (agree : MessagesAgree s t) where
     unfolding headerOutcome portOutcome
     header-same parts e =
         let nests = nests-agree s t (agree .size) (agree .attributes-agree) (request .command .change) parts e in
-        ap (λ (x : TargetRead). targetOutcome x state t request (portOutcome box state t request (parts .bitset)))
-        (named-same s t (agree .size) (agree .attributes-agree) (box .roll) (nests .0) (nests .1))
-        ∙ go (nests .2) (targetOf s (parts .header) (box .roll))
+        ap (λ (x : TargetRead). targetOutcome x box state t request (portOutcome box state t request (parts .bitset)))
+        (named-same s t (agree .size) (agree .attributes-agree) (isDump (request .header)) (box .roll) (nests .0) (nests .1))
+        ∙ go (nests .2) (targetOf s (parts .header) (isDump (request .header)) (box .roll))
       where
         go : SlotAgrees s t (topPayloads s t) 2 (parts .bitset) → (x : TargetRead)
-            → targetOutcome x state t request (portOutcome box state t request (parts .bitset))
-            ≡ targetOutcome x state s request (portOutcome box state s request (parts .bitset))
+            → targetOutcome x box state t request (portOutcome box state t request (parts .bitset))
+            ≡ targetOutcome x box state s request (portOutcome box state s request (parts .bitset))
         go a (G.Refused why) = refusal-same state (request .next) why
+        go a (G.Unnamed flags) = refl
         go a (G.Port target) = rw (set-same (parts .bitset) (target .position) a, get-same target)
 
     pub request-same : requestOutcome box state t request ≡ requestOutcome box state s request
@@ -145,10 +146,10 @@ module _ (s t : List ℕ) (agree : MessagesAgree s t) where
     pub message-same : messageOutcome box state call t h next ≡ messageOutcome box state call s h next
     unfolding messageOutcome
     message-same =
-        ap (λ (x : Admission). onAdmission x box state t h next) admitted-same
+        ap (λ (x : Admission). onAdmission x box state call t h next) admitted-same
         ∙ go (admitted s h (call .family) (eqb (call .admin) 1))
       where
-        go : (x : Admission) → onAdmission x box state t h next ≡ onAdmission x box state s h next
+        go : (x : Admission) → onAdmission x box state call t h next ≡ onAdmission x box state call s h next
         go A.Skipped = refl
         go (A.Refused why) = refusal-same state next why
-        go (A.Admitted command) = request-same box state (requestOf h next command)
+        go (A.Admitted command) = request-same box state (requestOf call h next command)

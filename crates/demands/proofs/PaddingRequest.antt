@@ -18,12 +18,13 @@ use Rattle.netlink.specs.declared.walk.Stop.{Stop}
 use Rattle.netlink.specs.declared.walk.Stop.the-variants.{Whole, At}
 use Rattle.netlink.specs.declared.walk.Walked.{Walked}
 use Rattle.refusal.specs.Refusal.{onStop, onWalk}
+use Rattle.refusal.specs.declared.Refusal.{Refusal}
 use Rattle.refusal.specs.declared.Refusal.the-variants as R
 use Rattle.bitset.specs.Judge.{bitsetReading}
 use Rattle.request.specs.Policies.{topPolicy, headerPolicy}
 use Rattle.request.specs.Parts.{topParts, headerParts}
 use Rattle.request.specs.Top.{nestsOf, topOf}
-use Rattle.request.specs.Header.{flagsJudged, partsOf, headerOf}
+use Rattle.request.specs.Header.{flagsJudged, partsOf, dumpPartsOf, judgedParts, headerOf}
 use Rattle.request.specs.Port.{otherName, portByIndex, portByName, portOf}
 use Rattle.request.specs.Target.{withFlags, onHeader, targetOf}
 use Rattle.request.specs.declared.parts.HeaderParts.{HeaderParts}
@@ -32,6 +33,7 @@ use Rattle.request.specs.declared.header.Header.{Header}
 use Rattle.request.specs.declared.header.Header.the-variants as H
 use Rattle.request.specs.declared.port.PortRead.{PortRead}
 use Rattle.request.specs.declared.target.TargetRead.{TargetRead}
+use Rattle.request.specs.declared.target.TargetRead.the-variants.{Unnamed}
 use Rattle.request.specs.declared.top.Top.the-variants as T
 use Rattle.demands.specs.Padding.{SameBytes, Payloads, NestOf, PlainAgrees, BitsetAgrees, TopAgrees}
 use Rattle.demands.proofs.PaddingAttributes.{part-none, part-of-part, cut-long, part-long}
@@ -39,9 +41,9 @@ use Rattle.demands.proofs.PaddingWalk.{JudgedAlike, nest-judged, unlist
 use Rattle.demands.proofs.PaddingWalk.SlotAgrees.{none, some}
 use Rattle.demands.proofs.PaddingBitset.{bitset-same}
 
--- the port that the parts of a header name
-abbrev named : List ℕ → Slot → List ℕ → HeaderParts → ℕ → TargetRead
-named m header roll parts flags = withFlags (portOf m header parts roll) flags
+-- the port that the parts of a header name, or in a dump none
+abbrev named : List ℕ → Slot → Bool → List ℕ → HeaderParts → ℕ → TargetRead
+named m header dump roll parts flags = cond dump (Unnamed flags) (withFlags (portOf m header parts roll) flags)
 
 -- the parts of a header, whose flags and port are read where they stand in the message
 module _ (s t roll : List ℕ) (header : Slot) (p : HeaderParts)
@@ -52,24 +54,38 @@ module _ (s t roll : List ℕ) (header : Slot) (p : HeaderParts)
   unfolding portOf portByIndex portByName otherName
   port-same = rw (plain-number s t (p .index) index, name)
 
-  parts-same : (nest : ℕ) → onHeader (partsOf t nest p) (named t header roll) ≡ onHeader (partsOf s nest p) (named s header roll)
-  unfolding partsOf flagsJudged
-  parts-same nest =
-      rw (plain-number s t (p .flags) flags)
-      (go (not (p .index .present || p .name .present)) (ltb 3 number))
-    where
-      number : ℕ
-      number = slotNumber s (p .flags)
+  abbrev number : ℕ
+  number = slotNumber s (p .flags)
 
-      go : (a b : Bool)
-          → onHeader (cond a (H.Refused (R.NoPort nest)) (cond b (H.Refused (R.HeaderFlag (p .flags .start - 4))) (H.Parts p number))) (named t header roll)
-          ≡ onHeader (cond a (H.Refused (R.NoPort nest)) (cond b (H.Refused (R.HeaderFlag (p .flags .start - 4))) (H.Parts p number))) (named s header roll)
-      go true b = refl
-      go false true = refl
-      go false false = ap (λ (x : PortRead). withFlags x number) port-same
+  -- a refusal where a test holds, then 15
+  abbrev judge : Bool → Refusal → Bool → Header
+  judge a why b = cond a (H.Refused why) (cond b (H.Refused (R.HeaderFlag (p .flags .start - 4))) (H.Parts p number))
+
+  parts-same : (nest : ℕ) (dump : Bool) → onHeader (judgedParts t nest dump p) (named t header dump roll) ≡ onHeader (judgedParts s nest dump p) (named s header dump roll)
+  unfolding partsOf dumpPartsOf flagsJudged
+  parts-same nest dump = rw (plain-number s t (p .flags) flags) (by dump)
+    where
+      one : (a b : Bool) → onHeader (judge a (R.NoPort nest) b) (named t header false roll) ≡ onHeader (judge a (R.NoPort nest) b) (named s header false roll)
+      one true b = refl
+      one false true = refl
+      one false false = ap (λ (x : PortRead). withFlags x number) port-same
+
+      all : (a b : Bool) → onHeader (judge a R.Dump b) (named t header true roll) ≡ onHeader (judge a R.Dump b) (named s header true roll)
+      all true b = refl
+      all false true = refl
+      all false false = refl
+
+      given : Bool
+      given = p .index .present || p .name .present
+
+      by : (d : Bool)
+          → onHeader (cond d (judge given R.Dump (ltb 3 number)) (judge (not given) (R.NoPort nest) (ltb 3 number))) (named t header d roll)
+          ≡ onHeader (cond d (judge given R.Dump (ltb 3 number)) (judge (not given) (R.NoPort nest) (ltb 3 number))) (named s header d roll)
+      by true = all given (ltb 3 number)
+      by false = one (not given) (ltb 3 number)
 
 -- the header nest, from a to e
-module _ (s t : List ℕ) (size : length s ≡ length t) (roll : List ℕ) (a e : ℕ) (inside : e ≤ length s)
+module _ (s t : List ℕ) (size : length s ≡ length t) (dump : Bool) (roll : List ℕ) (a e : ℕ) (inside : e ≤ length s)
     (agree : PlainAgrees (partOf s 0 e) (partOf t 0 e) a) where
   abbrev c : List ℕ
   c = partOf s 0 e
@@ -84,21 +100,21 @@ module _ (s t : List ℕ) (size : length s ≡ length t) (roll : List ℕ) (a e 
       let long = part-long s 0 e (omega arith) inside in
       sym (part-of-part t e start end (omega arith) l (omega arith)) ∙ sym same ∙ part-of-part s e start end inside l (omega arith)
 
-  pub target-same : targetOf t (found a e) roll ≡ targetOf s (found a e) roll
+  pub target-same : targetOf t (found a e) dump roll ≡ targetOf s (found a e) dump roll
   unfolding targetOf headerOf headerParts
   target-same =
       let w = walked headerPolicy c a in
-      ap (λ (x : Walked). onHeader (onWalk x H.Refused (λ slots. partsOf t (a - 4) (headerParts slots))) (named t (found a e) roll))
+      ap (λ (x : Walked). onHeader (onWalk x H.Refused (λ slots. judgedParts t (a - 4) dump (headerParts slots))) (named t (found a e) dump roll))
       (walked-same c d (cut-long s t size e inside) (plainPayloads c d) headerPolicy
       (λ kind start end q. same-judged c d (ruleOf headerPolicy kind) start end q) a agree)
-      ∙ go (w .stop) (partsOf t (a - 4) (headerParts (w .slots))) (partsOf s (a - 4) (headerParts (w .slots)))
+      ∙ go (w .stop) (judgedParts t (a - 4) dump (headerParts (w .slots))) (judgedParts s (a - 4) dump (headerParts (w .slots)))
       (λ (whole : w .stop ≡ Whole).
       let slot = slot-agrees c d (cut-long s t size e inside) (plainPayloads c d) headerPolicy a agree whole in
       parts-same s t roll (found a e) (headerParts (w .slots))
-      (in-message (slot 1 (omega arith))) (in-message (slot 2 (omega arith))) (in-message (slot 3 (omega arith))) (a - 4))
+      (in-message (slot 1 (omega arith))) (in-message (slot 2 (omega arith))) (in-message (slot 3 (omega arith))) (a - 4) dump)
     where
-      go : (x : Stop) (f g : Header) → (x ≡ Whole → onHeader f (named t (found a e) roll) ≡ onHeader g (named s (found a e) roll))
-          → onHeader (onStop x H.Refused f) (named t (found a e) roll) ≡ onHeader (onStop x H.Refused g) (named s (found a e) roll)
+      go : (x : Stop) (f g : Header) → (x ≡ Whole → onHeader f (named t (found a e) dump roll) ≡ onHeader g (named s (found a e) dump roll))
+          → onHeader (onStop x H.Refused f) (named t (found a e) dump roll) ≡ onHeader (onStop x H.Refused g) (named s (found a e) dump roll)
       go Whole f g q = q refl
       go (At fault at) f g q = refl
 
@@ -158,9 +174,10 @@ module _ (s t : List ℕ) (size : length s ≡ length t) (agree : TopAgrees s t)
             )
 
   -- so the header names the same port, and the bitset reads the same
-  pub named-same : (roll : List ℕ) {slot : Slot} → SlotAgrees s t (topPayloads s t) 1 slot → slot .present ≡ true → targetOf t slot roll ≡ targetOf s slot roll
-  named-same roll none e = absurd (let z : _≡_ {A = ℕ} 0 1 = cc in omega arith)
-  named-same roll (some a e l u q) p = target-same s t size roll a e u (q .0 refl)
+  pub named-same : (dump : Bool) (roll : List ℕ) {slot : Slot} → SlotAgrees s t (topPayloads s t) 1 slot → slot .present ≡ true
+      → targetOf t slot dump roll ≡ targetOf s slot dump roll
+  named-same dump roll none e = absurd (let z : _≡_ {A = ℕ} 0 1 = cc in omega arith)
+  named-same dump roll (some a e l u q) p = target-same s t size dump roll a e u (q .0 refl)
 
   pub reading-same : (names : List ℕ) {slot : Slot} → SlotAgrees s t (topPayloads s t) 2 slot
       → bitsetReading (partOf t 0 (slot .end)) (slot .start) names ≡ bitsetReading (partOf s 0 (slot .end)) (slot .start) names

@@ -41,7 +41,7 @@ use Rattle.admission.specs.declared.commands.Command.{Command}
 use Rattle.request.specs.Policies.{topPolicy, headerPolicy}
 use Rattle.request.specs.Parts.{topParts, headerParts}
 use Rattle.request.specs.Top.{nestsOf, topOf}
-use Rattle.request.specs.Header.{partsOf, headerOf}
+use Rattle.request.specs.Header.{judgedParts, headerOf}
 use Rattle.request.specs.declared.parts.TopParts.{TopParts}
 use Rattle.request.specs.declared.parts.HeaderParts.{HeaderParts}
 use Rattle.request.specs.declared.top.Top.the-variants as T
@@ -159,9 +159,9 @@ module _ (s names : List ℕ) where
 
 -- the header nest, and the top level
 module _ (m : List ℕ) where
-  pub header-read : (header : Slot) → header .end ≤ length m → HeaderRead m header
+  pub header-read : (header : Slot) (dump : Bool) → header .end ≤ length m → HeaderRead m header dump
   unfolding headerOf headerParts
-  header-read header hi = go (walked headerPolicy s (header .start) .stop) refl refl
+  header-read header dump hi = go (walked headerPolicy s (header .start) .stop) refl refl
     where
       s : List ℕ
       s = partOf m 0 (header .end)
@@ -169,7 +169,7 @@ module _ (m : List ℕ) where
       read : HeaderParts
       read = headerParts (walked headerPolicy s (header .start) .slots)
 
-      go : (t : Stop) → walked headerPolicy s (header .start) .stop ≡ t → headerOf m header ≡ onStop t H.Refused (partsOf m (header .start - 4) read) → HeaderRead m header
+      go : (t : Stop) → walked headerPolicy s (header .start) .stop ≡ t → headerOf m header dump ≡ onStop t H.Refused (judgedParts m (header .start - 4) dump read) → HeaderRead m header dump
       go Whole w e = headerRead read (rw (front-length m (header .end) hi) at (three-parts headerPolicy s (header .start) w)) e
       go (At fault place) w e =
           let i = fault-inside headerPolicy s (header .start) fault place w in
@@ -177,11 +177,11 @@ module _ (m : List ℕ) where
           headerFault fault place (i .0) (omega (arith, front-length m (header .end) hi)) e
 
   -- the top level read by its walk
-  module _ (box : Box) (command : Command) where
+  module _ (box : Box) (dump : Bool) (command : Command) where
     abbrev change : Bool
     change = command .change
 
-    pub top-read : (top : TopParts) → topOf m change ≡ T.Nests top → NestParts box m command top
+    pub top-read : (top : TopParts) → topOf m change ≡ T.Nests top → NestParts box m dump command top
     unfolding topOf nestsOf topParts
     top-read top = go (walked (topPolicy change) m 20 .stop) refl
       where
@@ -200,7 +200,7 @@ module _ (m : List ℕ) where
             by true q false e = absurd (let z : _≡_ {A = ℕ} 0 1 = cc in omega arith)
             by false q b e = (cc, refl, λ t. absurd (clash t q))
 
-        go : (t : Stop) → walked (topPolicy change) m 20 .stop ≡ t → onStop t T.Refused (nestsOf change read) ≡ T.Nests top → NestParts box m command top
+        go : (t : Stop) → walked (topPolicy change) m 20 .stop ≡ t → onStop t T.Refused (nestsOf change read) ≡ T.Nests top → NestParts box m dump command top
         go (At fault place) w e = absurd (let z : _≡_ {A = ℕ} 0 1 = cc in omega arith)
         go Whole w e =
             let is = is-it (read .header .present) (read .bitset .present) e in
@@ -208,7 +208,7 @@ module _ (m : List ℕ) where
             rw (← is .0)
             (record {
               nests = two-parts (topPolicy change) m 20 w;
-              header = header-read (read .header) (header-in .2);
+              header = header-read (read .header) dump (header-in .2);
               bitset = λ t. bitset-read (partOf m 0 (read .bitset .end)) (listOf (box .names) (command .set)) (read .bitset .start);
               bitset-end = λ t. front-length m (read .bitset .end) (inside (topPolicy change) m 20 w 2 (omega arith) (is .2 t) .2);
             })

@@ -46,12 +46,12 @@ use Rattle.handler.specs.Call.{outcome, endsRun}
 use Rattle.handler.specs.Bytes.{Stored, inWords, asStored, wordsOutcome, areWords, bytesOutcome}
 use Rattle.demands.specs.Answer.{refusalBytes, Counted}
 use Rattle.demands.specs.Check.{Check, refuseIf, firstKind, AllPass, FirstIs}
-use Rattle.demands.specs.Call.{messageOf, nextOf, callChecks}
+use Rattle.demands.specs.Call.{messageOf, nextOf, callChecks, tellsPort, nextAfter, placeAfter}
 use Rattle.demands.specs.Message.{Named}
 use Rattle.demands.specs.Normaliser.{AnsweredAlike}
-use Rattle.demands.specs.Request.{isSet}
-use Rattle.demands.specs.Run.{endsWithin}
-use Rattle.demands.specs.Done.{DoneSet, DoneGet}
+use Rattle.demands.specs.Request.{isSet, asksDump}
+use Rattle.demands.specs.Run.{MovesOn, endsWithin}
+use Rattle.demands.specs.Done.{DoneSet, DoneGet, DoneDump}
 use Rattle.demands.specs.Stored.{storedRight, asWords, DoneSetStored}
 use Rattle.demands.proofs.First.{first-done, done-first, first-refused, refused-first}
 use Rattle.demands.proofs.Count.{none-counted}
@@ -162,6 +162,14 @@ module _ (box : Box) (stored : Stored) (call : Call) (datagram : List ℕ) (room
       by (whole e right q) over = rw (response-is q) (D1.last-in-place box (inWords stored) call datagram room (rw (response-is q) at over))
       by (broken wrong q) over = ap (λ (r : Response). r .next) (response-of q)
 
+  pub place-is : o .response .place ≡ placeAfter box call datagram (o .response .kind)
+  unfolding tellsPort
+  place-is = by stored-case
+    where
+      by : Case → o .response .place ≡ placeAfter box call datagram (o .response .kind)
+      by (whole e right q) = rw (response-is q) (D1.place-is box (inWords stored) call datagram room)
+      by (broken wrong q) = rw (response-of q) refl
+
   module _ (going : endsRun (o .response .kind) ≡ false) where
     pub over-words : o .response ≡ w .response
     over-words = by stored-case
@@ -173,14 +181,14 @@ module _ (box : Box) (stored : Stored) (call : Call) (datagram : List ℕ) (room
     goes : endsRun (w .response .kind) ≡ false
     goes = rw over-words at going
 
-    pub next-is : o .response .next ≡ nextOf datagram position
+    pub next-is : o .response .next ≡ nextAfter box call datagram (o .response .kind)
     next-is = rw over-words (D1.next-is box (inWords stored) call datagram room goes)
 
     pub set-alike : (n : Named (box .roll) m) → n .command .change ≡ true → admitted m h (call .family) (eqb (call .admin) 1) ≡ Admitted (n .command)
         → (page : ℕ) → 144 ≤ page → AnsweredAlike box m n page (o .response .kind)
     set-alike n change admit page wide = rw over-words (N.set-alike box (inWords stored) call datagram room goes n change admit page wide)
 
-    pub moves : (position + 16 ≤ o .response .next) × (o .response .next ≤ length datagram)
+    pub moves : MovesOn (length datagram) call (o .response)
     moves = rw over-words (D1.moves box (inWords stored) call datagram room goes)
 
   -- the settings
@@ -291,13 +299,18 @@ module _ (box : Box) (stored : Stored) (call : Call) (datagram : List ℕ) (room
       pub effect : isSet (commandOf (byteAt m 16)) ≡ true → DoneSetStored box stored call m h o
       effect request = stored-done (rw as-words (D2.effect box (inWords stored) call datagram room done-words request))
 
-      pub read-back : isSet (commandOf (byteAt m 16)) ≡ false → (o .state ≡ stored) × DoneGet box (inWords stored) m h (asWords o)
-      read-back request =
-          let d = D2.read-back box (inWords stored) call datagram room done-words request in
+      pub read-back : isSet (commandOf (byteAt m 16)) ≡ false → asksDump h ≡ false → (o .state ≡ stored) × DoneGet box (inWords stored) m h (asWords o)
+      read-back request one =
+          let d = D2.read-back box (inWords stored) call datagram room done-words request one in
+          (kept (right-whole box stored call right) is-words (d .keeps), rw as-words d)
+
+      pub dump : asksDump h ≡ true → (o .state ≡ stored) × DoneDump box (inWords stored) call m h (nextOf datagram position) (asWords o)
+      dump all =
+          let d = D2.dump box (inWords stored) call datagram room done-words all in
           (kept (right-whole box stored call right) is-words (d .keeps), rw as-words d)
 
 -- calls one after the other
 pub run-ends : (box : Box) (datagram : List ℕ) (room : ℕ) (stored : Stored) (call : Call)
-    → endsWithin (λ (s : Stored) (c : Call). bytesOutcome box s c datagram room) (suc (length datagram)) stored call ≡ true
+    → endsWithin (λ (s : Stored) (c : Call). bytesOutcome box s c datagram room) (suc (length datagram) * 65) stored call ≡ true
 run-ends box datagram room =
     moving-ends (λ (s : Stored) (c : Call). bytesOutcome box s c datagram room) (length datagram) (λ s c going. moves box s c datagram room going)

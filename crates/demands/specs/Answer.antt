@@ -1,11 +1,11 @@
--- Document 01, "What a call says back": what stands in the page after each kind of answer.
+-- Document 01, "What a call says back", and request C-11: what stands in the page after each kind of answer.
 use Prim.Native.Nat.{ℕ, _/_, _%_, _≤_}
 use mathlib.Core.Path.{_≡_}
-use mathlib.Core.List.{List, [], _++_}
+use mathlib.Core.List.{List, [], _∷_, _++_}
 use mathlib.Core.Bool.{cond}
-use lib.ListN.{length}
+use lib.ListN.{length, take, drop}
 use lib.Dec.{eqb, ltb}
-use Rattle.basics.specs.Numbers.{u32At}
+use Rattle.basics.specs.Numbers.{le16, le32, u32At}
 use Rattle.netlink_headers.specs.declared.headers.MessageHeader.{MessageHeader}
 use Rattle.netlink_error.specs.Error.{errorMessage}
 use Rattle.netlink_error.specs.declared.Detail.the-variants.{Nothing}
@@ -19,6 +19,14 @@ refusalBytes message why = cond (ltb (numberOf why) 5) [] (errorMessage message 
 -- "an ACK if the ACK flag was set, else nothing": the error message of errno 0 without detail
 unfoldable pub ackIfAsked : List ℕ → MessageHeader → List ℕ
 ackIfAsked message h = cond (eqb (h .flags / 4 % 2) 1) (errorMessage message 0 Nothing) []
+
+-- "a DONE message (type 3, MULTI, sequence and port id echoed, a 32-bit 0 after the header, 20 bytes)"
+unfoldable pub doneBytes : MessageHeader → List ℕ
+doneBytes h = le32 20 ++ (le16 3 ++ (le16 2 ++ (le32 (h .sequence) ++ (le32 (h .port) ++ le32 0))))
+
+-- a message "with the MULTI flag (2)": bytes 6 and 7, its message flags, are 2
+unfoldable pub withMulti : List ℕ → List ℕ
+withMulti message = take 6 message ++ (2 ∷ 0 ∷ drop 8 message)
 
 -- messages one after the other, each with a whole header and as long as that states
 pub data Messages : List ℕ → Type 0 where

@@ -18,9 +18,9 @@ pub record BoxParts : Type 0 where
   pub box : Box
   pub settings : Stored
 
--- a call that is lent them
-abbrev pub callAt : BoxParts → ℕ → Call
-callAt c position = record { family = c .family; admin = c .admin; position = position }
+-- a call that is lent them, at a position and a place
+abbrev pub callAt : BoxParts → ℕ → ℕ → Call
+callAt c position place = record { family = c .family; admin = c .admin; position = position; place = place }
 
 -- each side where the other is
 abbrev pub Exactly : Type 0 → Type 0 → Type 0

@@ -1,4 +1,4 @@
--- The rules of the box once more, each as document 01, "The box a call is given", has it: over bytes and words alone, without the definitions by which
+-- The rules of the box once more, each as document 01, "The box a call is given", and request C-11 have it: over bytes and words alone, without the definitions by which
 -- the code is judged. `box-exactly` (demands/proofs/BoxRules) shows that a box is right exactly when it keeps these.
 use Prim.Native.Nat.{ℕ, _+_, _*_, _/_, _%_, _≤_, _<_}
 use mathlib.Core.Path.{_≡_}
@@ -61,12 +61,13 @@ pub record Settings (ports debug flags : ℕ) (words : List ℕ) : Type 0 where
   pub debug-clear : (p : ℕ) → p < ports → ClearFrom debug words (p * ((debug + 31) / 32 + (flags + 31) / 32))
   pub flags-clear : (p : ℕ) → p < ports → ClearFrom flags words (p * ((debug + 31) / 32 + (flags + 31) / 32) + (debug + 31) / 32)
 
--- the rules of the box: family 16 to 65,535, admin 0 or 1, the roll, both name lists, the settings
+-- the rules of the box: family 16 to 65,535, admin 0 or 1, the roll, a place no higher than the port count, both name lists, the settings
 pub record BoxRules (box : Box) (state : State) (call : Call) : Type 0 where
   pub family-low : 16 ≤ call .family
   pub family-high : call .family ≤ 65535
   pub admin : call .admin ≤ 1
   pub roll : PortRoll (box .roll)
+  pub place : call .place ≤ roll .ports
   pub debug : NameList (box .names .debug)
   pub flags : NameList (box .names .flags)
   pub settings : Settings (roll .ports) (debug .entries) (flags .entries) (state .words)

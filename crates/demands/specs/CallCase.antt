@@ -3,12 +3,13 @@ use Prim.Native.Nat.{ℕ, _+_, _≤_}
 use mathlib.Core.Path.{_≡_}
 use mathlib.Core.List.{List}
 use mathlib.Core.Bool.{true, false}
+use Rattle.admission.specs.Admission.{isDump}
 use Rattle.netlink_headers.specs.declared.headers.MessageHeader.{MessageHeader}
 use Rattle.refusal.specs.declared.Refusal.{Refusal}
 use Rattle.bitset_form.specs.Bitset.{Bitset}
 use Rattle.boxes.specs.Box.{Box, State}
 use Rattle.response.specs.Answer.{Outcome, responseOf, noBytes, errorResponse, ackBytes, unchanged}
-use Rattle.execute.specs.Execute.{requestOf, withEffect, getBytes}
+use Rattle.execute.specs.Execute.{requestOf, withEffect, getBytes, dumpResponse}
 use Rattle.response.specs.declared.Kind.the-variants.{Skipped, Done, End, Refused}
 use lib.ListN.{length}
 use Rattle.basics.specs.Numbers.{u32At}
@@ -19,18 +20,20 @@ use Rattle.boxes.specs.Rule.{boxRight}
 use Rattle.demands.specs.Check.{firstKind}
 use Rattle.demands.specs.Request.{messageChecks}
 use Rattle.demands.specs.Call.{messageOf, nextOf}
-use Rattle.demands.specs.Message.{Named, Carries}
+use Rattle.demands.specs.Message.{Named, Dump, Carries}
 
--- what a message comes to: nothing for a skipped one, an error message, a reply, or a change of one set of one port
-pub data MessageCase (box : Box) (state : State) (m : List ℕ) (h : MessageHeader) (next : ℕ) (o : Outcome State) : Type 0 where
-  messageSkipped : o ≡ unchanged (noBytes Skipped next) state → MessageCase box state m h next o
-  messageRefused : (why : Refusal) → o ≡ unchanged (errorResponse m next why) state → MessageCase box state m h next o
-  getDone : (n : Named (box .roll) m) → n .command .change ≡ false
-      → o ≡ unchanged (responseOf Done next (getBytes box state m (requestOf h next (n .command)) (n .target))) state
-      → MessageCase box state m h next o
-  setDone : (n : Named (box .roll) m) → n .command .change ≡ true → (b : Bitset) → Carries box m n b
+-- what a message comes to: nothing for a skipped one, an error message, a reply, a message of a dump, or a change of one set of one port
+pub data MessageCase (box : Box) (state : State) (call : Call) (m : List ℕ) (h : MessageHeader) (next : ℕ) (o : Outcome State) : Type 0 where
+  messageSkipped : o ≡ unchanged (noBytes Skipped next) state → MessageCase box state call m h next o
+  messageRefused : (why : Refusal) → o ≡ unchanged (errorResponse m next why) state → MessageCase box state call m h next o
+  getDone : isDump h ≡ false → (n : Named (box .roll) m) → n .command .change ≡ false
+      → o ≡ unchanged (responseOf Done next (getBytes box state m (requestOf call h next (n .command)) (n .target))) state
+      → MessageCase box state call m h next o
+  dumpDone : isDump h ≡ true → (d : Dump m) → o ≡ unchanged (dumpResponse box state (requestOf call h next (d .command)) (d .flags)) state
+      → MessageCase box state call m h next o
+  setDone : isDump h ≡ false → (n : Named (box .roll) m) → n .command .change ≡ true → (b : Bitset) → Carries box m n b
       → o ≡ record { response = responseOf Done next (ackBytes m h); state = withEffect box state (n .target .position) (n .command .set) b }
-      → MessageCase box state m h next o
+      → MessageCase box state call m h next o
 
 -- the end or a refusal by 1 to 4, which change nothing, say nothing and give the position back; or a message of a right box, which stands whole in
 -- the datagram and after which the next call goes on
@@ -41,6 +44,6 @@ pub data CallCase (box : Box) (state : State) (call : Call) (datagram : List ℕ
       → call .position + u32At datagram (call .position) ≤ length datagram
       → 16 ≤ length (messageOf datagram (call .position))
       → o .response .kind ≡ firstKind Done (messageChecks box call (messageOf datagram (call .position)) (messageHeader datagram (call .position)))
-      → MessageCase box state (messageOf datagram (call .position)) (messageHeader datagram (call .position))
+      → MessageCase box state call (messageOf datagram (call .position)) (messageHeader datagram (call .position))
       (nextOf datagram (call .position)) o
       → CallCase box state call datagram o

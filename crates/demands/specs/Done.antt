@@ -1,9 +1,9 @@
--- What a done message has brought about: demand 2, "An accepted bitset gives every masked bit its value and keeps the rest" and "Replies are the
+-- What a done message has brought about: request C-11, and demand 2, "An accepted bitset gives every masked bit its value and keeps the rest" and "Replies are the
 -- stated bytes, and read back give the stored set".
 use Prim.Native.Nat.{ℕ, _+_, _-_, _%_, _≤_, _<_}
 use mathlib.Core.Path.{_≡_}
 use mathlib.Core.List.{List, _++_}
-use mathlib.Core.Bool.{true, false}
+use mathlib.Core.Bool.{Bool, true, false}
 use mathlib.Core.Logic.{_⊎_}
 use lib.ListN.{length, getD}
 use lib.Dec.{eqb}
@@ -21,10 +21,11 @@ use Rattle.boxes.specs.Rule.{boxRight}
 use Rattle.layout.specs.Layout.{listOf}
 use Rattle.layout.specs.declared.Set.{Set}
 use Rattle.read_back.specs.Claims.{ReadsBack}
+use Rattle.admission.specs.declared.commands.Command.{Command}
 use Rattle.reply.specs.Message.{headingOf, Content, replyBytes}
-use Rattle.response.specs.Answer.{Outcome}
-use Rattle.demands.specs.Answer.{ackIfAsked}
-use Rattle.demands.specs.Message.{Named, Carries}
+use Rattle.response.specs.Answer.{Response, Outcome}
+use Rattle.demands.specs.Answer.{ackIfAsked, doneBytes, withMulti}
+use Rattle.demands.specs.Message.{Named, Dump, Carries}
 
 -- a done SET: the named set of the named port is what the bitset makes of it, every other set and every other word is as before, and the box
 -- stays right; an ACK is written if asked
@@ -44,31 +45,59 @@ pub record DoneSet (box : Box) (state : State) (call : Call) (m : List ℕ) (h :
   pub right : boxRight box (o .state) call ≡ true
   pub bytes : o .response .bytes ≡ ackIfAsked m h
 
--- what the reply to a GET must be about: index and name of the named port, its named set, compact with header flag 1
-abbrev pub askedContent : (box : Box) → State → (m : List ℕ) → Named (box .roll) m → Content
-askedContent box state m n =
+-- what the reply about the port at a position must say: its index and name, and the set of the command, compact with header flag 1
+abbrev pub contentAbout : Box → State → Command → ℕ → ℕ → Content
+contentAbout box state command flags position =
     record {
-      index = portAt (box .roll) (n .target .position) .index;
-      name = portAt (box .roll) (n .target .position) .name;
-      compact = eqb (n .target .flags % 2) 1;
-      names = listOf (box .names) (n .command .set);
-      words = setOf box state (n .target .position) (n .command .set);
-      bits = count (listOf (box .names) (n .command .set));
+      index = portAt (box .roll) position .index;
+      name = portAt (box .roll) position .name;
+      compact = eqb (flags % 2) 1;
+      names = listOf (box .names) (command .set);
+      words = setOf box state position (command .set);
+      bits = count (listOf (box .names) (command .set));
     }
 
--- the reply to a GET
-abbrev pub replyTo : (box : Box) → State → (m : List ℕ) → MessageHeader → Named (box .roll) m → List ℕ
-replyTo box state m h n = replyBytes (headingOf h (n .command .reply)) (askedContent box state m n)
+-- the reply of a GET about the port at a position, to a request with the header h: message flags 0
+abbrev pub replyAbout : Box → State → MessageHeader → Command → ℕ → ℕ → List ℕ
+replyAbout box state h command flags position = replyBytes (headingOf h 0 (command .reply)) (contentAbout box state command flags position)
 
--- a done GET: the settings stay; the reply is written, then the ACK if asked; the reply's two attributes are the port's nest and the set's,
--- and the set's contents, which our own reader accepts, make the stored set of every starting set
+-- the reply to a GET: about the port that it names
+abbrev pub replyTo : (box : Box) → State → (m : List ℕ) → MessageHeader → Named (box .roll) m → List ℕ
+replyTo box state m h n = replyAbout box state h (n .command) (n .target .flags) (n .target .position)
+
+-- a reply has two attributes, the port's nest and the set's; and the set's contents, which our own reader accepts, make a stored set of every starting set
+pub record TellsSet (reply names : List ℕ) (stored : ℕ → Bool) : Type 0 where
+  pub contents : ℕ
+  pub parts : attributes reply 20 ≡ attribute 1 2 24 (contents - 4) (attribute 2 2 contents (length reply) done)
+  pub reads-back : ReadsBack reply contents names stored
+
+-- a done GET: the settings stay; the reply is written, then the ACK if asked; and the reply tells the stored set
 pub record DoneGet (box : Box) (state : State) (m : List ℕ) (h : MessageHeader) (o : Outcome State) : Type 0 where
   pub named : Named (box .roll) m
   pub is-get : named .command .change ≡ false
   pub keeps : o .state ≡ state
   pub bytes : o .response .bytes ≡ replyTo box state m h named ++ ackIfAsked m h
-  pub contents : ℕ
-  pub parts : attributes (replyTo box state m h named) 20
-      ≡ attribute 1 2 24 (contents - 4) (attribute 2 2 contents (length (replyTo box state m h named)) done)
-  pub reads-back : ReadsBack (replyTo box state m h named) contents (listOf (box .names) (named .command .set))
+  pub tells : TellsSet (replyTo box state m h named) (listOf (box .names) (named .command .set))
       (has (setOf box state (named .target .position) (named .command .set)))
+
+-- a dump at the place of a port: the reply about this port that a GET would write, but "with the MULTI flag (2)", is written, and no ACK; it tells the stored set of
+-- this port; "the next place and, until DONE, the same position"
+pub record DonePort (box : Box) (state : State) (call : Call) (m : List ℕ) (h : MessageHeader) (d : Dump m) (r : Response) : Type 0 where
+  pub bytes : r .bytes ≡ withMulti (replyAbout box state h (d .command) (d .flags) (call .place))
+  pub tells : TellsSet (r .bytes) (listOf (box .names) (d .command .set)) (has (setOf box state (call .place) (d .command .set)))
+  pub next : r .next ≡ call .position
+  pub place : r .place ≡ call .place + 1
+
+-- a dump at the port count: DONE is written, and no ACK; the next call goes on behind the message, at place 0
+pub record DoneLast (h : MessageHeader) (next : ℕ) (r : Response) : Type 0 where
+  pub bytes : r .bytes ≡ doneBytes h
+  pub next-is : r .next ≡ next
+  pub place : r .place ≡ 0
+
+-- a done call of a dump, after whose message the datagram goes on at a position: the settings stay, and it tells a port or the end
+pub record DoneDump (box : Box) (state : State) (call : Call) (m : List ℕ) (h : MessageHeader) (next : ℕ) (o : Outcome State) : Type 0 where
+  pub dump : Dump m
+  pub keeps : o .state ≡ state
+  pub counted : call .place ≤ portsIn box
+  pub port : call .place < portsIn box → DonePort box state call m h dump (o .response)
+  pub last : call .place ≡ portsIn box → DoneLast h next (o .response)

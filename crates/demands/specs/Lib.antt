@@ -14,6 +14,7 @@ pub mod Parts
 pub mod Says
 pub mod OwnNames
 pub mod Stored
+pub mod Dump
 pub mod BoxRules
 pub mod BoxFault
 pub mod Change

@@ -1,8 +1,8 @@
--- What a request names, and the bitset that it carries. Document 01, "What a call says back".
+-- What a request names, and the bitset that it carries; what a dump asks for. Document 01, "What a call says back"; request C-11.
 use Prim.Native.Nat.{ℕ, _<_}
 use mathlib.Core.Path.{_≡_}
 use mathlib.Core.List.{List}
-use mathlib.Core.Bool.{true, _||_}
+use mathlib.Core.Bool.{true, false, _||_}
 use Rattle.basics.specs.Numbers.{byteAt}
 use Rattle.netlink_attributes.specs.Attributes.{partOf}
 use Rattle.netlink.specs.Walk.{slotNumber}
@@ -33,18 +33,32 @@ pub record IsPort (roll m : List ℕ) (header : HeaderParts) (position : ℕ) : 
   pub index : header .index .present ≡ true → portAt roll position .index ≡ slotNumber m (header .index)
   pub name : header .name .present ≡ true → holdsName (portAt roll position .name) (partOf m (header .name .start) (header .name .end)) ≡ true
 
--- what the request m names: a listed command, its header nest and bitset, the header's parts and flags, and the port of the roll that they give
+-- what the request m, which is no dump, names: a listed command, its header nest and bitset, the header's parts and flags, and the port of the roll that they give
 pub record Named (roll m : List ℕ) : Type 0 where
   pub command : Command
   pub listed : commandOf (byteAt m 16) ≡ Listed command
   pub parts : TopParts
   pub nests : topOf m (command .change) ≡ Nests parts
   pub target : Target
-  pub found : targetOf m (parts .header) roll ≡ A.Port target
+  pub found : targetOf m (parts .header) false roll ≡ A.Port target
   pub header : HeaderParts
-  pub read : headerOf m (parts .header) ≡ H.Parts header (target .flags)
+  pub read : headerOf m (parts .header) false ≡ H.Parts header (target .flags)
   pub flags : target .flags ≡ slotNumber m (header .flags)
   pub port : IsPort roll m header (target .position)
+
+-- what the dump m asks for: a listed GET, its header nest, the header's parts and flags; it names no port
+pub record Dump (m : List ℕ) : Type 0 where
+  pub command : Command
+  pub listed : commandOf (byteAt m 16) ≡ Listed command
+  pub is-get : command .change ≡ false
+  pub parts : TopParts
+  pub nests : topOf m false ≡ Nests parts
+  pub header : HeaderParts
+  pub flags : ℕ
+  pub read : headerOf m (parts .header) true ≡ H.Parts header flags
+  pub flags-are : flags ≡ slotNumber m (header .flags)
+  pub no-index : header .index .present ≡ false
+  pub no-name : header .name .present ≡ false
 
 -- the bitset that a SET carries, as document 01 reads it over the names of the set
 abbrev pub Carries : (box : Box) (m : List ℕ) → Named (box .roll) m → Bitset → Type 0

@@ -25,13 +25,15 @@ use Rattle.layout.specs.Layout.{listOf}
 use Rattle.boxes.specs.Box.{Box}
 use Rattle.admission.specs.declared.commands.Command.{Command}
 use Rattle.request.specs.Top.{topOf}
-use Rattle.request.specs.Header.{partsOf, headerOf}
+use Rattle.request.specs.Header.{judgedParts, headerOf}
 use Rattle.request.specs.declared.parts.TopParts.{TopParts}
 use Rattle.request.specs.declared.parts.HeaderParts.{HeaderParts}
 use Rattle.request.specs.declared.top.Top.the-variants.{Nests}
 use Rattle.request.specs.declared.header.Header.the-variants as H
 use Rattle.response.specs.declared.Kind.{Kind}
 use Rattle.response.specs.declared.Kind.the-variants.{End, Skipped, Done, Refused}
+use Rattle.netlink_headers.specs.Headers.{messageHeader}
+use Rattle.demands.specs.Request.{asksDump}
 use Rattle.demands.specs.Call.{messageOf}
 
 -- an attribute stands right behind a place, with less than four bytes of padding before it, and ends no later than another place: its header of
@@ -67,17 +69,17 @@ pub data BitsetRead (s : List ℕ) (from : ℕ) (names : List ℕ) : Type 0 wher
       → BitsetRead s from names
 
 -- what is read of the header nest of a message m: a fault in it, or what its parts come to
-pub data HeaderRead (m : List ℕ) (header : Slot) : Type 0 where
-  headerFault : (fault : Fault) (place : ℕ) → header .start ≤ place → place < header .end → headerOf m header ≡ H.Refused (ofFault fault place)
-      → HeaderRead m header
+pub data HeaderRead (m : List ℕ) (header : Slot) (dump : Bool) : Type 0 where
+  headerFault : (fault : Fault) (place : ℕ) → header .start ≤ place → place < header .end → headerOf m header dump ≡ H.Refused (ofFault fault place)
+      → HeaderRead m header dump
   headerRead : (parts : HeaderParts) → PartsIn (header .start) (header .end) (parts .index ∷ parts .name ∷ parts .flags ∷ [])
-      → headerOf m header ≡ partsOf m (header .start - 4) parts
-      → HeaderRead m header
+      → headerOf m header dump ≡ judgedParts m (header .start - 4) dump parts
+      → HeaderRead m header dump
 
 -- the nests of a request m: the header and the bitset in the message, what is read of the header in the header, what is read of the bitset in the bitset
-pub record NestParts (box : Box) (m : List ℕ) (command : Command) (top : TopParts) : Type 0 where
+pub record NestParts (box : Box) (m : List ℕ) (dump : Bool) (command : Command) (top : TopParts) : Type 0 where
   pub nests : PartsIn 20 (length m) (top .header ∷ top .bitset ∷ [])
-  pub header : HeaderRead m (top .header)
+  pub header : HeaderRead m (top .header) dump
   pub bitset : command .change ≡ true → BitsetRead (partOf m 0 (top .bitset .end)) (top .bitset .start) (listOf (box .names) (command .set))
   pub bitset-end : command .change ≡ true → length (partOf m 0 (top .bitset .end)) ≡ top .bitset .end
 
@@ -96,4 +98,4 @@ pub record RequestParts (box : Box) (datagram : List ℕ) (position : ℕ) (comm
   pub size : length (messageOf datagram position) ≡ u32At datagram position
   pub headers : 20 ≤ u32At datagram position
   pub in-order : Apart (messageOf datagram position) 20 (attributes (messageOf datagram position) 20)
-  pub nested : (top : TopParts) → topOf (messageOf datagram position) (command .change) ≡ Nests top → NestParts box (messageOf datagram position) command top
+  pub nested : (top : TopParts) → topOf (messageOf datagram position) (command .change) ≡ Nests top → NestParts box (messageOf datagram position) (asksDump (messageHeader datagram position)) command top

@@ -1,4 +1,4 @@
--- Document 01, "What a call says back": the checks of a message in their order, from skipping to the header level. "Levels: top level is walked
+-- Document 01, "What a call says back", and request C-11: the checks of a message in their order, from skipping to the header level. "Levels: top level is walked
 -- whole .., then header missing (13), then bitset missing in a SET (13). Then the header is walked whole, then 14 to 17. Then the bitset".
 use Prim.Native.Nat.{ℕ, _-_, _/_, _%_}
 use mathlib.Core.List.{List, [], _∷_, _++_}
@@ -62,14 +62,18 @@ namedOtherwise m name roll (F.At position) = name .present && not (holdsName (na
 unfoldable pub skipIf : MessageHeader → Check
 skipIf h = cond (ltb (h .kind) 16 || eqb (h .flags % 2) 0) skips passes
 
--- 5 to 9
+-- "both DUMP bits": the message asks for a dump
+unfoldable pub asksDump : MessageHeader → Bool
+asksDump h = eqb (h .flags / 256 % 4) 3
+
+-- 5 to 9; "8 now stands for a SET with both bits, at its old place"
 unfoldable pub admissionChecks : List ℕ → MessageHeader → ℕ → ℕ → CommandRead → List Check
 admissionChecks m h family admin command =
     skipIf h
     ∷ refuseIf (not (eqb (h .kind) family)) R.Family
     ∷ refuseIf (ltb (length m) 20) R.Short
     ∷ refuseIf (unlisted command) R.Command
-    ∷ refuseIf (eqb (h .flags / 256 % 4) 3) R.Dump
+    ∷ refuseIf (asksDump h && isSet command) R.Dump
     ∷ refuseIf (isSet command && not (eqb admin 1)) R.Permission
     ∷ []
 
@@ -78,33 +82,34 @@ unfoldable pub topChecks : Bool → TopParts → List Check
 topChecks change parts =
     refuseIf (not (parts .header .present)) (R.MissingTop 1) ∷ refuseIf (change && not (parts .bitset .present)) (R.MissingTop 2) ∷ []
 
--- 14 to 17 of the header nest, from its parts
-unfoldable pub portChecks : List ℕ → List ℕ → Slot → HeaderParts → List Check
-portChecks m roll header parts =
-    refuseIf (not (parts .index .present || parts .name .present)) (R.NoPort (header .start - 4))
+-- 14 to 17 of the header nest, from its parts; 8 "for a dump that names a port by index or name, in the place of 14"
+unfoldable pub portChecks : List ℕ → List ℕ → Bool → Slot → HeaderParts → List Check
+portChecks m roll dump header parts =
+    refuseIf (dump && (parts .index .present || parts .name .present)) R.Dump
+    ∷ refuseIf (not dump && not (parts .index .present || parts .name .present)) (R.NoPort (header .start - 4))
     ∷ refuseIf (ltb 3 (slotNumber m (parts .flags))) (R.HeaderFlag (parts .flags .start - 4))
     ∷ refuseIf (parts .index .present && noPort (foundByIndex roll (slotNumber m (parts .index)))) (R.UnknownPort (parts .index .start - 4))
-    ∷ refuseIf (not (parts .index .present) && noPort (foundByName roll (partOf m (parts .name .start) (parts .name .end)))) (R.UnknownPort (parts .name .start - 4))
+    ∷ refuseIf (not (parts .index .present) && (parts .name .present && noPort (foundByName roll (partOf m (parts .name .start) (parts .name .end))))) (R.UnknownPort (parts .name .start - 4))
     ∷ refuseIf (parts .index .present && namedOtherwise m (parts .name) roll (foundByIndex roll (slotNumber m (parts .index)))) (R.OtherName (header .start - 4))
     ∷ []
 
 -- the header level: 10 to 12, then 14 to 17
-unfoldable pub headerChecks : List ℕ → List ℕ → Slot → List Check
-headerChecks m roll header =
-    walkChecks (walked headerPolicy (partOf m 0 (header .end)) (header .start)) (λ slots. portChecks m roll header (headerParts slots))
+unfoldable pub headerChecks : List ℕ → List ℕ → Bool → Slot → List Check
+headerChecks m roll dump header =
+    walkChecks (walked headerPolicy (partOf m 0 (header .end)) (header .start)) (λ slots. portChecks m roll dump header (headerParts slots))
 
 -- a listed command, from the parts of the top level: 13, the header level, and in a SET the bitset
-unfoldable pub levelChecks : Box → List ℕ → CommandRead → TopParts → List Check
-levelChecks box m command parts =
+unfoldable pub levelChecks : Box → List ℕ → Bool → CommandRead → TopParts → List Check
+levelChecks box m dump command parts =
     topChecks (isSet command) parts
-    ++ (headerChecks m (box .roll) (parts .header)
+    ++ (headerChecks m (box .roll) dump (parts .header)
     ++ cond (isSet command) (bitsetChecks (partOf m 0 (parts .bitset .end)) (parts .bitset .start) (listOf (box .names) (setIn command))) [])
 
 -- the message m with its header h, whose command is read
 unfoldable pub commandChecks : Box → Call → List ℕ → MessageHeader → CommandRead → List Check
 commandChecks box call m h command =
     admissionChecks m h (call .family) (call .admin) command
-    ++ walkChecks (walked (topPolicy (isSet command)) m 20) (λ slots. levelChecks box m command (topParts slots))
+    ++ walkChecks (walked (topPolicy (isSet command)) m 20) (λ slots. levelChecks box m (asksDump h) command (topParts slots))
 
 -- the message m with its header h
 unfoldable pub messageChecks : Box → Call → List ℕ → MessageHeader → List Check

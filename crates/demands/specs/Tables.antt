@@ -1,4 +1,4 @@
--- The tables of document 01 said a second time, number by number: refusals, commands, kinds.
+-- The tables of document 01 and of request C-11 said a second time, number by number: refusals, commands, kinds.
 use Prim.Native.Nat.{ℕ}
 use mathlib.Core.Path.{_≡_}
 use mathlib.Core.Bool.{Bool, true, false}
@@ -45,16 +45,16 @@ pub record RefusalTable (at kind : ℕ) : Type 0 where
   pub twenty-two : RowIs (NoBit at) 22 22 (Offset at)
   pub twenty-three : RowIs (TwoBits at) 23 22 (Offset at)
 
--- a listed command: whether it is a SET, its set, and the command of its reply
-abbrev pub CommandIs : ℕ → Bool → Set → ℕ → Type 0
-CommandIs number change set reply = commandOf number ≡ C.Listed (record { number = number; change = change; set = set; reply = reply })
+-- a listed command: whether it is a SET, its set, the command of its reply, and whether it may be dumped
+abbrev pub CommandIs : ℕ → Bool → Set → ℕ → Bool → Type 0
+CommandIs number change set reply dump = commandOf number ≡ C.Listed (record { number = number; change = change; set = set; reply = reply; dump = dump })
 
--- "DEBUG_GET 7, DEBUG_SET 8, PRIVFLAGS_GET 13, PRIVFLAGS_SET 14"; replies have "command 7 for DEBUG, 14 for PRIVFLAGS"; no other command is listed
+-- "DEBUG_GET 7, DEBUG_SET 8, PRIVFLAGS_GET 13, PRIVFLAGS_SET 14"; replies have "command 7 for DEBUG, 14 for PRIVFLAGS"; a GET may be dumped; no other command is listed
 pub record CommandTable : Type 0 where
-  pub debug-get : CommandIs 7 false Debug 7
-  pub debug-set : CommandIs 8 true Debug 7
-  pub privflags-get : CommandIs 13 false Flags 14
-  pub privflags-set : CommandIs 14 true Flags 14
+  pub debug-get : CommandIs 7 false Debug 7 true
+  pub debug-set : CommandIs 8 true Debug 7 false
+  pub privflags-get : CommandIs 13 false Flags 14 true
+  pub privflags-set : CommandIs 14 true Flags 14 false
   pub others : (n : ℕ) → (n ≡ 7 → ⊥) → (n ≡ 8 → ⊥) → (n ≡ 13 → ⊥) → (n ≡ 14 → ⊥) → commandOf n ≡ C.Unlisted
 
 -- "a kind (end, skipped, done, refused), a refusal number (0 if none)"

@@ -20,7 +20,7 @@ pub check-returns : (f x : Fault) (o r : ℕ) → x ≡ f → o ≡ x .offset �
 check-returns f x o r e eo er = record { part = er ∙ ap (λ (y : Fault). partNumber (y .part)) e; place = eo ∙ ap (λ (y : Fault). y .offset) e }
 
 pub handle-returns : (o : Outcome Stored) (lent stored : Stored) (P Q : List ℕ) (x : Answer) (k f : ℕ) → Bytes (lent .settings) → Performs o P Q stored x
-    → k ≡ kindNumber (x .kind) → f ≡ refusalNumber (x .kind) → Handle o lent stored P Q k f (x .next) (x .written)
+    → k ≡ kindNumber (x .kind) → f ≡ refusalNumber (x .kind) → Handle o lent stored P Q k f (x .next) (x .place) (x .written)
 handle-returns o lent stored P Q x k f bytes a ek ef =
     let e = a .response .result in
     record {
@@ -28,6 +28,7 @@ handle-returns o lent stored P Q x k f bytes a ek ef =
       kind = ek ∙ ap (λ (y : Answer). kindNumber (y .kind)) e;
       refusal = ef ∙ ap (λ (y : Answer). refusalNumber (y .kind)) e;
       next = ap (λ (y : Answer). y .next) e;
+      place = ap (λ (y : Answer). y .place) e;
       count = ap (λ (y : Answer). y .written) e;
       page = a .response .page;
       state = a .state-is;

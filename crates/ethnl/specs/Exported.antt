@@ -22,12 +22,13 @@ pub record CheckBox (f : Fault) (offset r : ℕ) : Type 0 where
   pub part : r ≡ partNumber (f .part)
   pub place : offset ≡ f .offset
 
--- ethnl_handle: kind, refusal number, next position and count behind their pointers; the settings that are lent are bytes
-pub record Handle (o : Outcome Stored) (lent stored : Stored) (before after : List ℕ) (k f n w : ℕ) : Type 0 where
+-- ethnl_handle: kind, refusal number, next position, next place and count behind their pointers; the settings that are lent are bytes
+pub record Handle (o : Outcome Stored) (lent stored : Stored) (before after : List ℕ) (k f n p w : ℕ) : Type 0 where
   pub bytes : Bytes (lent .settings)
   pub kind : k ≡ kindNumber (o .response .kind)
   pub refusal : f ≡ refusalNumber (o .response .kind)
   pub next : n ≡ o .response .next
+  pub place : p ≡ o .response .place
   pub count : w ≡ length (o .response .bytes)
   pub page : after ≡ put before (o .response .bytes)
   pub state : stored ≡ o .state

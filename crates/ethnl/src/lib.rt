@@ -45,7 +45,7 @@ pub extern "C" fn ethnl_check_box(
 }
 
 // Takes one message from a datagram, answers it, and keeps the settings, which are the little-endian bytes of their words. Settings that are
-// no whole words, or more than any box has, break the box.
+// no whole words, or more than any box has, break the box. A dump is answered message by message: the next call takes the place handed back.
 #[no_mangle]
 pub extern "C" fn ethnl_handle<'a>(
     family: u32,
@@ -56,23 +56,27 @@ pub extern "C" fn ethnl_handle<'a>(
     settings: &mut [u8],
     datagram: &[u8],
     position: u64,
+    place: u64,
     page: &mut [u8],
     kind: &mut u32,
     refusal: &mut u32,
     next: &mut u64,
+    next_place: &mut u64,
     written: &mut u64,
 )
-    ensures { λ _. ⌜ Handle (bytesOutcome (boxOf (now (roll .entry)) (now (debug .entry)) (now (flags .entry))) (storedOf (now (settings .entry))) (record { family = family; admin = admin; position = position }) (now (datagram .entry)) (length (now (page .entry)))) (storedOf (now (settings .entry))) (storedOf (now (settings .exit))) (now (page .entry)) (now (page .exit)) (now (kind .exit)) (now (refusal .exit)) (now (next .exit)) (now (written .exit)) ⌝ }
+    ensures { λ _. ⌜ Handle (bytesOutcome (boxOf (now (roll .entry)) (now (debug .entry)) (now (flags .entry))) (storedOf (now (settings .entry))) (record { family = family; admin = admin; position = position; place = place }) (now (datagram .entry)) (length (now (page .entry)))) (storedOf (now (settings .entry))) (storedOf (now (settings .exit))) (now (page .entry)) (now (page .exit)) (now (kind .exit)) (now (refusal .exit)) (now (next .exit)) (now («next_place» .exit)) (now (written .exit)) ⌝ }
 {
     let call = Call {
         family,
         admin,
         position: position as usize,
+        place: place as usize,
     };
     let answer = handle_bytes(call, roll, debug, flags, settings, datagram, page);
     let answered = answer.kind;
     *kind = answered.number();
     *refusal = answered.refusal();
     *next = answer.next as u64;
+    *next_place = answer.place as u64;
     *written = answer.written as u64;
 }

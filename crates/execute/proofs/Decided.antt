@@ -39,6 +39,7 @@ use Rattle.response.specs.declared.Kind.the-variants.{Done}
 use Rattle.response.specs.declared.Answer.{Answer}
 use Rattle.execute.specs.declared.Request.{Request}
 use Rattle.execute.specs.Execute.{withSet, withEffect, getBytes, readingOutcome, setOutcome, portOutcome, targetOutcome, headerOutcome, topOutcome, requestOutcome}
+use Rattle.admission.specs.Admission.{isDump}
 use Rattle.execute.specs.CarriedOut.{changedBy, carriedOut}
 use Rattle.execute.specs.Fit.{Fit}
 
@@ -108,27 +109,31 @@ module _ (box : Box) (state : State) (fit : Fit box state) where
 
     -- the header level
     target-is : (bitset : Slot) (a : TargetRead) → TargetIn (box .roll) a
-        → carriedOut box state m request (D.targetDecision a (request .command .change) (bitsetDecision m bitset names-here)) ≡ targetOutcome a state m request (portOutcome box state m request bitset)
+        → carriedOut box state m request (D.targetDecision a (request .command .change) (bitsetDecision m bitset names-here)) ≡ targetOutcome a box state m request (portOutcome box state m request bitset)
     unfolding carriedOut
     target-is bitset (A.Refused why) i = refl
+    target-is bitset (A.Unnamed flags) i = refl
     target-is bitset (A.Port target) i = port-is bitset target i
 
+    abbrev dump : Bool
+    dump = isDump (request .header)
+
     header-is : (parts : TopParts)
-        → carriedOut box state m request (headerDecision box m (request .command) parts) ≡ headerOutcome box state m request parts
+        → carriedOut box state m request (headerDecision box m (request .command) dump parts) ≡ headerOutcome box state m request parts
     unfolding headerDecision headerOutcome
-    header-is parts = target-is (parts .bitset) (targetOf m (parts .header) (box .roll)) (target-counted (box .roll) m (parts .header))
+    header-is parts = target-is (parts .bitset) (targetOf m (parts .header) dump (box .roll)) (target-counted (box .roll) m (parts .header) dump)
 
     -- the top level
-    top-is : (t : Top) → carriedOut box state m request (D.topDecision t (headerDecision box m (request .command))) ≡ topOutcome t state m request (headerOutcome box state m request)
+    top-is : (t : Top) → carriedOut box state m request (D.topDecision t (headerDecision box m (request .command) dump)) ≡ topOutcome t state m request (headerOutcome box state m request)
     unfolding carriedOut
     top-is (T.Refused why) = refl
     top-is (T.Nests parts) = header-is parts
 
-    pub carried-is : carriedOut box state m request (decided box m (request .command)) ≡ requestOutcome box state m request
+    pub carried-is : carriedOut box state m request (decided box m (request .command) dump) ≡ requestOutcome box state m request
     unfolding decided requestOutcome
     carried-is = top-is (topOf m (request .command .change))
 
 -- the return of `execute`
-pub execute-performs : (box : Box) (state : State) (m : List ℕ) (request : Request) (d : Decision) (P Q : List ℕ) (new : State) (r : Answer)
-    → Fit box state → d ≡ decided box m (request .command) → Performs (carriedOut box state m request d) P Q new r → Performs (requestOutcome box state m request) P Q new r
-execute-performs box state m request d P Q new r fit e performed = rw (← carried-is box state fit m request, ← e) performed
+pub execute-performs : (box : Box) (state : State) (m : List ℕ) (request : Request) (b : Bool) (d : Decision) (P Q : List ℕ) (new : State) (r : Answer)
+    → Fit box state → b ≡ isDump (request .header) → d ≡ decided box m (request .command) b → Performs (carriedOut box state m request d) P Q new r → Performs (requestOutcome box state m request) P Q new r
+execute-performs box state m request b d P Q new r fit eb e performed = rw (← carried-is box state fit m request, ← eb, ← e) performed

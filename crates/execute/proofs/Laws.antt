@@ -25,7 +25,7 @@ use Rattle.decision.specs.declared.Plan.{Plan}
 use Rattle.decision.specs.declared.Plan.the-variants as Pl
 use Rattle.decision.specs.declared.Decision.{Decision}
 use Rattle.execute.specs.declared.Request.{Request}
-use Rattle.execute.specs.Execute.{withSet, contentIn, replyAndAck, getBytes}
+use Rattle.execute.specs.Execute.{withSet, getBytes, dumpResponse}
 use Rattle.execute.specs.CarriedOut.{changedBy, planOutcome, carriedOut}
 use Rattle.execute.specs.Fit.{Fit}
 use Rattle.reply.specs.Message.{Content, contentOf}
@@ -55,36 +55,6 @@ pub port-here : (roll : List ℕ) (ports position : ℕ) → position < portCoun
 port-here roll ports position h e = rw e h
 
 pub ruleset stored-words-laws = (few-by, ports-few, exact-by, stored-words-are, port-here)
-
--- GET
-module _ (box : Box) (state : State) (fit : Fit box state) (set : Set) (sizes : Sizes) (n : ℕ) (es : sizes ≡ sizesIn box) (en : n ≡ sizeOf sizes set) where
-  pub reply-words : (position : ℕ) (held : List ℕ) → position < portsIn box → held ≡ setOf box state position set → length held ≡ wordsFor n
-  unfolding setOf
-  reply-words position held here eh =
-      ap length eh ∙ set-length (portsIn box) (widthsIn box) position set here (state .words) (fit .exact) ∙ sizes-of wordsFor (sizesIn box) set ∙ sym (rw (en, es))
-
-  pub reply-few : n ≤ 512
-  reply-few = rw (en, es) (size-few 512 (sizesIn box) set (fit .few))
-
-pub reply-name : (roll nm : List ℕ) (k : ℕ) → k < portCount roll → nm ≡ nameOf roll k → length nm ≤ 16
-reply-name roll nm k l e = rw e (omega (arith, name-long roll k l))
-
-pub ruleset reply-laws = (reply-words, reply-few, reply-name)
-
-module _ (box : Box) (state : State) (set : Set) (target : Target) where
-  pub content-is : (index : ℕ) (name names words : List ℕ) (sizes : Sizes) (bits : ℕ) → index ≡ indexOf (box .roll) (target .position)
-      → name ≡ nameOf (box .roll) (target .position) → names ≡ listOf (box .names) set → words ≡ setOf box state (target .position) set → sizes ≡ sizesIn box
-      → bits ≡ sizeOf sizes set → contentOf index name (eqb (target .flags % 2) 1) names words bits ≡ contentIn box state set target
-  unfolding contentIn
-  content-is index name names words sizes bits ei en el ew es eb = let size : bits ≡ sizeOf (sizesIn box) set = eb ∙ rw es in rw (ei, en, el, ew, size)
-
-pub get-responds : (box : Box) (state : State) (m : List ℕ) (request : Request) (target : Target) (content : Content) (P Q : List ℕ) (r : Answer)
-    → content ≡ contentIn box state (request .command .set) target → Responds (responseOf Done (request .next) (replyAndAck m request content)) P Q r
-    → Responds (responseOf Done (request .next) (getBytes box state m request target)) P Q r
-unfolding getBytes
-get-responds box state m request target content P Q r e s = rw (← e) s
-
-pub ruleset get-laws = (content-is, get-responds)
 
 -- SET
 module _ (box : Box) (state : State) (fit : Fit box state) (sizes width : Sizes) (es : sizes ≡ sizesIn box) (ew : width ≡ widthsOf sizes) (set : Set) (w : ℕ)
@@ -125,6 +95,13 @@ module _ (box : Box) (state : State) (m : List ℕ) (request : Request) (d : Dec
       go : (p : Plan) → p ≡ Pl.Get target → Performs (planOutcome p (d .form) box state m request) P Q state r
       go p e = rw e (unchanged-performs _ P Q state r s)
 
+  pub carry-dump : (flags : ℕ) → d .plan ≡ Pl.Dump flags → Responds (dumpResponse box state request flags) P Q r → Performs (carriedOut box state m request d) P Q state r
+  unfolding carriedOut
+  carry-dump flags q s = go (d .plan) q
+    where
+      go : (p : Plan) → p ≡ Pl.Dump flags → Performs (planOutcome p (d .form) box state m request) P Q state r
+      go p e = rw e (unchanged-performs _ P Q state r s)
+
   pub carry-set : (position nest : ℕ) (new : State) → d .plan ≡ Pl.Set position nest → new ≡ changedBy box state position (request .command .set) (d .form)
       → Responds (responseOf Done (request .next) (ackBytes m (request .header))) P Q r → Performs (carriedOut box state m request d) P Q new r
   unfolding carriedOut
@@ -133,4 +110,4 @@ module _ (box : Box) (state : State) (m : List ℕ) (request : Request) (d : Dec
       go : (p : Plan) → p ≡ Pl.Set position nest → Performs (planOutcome p (d .form) box state m request) P Q new r
       go p i = rw i (record { response = s; state-is = e })
 
-pub ruleset carry-laws = (carry-refused, carry-get, carry-set)
+pub ruleset carry-laws = (carry-refused, carry-get, carry-dump, carry-set)

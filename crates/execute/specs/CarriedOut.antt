@@ -13,7 +13,7 @@ use Rattle.decision.specs.declared.Decision.{Decision}
 use Rattle.response.specs.Answer.{Outcome, responseOf, errorResponse, ackBytes, unchanged}
 use Rattle.response.specs.declared.Kind.the-variants.{Done}
 use Rattle.execute.specs.declared.Request.{Request}
-use Rattle.execute.specs.Execute.{withSet, getBytes}
+use Rattle.execute.specs.Execute.{withSet, getBytes, dumpResponse}
 
 -- a form applied to a set of the port at a position, word by word
 unfoldable pub changedBy : Box → State → ℕ → Set → Form → State
@@ -23,10 +23,11 @@ changedBy box state position set form =
     (merge (has (take (widthIn box set) (form .mask))) (has (take (widthIn box set) (form .value)))
     (has (take (widthIn box set) (drop (placeIn box position set) (state .words))))))
 
--- what a decision comes to: a refusal from 5 on writes one error message; a GET is answered; a SET changes the set by its form and is acknowledged
+-- what a decision comes to: a refusal from 5 on writes one error message; a GET or a dump is answered; a SET changes the set by its form and is acknowledged
 abbrev pub planOutcome : Plan → Form → Box → State → List ℕ → Request → Outcome State
 planOutcome (P.Refused why) form box state m request = unchanged (errorResponse m (request .next) why) state
 planOutcome (P.Get target) form box state m request = unchanged (responseOf Done (request .next) (getBytes box state m request target)) state
+planOutcome (P.Dump flags) form box state m request = unchanged (dumpResponse box state request flags) state
 planOutcome (P.Set position nest) form box state m request =
     record { response = responseOf Done (request .next) (ackBytes m (request .header)); state = changedBy box state position (request .command .set) form }
 

@@ -1,8 +1,8 @@
--- Document 01, "What a call says back", from the levels on: an admitted command judged level by level, then carried out.
-use Prim.Native.Nat.{ℕ, _%_}
+-- Document 01, "What a call says back", from the levels on, and request C-11: an admitted command judged level by level, then carried out.
+use Prim.Native.Nat.{ℕ, _+_, _%_}
 use mathlib.Core.List.{List, _++_}
 use mathlib.Core.Bool.{cond}
-use lib.Dec.{eqb}
+use lib.Dec.{eqb, ltb}
 use Rattle.basics.specs.Put.{splice}
 use Rattle.bits.specs.Set.{has, wordsOf}
 use Rattle.netlink_headers.specs.declared.headers.MessageHeader.{MessageHeader}
@@ -14,8 +14,11 @@ use Rattle.bitset.specs.Judge.{bitsetReading}
 use Rattle.roll.specs.Record.{indexOf, nameOf}
 use Rattle.layout.specs.Layout.{listOf, sizeOf}
 use Rattle.layout.specs.declared.Set.{Set}
-use Rattle.boxes.specs.Box.{Box, State, sizesIn, placeIn, widthIn, setOf}
+use Rattle.boxes.specs.Box.{Box, State, portsIn, sizesIn, placeIn, widthIn, setOf}
+use Rattle.boxes.specs.declared.Call.{Call}
+use Rattle.netlink_dump.specs.Dump.{multi, doneMessage}
 use Rattle.reply.specs.Message.{headingOf, Content, replyBytes}
+use Rattle.admission.specs.Admission.{isDump}
 use Rattle.admission.specs.declared.commands.Command.{Command}
 use Rattle.request.specs.Top.{topOf}
 use Rattle.request.specs.Target.{targetOf}
@@ -25,13 +28,13 @@ use Rattle.request.specs.declared.top.Top.{Top}
 use Rattle.request.specs.declared.top.Top.the-variants as T
 use Rattle.request.specs.declared.target.TargetRead.{TargetRead}
 use Rattle.request.specs.declared.target.TargetRead.the-variants as A
-use Rattle.response.specs.Answer.{Outcome, responseOf, errorResponse, ackBytes, unchanged}
+use Rattle.response.specs.Answer.{Response, Outcome, responseOf, errorResponse, ackBytes, unchanged}
 use Rattle.response.specs.declared.Kind.the-variants.{Done}
 use Rattle.execute.specs.declared.Request.{Request}
 
--- the request with a header and a command, after which the datagram goes on at a position
-abbrev pub requestOf : MessageHeader → ℕ → Command → Request
-requestOf h next command = record { header = h; next = next; command = command }
+-- the request of a call with a header and a command, after which the datagram goes on at a position
+abbrev pub requestOf : Call → MessageHeader → ℕ → Command → Request
+requestOf call h next command = record { header = h; position = call .position; next = next; place = call .place; command = command }
 
 -- the state with new words for a set of the port at a position
 unfoldable pub withSet : Box → State → ℕ → Set → List ℕ → State
@@ -56,11 +59,28 @@ contentIn box state set target =
 -- "A done GET writes the reply, then the ACK if asked"
 unfoldable pub replyAndAck : List ℕ → Request → Content → List ℕ
 replyAndAck m request content =
-    replyBytes (headingOf (request .header) (request .command .reply)) content ++ ackBytes m (request .header)
+    replyBytes (headingOf (request .header) 0 (request .command .reply)) content ++ ackBytes m (request .header)
 
 -- a done GET
 unfoldable pub getBytes : Box → State → List ℕ → Request → Target → List ℕ
 getBytes box state m request target = replyAndAck m request (contentIn box state (request .command .set) target)
+
+-- a dump at the place of a port: the reply that a GET of this port writes, but "with the MULTI flag (2)", without an ACK; the next place and "the same position"
+unfoldable pub portResponse : Box → State → Request → ℕ → Response
+portResponse box state request flags =
+    record {
+      kind = Done;
+      next = request .position;
+      place = request .place + 1;
+      bytes =
+          replyBytes (headingOf (request .header) multi (request .command .reply))
+          (contentIn box state (request .command .set) (record { position = request .place; flags = flags }));
+    }
+
+-- "given a place (0 for the first port, the port count for DONE)": a dump whose header has these flags
+unfoldable pub dumpResponse : Box → State → Request → ℕ → Response
+dumpResponse box state request flags =
+    cond (ltb (request .place) (portsIn box)) (portResponse box state request flags) (responseOf Done (request .next) (doneMessage (request .header)))
 
 -- "Settings change only in a done SET, and there only in the named set of the named port": that set becomes what the bitset makes of it
 abbrev pub readingOutcome : Reading → Box → State → List ℕ → Request → ℕ → Outcome State
@@ -83,15 +103,16 @@ portOutcome box state m request bitset target =
     (setOutcome box state m request bitset (target .position))
     (unchanged (responseOf Done (request .next) (getBytes box state m request target)) state)
 
--- a refusal of the header level, or what is made of its target
-abbrev pub targetOutcome : TargetRead → State → List ℕ → Request → (Target → Outcome State) → Outcome State
-targetOutcome (A.Refused r) state m request f = unchanged (errorResponse m (request .next) r) state
-targetOutcome (A.Port target) state m request f = f target
+-- a refusal of the header level, or a dump, or what is made of its target
+abbrev pub targetOutcome : TargetRead → Box → State → List ℕ → Request → (Target → Outcome State) → Outcome State
+targetOutcome (A.Refused r) box state m request f = unchanged (errorResponse m (request .next) r) state
+targetOutcome (A.Unnamed flags) box state m request f = unchanged (dumpResponse box state request flags) state
+targetOutcome (A.Port target) box state m request f = f target
 
--- the port that the header names, then GET or SET
+-- the port that the header names, then GET or SET; or a dump
 unfoldable pub headerOutcome : Box → State → List ℕ → Request → TopParts → Outcome State
 headerOutcome box state m request parts =
-    targetOutcome (targetOf m (parts .header) (box .roll)) state m request (portOutcome box state m request (parts .bitset))
+    targetOutcome (targetOf m (parts .header) (isDump (request .header)) (box .roll)) box state m request (portOutcome box state m request (parts .bitset))
 
 -- a refusal of the top level, or what is made of its parts
 abbrev pub topOutcome : Top → State → List ℕ → Request → (TopParts → Outcome State) → Outcome State

@@ -1,103 +1,44 @@
 // A command that is admitted: decided by value, then carried out.
-pub mod get_reply;
+pub mod replies;
 
 ghost use mathlib.Core.Path.{_≡_};
 ghost use Prim.Native.Nat.{_≤_, _<_};
 ghost use lib.ListN.{length};
 ghost use Rattle.roll.specs.Record.{portCount};
 ghost use Rattle.roll.specs.Table.{Tabled};
-ghost use Rattle.boxes.specs.Box.{boxOf, stateOf, setOf};
-ghost use Rattle.response.specs.Answer.{Responds, Performs, responseOf};
-ghost use Rattle.response.specs.declared.Kind.the-variants.{Done};
+ghost use Rattle.boxes.specs.Box.{boxOf, stateOf};
+ghost use Rattle.response.specs.Answer.{Performs};
 ghost use Rattle.decision.specs.PortIn.{PortIn};
-ghost use Rattle.execute.specs.Execute.{getBytes, requestOutcome};
+ghost use Rattle.execute.specs.Execute.{requestOutcome};
 ghost use Rattle.execute.specs.CarriedOut.{changedBy, carriedOut};
 ghost use Rattle.execute.specs.Fit.{Fit};
-use crate::get_reply::put_get_reply;
+use crate::replies::dump;
+use crate::replies::get;
 use admission::commands::Command;
+use admission::is_dump;
 use bitset_form::Form;
 use boxes::lists::sizes;
-use boxes::settings::set_at;
 use decision::Decision;
 use decision::Plan;
 use decision::decide;
 use layout::Set;
 use layout::change::apply;
-use layout::names_of;
 use layout::set_place;
 use layout::size_of;
 use layout::widths;
 use netlink_headers::headers::MessageHeader;
-use request::target::Target;
 use response::Answer;
 use response::acknowledge;
 use response::refuse;
 use roll::table::PORTS;
-use roll::table::index_of;
-use roll::table::name_of;
 
-// An admitted request: its header, the position after it, and its command.
+// An admitted request: its header, its position and the one after it, the place that a dump has come to, and its command.
 pub struct Request {
     pub header: MessageHeader,
+    pub position: usize,
     pub next: usize,
+    pub place: usize,
     pub command: Command,
-}
-
-// The words of a set of the port at a position.
-fn stored_words<'s>(
-    settings: &'s [u32],
-    roll: &[u8],
-    ports: &[u64],
-    debug: &[u8],
-    flags: &[u8],
-    position: usize,
-    set: Set,
-) -> &'s [u32]
-    requires { ⌜ position < portCount (now roll) ⌝ }
-    requires { ⌜ Tabled (now roll) (now ports) ⌝ }
-    requires { ⌜ Fit (boxOf (now roll) (now debug) (now flags)) (stateOf (now settings)) ⌝ }
-    ensures { λ r. ⌜ now r ≡ setOf (boxOf (now (roll .entry)) (now (debug .entry)) (now (flags .entry))) (stateOf (now (settings .entry))) position set ⌝ }
-{
-    let width = widths(sizes(debug, flags));
-    set_at(settings, ports.len(), width, position, set)
-}
-
-// A done GET.
-fn get<'a>(
-    page: &mut [u8],
-    settings: &[u32],
-    roll: &[u8],
-    ports: &[u64],
-    debug: &'a [u8],
-    flags: &'a [u8],
-    m: &[u8],
-    request: Request,
-    target: Target,
-) -> Answer
-    requires { ⌜ (32768 ≤ length (now page)) × (16 ≤ length (now m)) × (target .position < portCount (now roll)) ⌝ }
-    requires { ⌜ Tabled (now roll) (now ports) ⌝ }
-    requires { ⌜ Fit (boxOf (now roll) (now debug) (now flags)) (stateOf (now settings)) ⌝ }
-    ensures { λ r. ⌜ Responds (responseOf Done (request .next) (getBytes (boxOf (now (roll .entry)) (now (debug .entry)) (now (flags .entry))) (stateOf (now (settings .entry))) (now (m .entry)) request target)) (now (page .entry)) (now (page .exit)) r ⌝ }
-{
-    let position = target.position;
-    let index = index_of(roll, ports, position);
-    let name = name_of(roll, ports, position);
-    let command = request.command;
-    let set = command.set;
-    let words = stored_words(settings, roll, ports, debug, flags, position, set);
-    let n = size_of(sizes(debug, flags), set);
-    let names = names_of(set, debug, flags);
-    put_get_reply(
-        page,
-        m,
-        request,
-        index,
-        name,
-        target.flags % 2 == 1,
-        names,
-        words,
-        n,
-    )
 }
 
 // A form applied to a set of the port at a position.
@@ -148,6 +89,9 @@ fn carry_out<'a>(
         Plan::Get(port) => {
             return get(page, settings, roll, ports, debug, flags, m, request, port);
         }
+        Plan::Dump(asked) => {
+            return dump(page, settings, roll, ports, debug, flags, request, asked);
+        }
         Plan::Set {
             position,
             bitset: _,
@@ -179,7 +123,8 @@ pub fn execute<'a>(
     ensures { λ r. ⌜ Performs (requestOutcome (boxOf (now (roll .entry)) (now (debug .entry)) (now (flags .entry))) (stateOf (now (settings .entry))) (now (m .entry)) request) (now (page .entry)) (now (page .exit)) (stateOf (now (settings .exit))) r ⌝ }
 {
     let command = request.command;
-    let decision = decide(m, command, roll, ports, debug, flags);
+    let h = request.header;
+    let decision = decide(m, command, is_dump(h), roll, ports, debug, flags);
     carry_out(
         page,
         settings,

@@ -1,17 +1,17 @@
 -- What C gets back from `ethnl_handle`, from its contract alone.
 --     returned    the numbers behind the pointers, the page and the settings are as `Returned` says, whatever was lent
-use Prim.Native.Nat.{ℕ, _≤_}
-use mathlib.Core.Path.{_≡_, refl, ap, _∙_}
+use Prim.Native.Nat.{ℕ, _+_, _≤_}
+use mathlib.Core.Path.{_≡_, refl, sym, ap, _∙_}
 use mathlib.Core.List.{List}
-use mathlib.Core.Bool.{true, false}
+use mathlib.Core.Bool.{Bool, true, false, _&&_, cond}
 use mathlib.Core.Logic.{_⊎_, inl, inr}
 use lib.ListN.{length}
+use lib.Dec.{eqb}
 use native.Mathlib.Omega.{arith}
 use borrow.Author.Tests.{lt-ltb, le-ltb}
 use Rattle.basics.specs.Numbers.{byteAt}
 use Rattle.basics.specs.Put.{put}
 use Rattle.basics.proofs.Put.{put-nil}
-use Rattle.netlink_headers.specs.Headers.{messageHeader}
 use Rattle.refusal.specs.Refusal.{numberOf}
 use Rattle.refusal.specs.declared.Refusal.{Refusal}
 use Rattle.admission.specs.Commands.{commandOf}
@@ -21,18 +21,18 @@ use Rattle.response.specs.declared.Kind.the-variants.{End, Skipped, Done, Refus
 use Rattle.handler.specs.Call.{endsRun}
 use Rattle.handler.specs.Bytes.{Stored, bytesOutcome}
 use Rattle.demands.specs.Check.{AllPass, FirstIs}
-use Rattle.demands.specs.Call.{nextOf}
-use Rattle.demands.specs.Request.{isSet}
+use Rattle.demands.specs.Call.{nextOf, tellsPort}
+use Rattle.demands.specs.Request.{isSet, asksDump}
 use Rattle.demands.specs.Stored.{DoneSetStored}
 use Rattle.demands.proofs.OwnNames.{accepted-own-names}
 use Rattle.demands.proofs.Stored as S
-use Rattle.exported.specs.Returned.{Lent, Left, Leaves, messageIn, checksOf, LeftRefused, LeftSet, LeftGet, Returned}
+use Rattle.exported.specs.Returned.{Lent, Left, Leaves, messageIn, headerIn, isPortReply, checksOf, LeftRefused, LeftSet, LeftGet, LeftDump, Returned}
 
 module _ (c : Lent) (r : Left) (h : Leaves c r) where
   abbrev o : Outcome Stored
   o = bytesOutcome (c .box) (c .settings) (c .call) (c .datagram) (length (c .page))
 
-  kind-is : {k : Kind} → o .response .kind ≡ k → r .kind ≡ kindNumber k
+  pub kind-is : {k : Kind} → o .response .kind ≡ k → r .kind ≡ kindNumber k
   kind-is e = h .kind ∙ ap kindNumber e
 
   refusal-is : {k : Kind} → o .response .kind ≡ k → r .refusal ≡ refusalNumber k
@@ -48,7 +48,7 @@ module _ (c : Lent) (r : Left) (h : Leaves c r) where
       go Done e = absurd (omega (arith, z, kind-is e))
       go (Refused why) e = absurd (omega (arith, z, kind-is e))
 
-  is-done : r .kind ≡ 2 → o .response .kind ≡ Done
+  pub is-done : r .kind ≡ 2 → o .response .kind ≡ Done
   is-done z = go (o .response .kind) refl
     where
       go : (k : Kind) → o .response .kind ≡ k → k ≡ Done
@@ -75,7 +75,7 @@ module _ (c : Lent) (r : Left) (h : Leaves c r) where
       go Done e = absurd (omega (arith, l, kind-is e))
       go (Refused why) e = absurd (omega (arith, l, kind-is e))
 
-  wrote : (bytes : List ℕ) → o .response .bytes ≡ bytes → (r .page ≡ put (c .page) bytes) × (r .written ≡ length bytes)
+  pub wrote : (bytes : List ℕ) → o .response .bytes ≡ bytes → (r .page ≡ put (c .page) bytes) × (r .written ≡ length bytes)
   wrote bytes e = (h .page ∙ ap (put (c .page)) e, h .count ∙ ap length e)
 
   refused-left : r .kind ≡ 3 → LeftRefused c r
@@ -113,7 +113,7 @@ module _ (c : Lent) (r : Left) (h : Leaves c r) where
   set-left : r .kind ≡ 2 → isSet (commandOf (byteAt (messageIn c) 16)) ≡ true → LeftSet c r
   set-left z set =
       let e = S.effect (c .box) (c .settings) (c .call) (c .datagram) (length (c .page)) (h .bytes) (is-done z) set in
-      let d : DoneSetStored (c .box) (c .settings) (c .call) (messageIn c) (messageHeader (c .datagram) (c .call .position)) (record { response = o .response; state = r .settings }) =
+      let d : DoneSetStored (c .box) (c .settings) (c .call) (messageIn c) (headerIn c) (record { response = o .response; state = r .settings }) =
       rw (h .state) e in
       record {
         response = o .response;
@@ -122,10 +122,37 @@ module _ (c : Lent) (r : Left) (h : Leaves c r) where
         wrote = wrote _ refl;
       }
 
-  get-left : r .kind ≡ 2 → isSet (commandOf (byteAt (messageIn c) 16)) ≡ false → LeftGet c r
-  get-left z get =
-      let back = S.read-back (c .box) (c .settings) (c .call) (c .datagram) (length (c .page)) (h .bytes) (is-done z) get in
+  get-left : r .kind ≡ 2 → isSet (commandOf (byteAt (messageIn c) 16)) ≡ false → asksDump (headerIn c) ≡ false → LeftGet c r
+  get-left z get one =
+      let back = S.read-back (c .box) (c .settings) (c .call) (c .datagram) (length (c .page)) (h .bytes) (is-done z) get one in
       record { response = o .response; settings = h .state ∙ back .0; done = rw (h .state) (back .1); wrote = wrote _ refl }
+
+  dump-left : r .kind ≡ 2 → asksDump (headerIn c) ≡ true → LeftDump c r
+  dump-left z all =
+      let told = S.dump (c .box) (c .settings) (c .call) (c .datagram) (length (c .page)) (h .bytes) (is-done z) all in
+      record {
+        response = o .response;
+        settings = h .state ∙ told .0;
+        done = rw (h .state) (told .1);
+        wrote = wrote _ refl;
+        next = h .next;
+        place = h .place;
+      }
+
+  -- whether it is a port's reply, by the number of the kind
+  port-reply : tellsPort (c .box) (c .call) (c .datagram) (o .response .kind) ≡ isPortReply c r
+  unfolding tellsPort
+  port-reply = go (o .response .kind) ∙ ap (λ (n : ℕ). eqb n 2 && tellsPort (c .box) (c .call) (c .datagram) Done) (sym (h .kind))
+    where
+      go : (k : Kind) → tellsPort (c .box) (c .call) (c .datagram) k ≡ eqb (kindNumber k) 2 && tellsPort (c .box) (c .call) (c .datagram) Done
+      go End = refl
+      go Skipped = refl
+      go Done = refl
+      go (Refused why) = refl
+
+  place-left : r .place ≡ cond (isPortReply c r) (c .call .place + 1) 0
+  place-left =
+      h .place ∙ S.place-is (c .box) (c .settings) (c .call) (c .datagram) (length (c .page)) ∙ ap (λ (t : Bool). cond t (c .call .place + 1) 0) port-reply
 
   -- where to go on
   stays-at : endsRun (o .response .kind) ≡ true → r .next ≡ c .call .position
@@ -136,8 +163,10 @@ module _ (c : Lent) (r : Left) (h : Leaves c r) where
       let is = is-refused z in
       stays-at (ap endsRun (is .1) ∙ lt-ltb (numberOf (is .0)) 5 (let n = refusal-is (is .1) in omega arith))
 
-  goes-on : 1 ≤ r .kind → (r .kind ≡ 3 → 5 ≤ r .refusal) → r .next ≡ nextOf (c .datagram) (c .call .position)
-  goes-on l late = h .next ∙ S.next-is (c .box) (c .settings) (c .call) (c .datagram) (length (c .page)) (go (o .response .kind) refl)
+  goes-on : 1 ≤ r .kind → (r .kind ≡ 3 → 5 ≤ r .refusal) → r .next ≡ cond (isPortReply c r) (c .call .position) (nextOf (c .datagram) (c .call .position))
+  goes-on l late =
+      h .next ∙ S.next-is (c .box) (c .settings) (c .call) (c .datagram) (length (c .page)) (go (o .response .kind) refl)
+      ∙ ap (λ (t : Bool). cond t (c .call .position) (nextOf (c .datagram) (c .call .position))) port-reply
     where
       go : (k : Kind) → o .response .kind ≡ k → endsRun k ≡ false
       go End e = absurd (omega (arith, l, kind-is e))
@@ -170,6 +199,8 @@ module _ (c : Lent) (r : Left) (h : Leaves c r) where
         quiet = quiet;
         set = set-left;
         get = get-left;
+        dump = dump-left;
         stays = (λ z. stays-at (ap endsRun (is-end z)), silent);
         goes-on = goes-on;
+        place = place-left;
       }

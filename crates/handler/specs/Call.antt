@@ -24,14 +24,14 @@ use Rattle.response.specs.declared.Kind.{Kind}
 use Rattle.response.specs.declared.Kind.the-variants.{End, Skipped, Done, Refused}
 
 -- skipped, 5 to 9, or the command executed
-abbrev pub onAdmission : Admission → Box → State → List ℕ → MessageHeader → ℕ → Outcome State
-onAdmission A.Skipped box state m h next = unchanged (noBytes Skipped next) state
-onAdmission (A.Refused r) box state m h next = unchanged (errorResponse m next r) state
-onAdmission (A.Admitted command) box state m h next = requestOutcome box state m (requestOf h next command)
+abbrev pub onAdmission : Admission → Box → State → Call → List ℕ → MessageHeader → ℕ → Outcome State
+onAdmission A.Skipped box state call m h next = unchanged (noBytes Skipped next) state
+onAdmission (A.Refused r) box state call m h next = unchanged (errorResponse m next r) state
+onAdmission (A.Admitted command) box state call m h next = requestOutcome box state m (requestOf call h next command)
 
 -- the message m with its header h
 unfoldable pub messageOutcome : Box → State → Call → List ℕ → MessageHeader → ℕ → Outcome State
-messageOutcome box state call m h next = onAdmission (admitted m h (call .family) (eqb (call .admin) 1)) box state m h next
+messageOutcome box state call m h next = onAdmission (admitted m h (call .family) (eqb (call .admin) 1)) box state call m h next
 
 -- "1 to 4 write nothing", and they and the end give the position back
 abbrev pub refusedInPlace : Refusal → Call → State → Outcome State

@@ -32,18 +32,19 @@ pub const DATAGRAM: usize = 32768;
 
 // An answer that writes nothing.
 fn no_bytes(kind: Kind, next: usize) -> Answer
-    ensures { λ r. ⌜ r ≡ record { kind = kind; next = next; written = 0 } ⌝ }
+    ensures { λ r. ⌜ r ≡ record { kind = kind; next = next; place = 0; written = 0 } ⌝ }
 {
     Answer {
         kind,
         next,
+        place: 0,
         written: 0,
     }
 }
 
 // Refusals 1 to 4: nothing is written, and the position is given back.
 pub fn refuse_in_place(why: Refusal, position: usize) -> Answer
-    ensures { λ r. ⌜ r ≡ record { kind = Refused why; next = position; written = 0 } ⌝ }
+    ensures { λ r. ⌜ r ≡ record { kind = Refused why; next = position; place = 0; written = 0 } ⌝ }
 {
     no_bytes(Kind::Refused(why), position)
 }
@@ -76,7 +77,9 @@ fn answer_message<'a>(
         Admission::Admitted(command) => {
             let request = Request {
                 header: h,
+                position: call.position,
                 next,
+                place: call.place,
                 command,
             };
             return execute(page, settings, roll, ports, debug, flags, m, request);

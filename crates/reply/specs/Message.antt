@@ -10,9 +10,9 @@ use Rattle.index_name.specs.IndexName.{indexNest}
 use Rattle.bitset_reply.specs.Set.{setBytes}
 use Rattle.reply.specs.declared.message.Heading.{Heading}
 
--- "Message type the family, flags 0; sequence and port id echoed": what the headers of the reply to a request say
-abbrev pub headingOf : MessageHeader → ℕ → Heading
-headingOf h command = record { family = h .kind; flags = 0; sequence = h .sequence; port = h .port; command = command }
+-- "Message type the family, flags 0; sequence and port id echoed": what the headers of the reply to a request say; in a dump the flags are MULTI
+abbrev pub headingOf : MessageHeader → ℕ → ℕ → Heading
+headingOf h flags command = record { family = h .kind; flags = flags; sequence = h .sequence; port = h .port; command = command }
 
 -- the message header of a length
 abbrev pub replyMessageHeader : Heading → ℕ → MessageHeader

@@ -29,12 +29,12 @@ pub struct Heading {
 }
 
 // What the reply to a request says there.
-pub fn heading_of(h: MessageHeader, command: u8) -> Heading
-    ensures { λ r. ⌜ r ≡ headingOf h command ⌝ }
+pub fn heading_of(h: MessageHeader, flags: u16, command: u8) -> Heading
+    ensures { λ r. ⌜ r ≡ headingOf h flags command ⌝ }
 {
     Heading {
         family: h.kind,
-        flags: 0,
+        flags,
         sequence: h.sequence,
         port: h.port,
         command,

@@ -1,7 +1,7 @@
-// The header nest of a request: refusals 10 to 12 in it, 14 and 15.
+// The header nest of a request: refusals 10 to 12 in it, 14, or 8 in a dump, and 15.
 ghost use mathlib.Core.Path.{_≡_};
 ghost use mathlib.Core.Bool.{_||_};
-ghost use Rattle.request.specs.Header.{flagsJudged, partsOf, headerOf};
+ghost use Rattle.request.specs.Header.{flagsJudged, partsOf, dumpPartsOf, headerOf};
 use crate::parts::HeaderParts;
 use crate::parts::header_parts;
 use crate::policies::header_policy;
@@ -45,6 +45,16 @@ fn judge_flags(message: &[u8], parts: HeaderParts) -> Header
     Header::Parts { parts, flags }
 }
 
+// Judges the parts of the header nest of a dump: it names no port.
+fn judge_dump_parts(message: &[u8], parts: HeaderParts) -> Header
+    ensures { λ r. ⌜ r ≡ dumpPartsOf (now (message .entry)) parts ⌝ }
+{
+    if gives_port(parts) {
+        return Header::Refused(Refusal::Dump);
+    }
+    judge_flags(message, parts)
+}
+
 // Judges the parts of the header nest at a place.
 fn judge_header_parts(message: &[u8], nest: usize, parts: HeaderParts) -> Header
     ensures { λ r. ⌜ r ≡ partsOf (now (message .entry)) nest parts ⌝ }
@@ -56,8 +66,8 @@ fn judge_header_parts(message: &[u8], nest: usize, parts: HeaderParts) -> Header
 }
 
 // Walks the header nest whole, in the message cut at the nest's end, then judges its parts.
-pub fn read_header(message: &[u8], header: Slot) -> Header
-    ensures { λ r. ⌜ r ≡ headerOf (now (message .entry)) header ⌝ }
+pub fn read_header(message: &[u8], header: Slot, dump: bool) -> Header
+    ensures { λ r. ⌜ r ≡ headerOf (now (message .entry)) header dump ⌝ }
 {
     let start = header.start;
     let end = header.end;
@@ -67,5 +77,8 @@ pub fn read_header(message: &[u8], header: Slot) -> Header
         return Header::Refused(of_fault(fault, at));
     }
     let slots = walked.slots;
+    if dump {
+        return judge_dump_parts(message, header_parts(slots));
+    }
     judge_header_parts(message, place(start), header_parts(slots))
 }

@@ -1,4 +1,4 @@
-// The port that a request names, and the flags of its header, from its header nest: refusals 10 to 12 in it, and 14 to 17.
+// The port that a request names, and the flags of its header, from its header nest: refusals 10 to 12 in it, and 14 to 17; in a dump, which names none, 8 and 15.
 ghost use mathlib.Core.Path.{_≡_};
 ghost use Rattle.roll.specs.Table.{Tabled};
 ghost use Rattle.request.specs.Target.{withFlags, targetOf};
@@ -17,6 +17,8 @@ pub struct Target {
 
 pub enum TargetRead {
     Port(Target),
+    // No port is named: the flags of the header.
+    Unnamed(u32),
     Refused(Refusal),
 }
 
@@ -29,14 +31,23 @@ fn with_flags(port: PortRead, flags: u32) -> TargetRead
     }
 }
 
-// Reads the header nest of a message and finds its port in the roll.
-pub fn read_target(message: &[u8], header: Slot, roll: &[u8], ports: &[u64]) -> TargetRead
+// Reads the header nest of a message and, but for a dump, finds its port in the roll.
+pub fn read_target(
+    message: &[u8],
+    header: Slot,
+    dump: bool,
+    roll: &[u8],
+    ports: &[u64],
+) -> TargetRead
     requires { ⌜ Tabled (now roll) (now ports) ⌝ }
-    ensures { λ r. ⌜ r ≡ targetOf (now (message .entry)) header (now (roll .entry)) ⌝ }
+    ensures { λ r. ⌜ r ≡ targetOf (now (message .entry)) header dump (now (roll .entry)) ⌝ }
 {
-    match read_header(message, header) {
+    match read_header(message, header, dump) {
         Header::Refused(why) => TargetRead::Refused(why),
         Header::Parts { parts, flags } => {
+            if dump {
+                return TargetRead::Unnamed(flags);
+            }
             with_flags(find_port(message, header, parts, roll, ports), flags)
         }
     }

@@ -16,11 +16,11 @@ use Rattle.response.specs.declared.Kind.{Kind}
 use Rattle.response.specs.declared.Kind.the-variants.{Refused}
 
 -- the response whose bytes were written
-pub wrote-responds : (k : Kind) (next : ℕ) (bs P Q : List ℕ) (w : ℕ) → Wrote bs P Q w → Responds (responseOf k next bs) P Q (record { kind = k; next = next; written = w })
-wrote-responds k next bs P Q w h = record { result = ap (λ (n : ℕ). record { kind = k; next = next; written = n }) (h .count); page = h .page }
+pub wrote-responds : (k : Kind) (next : ℕ) (bs P Q : List ℕ) (w : ℕ) → Wrote bs P Q w → Responds (responseOf k next bs) P Q (record { kind = k; next = next; place = 0; written = w })
+wrote-responds k next bs P Q w h = record { result = ap (λ (n : ℕ). record { kind = k; next = next; place = 0; written = n }) (h .count); page = h .page }
 
 pub refuse-responds : (m : List ℕ) (next : ℕ) (why : Refusal) (P Q : List ℕ) (row : Row) (w : ℕ) → row ≡ rowOf why
-    → Wrote (errorMessage m (row .errno) (row .detail)) P Q w → Responds (errorResponse m next why) P Q (record { kind = Refused why; next = next; written = w })
+    → Wrote (errorMessage m (row .errno) (row .detail)) P Q w → Responds (errorResponse m next why) P Q (record { kind = Refused why; next = next; place = 0; written = w })
 refuse-responds m next why P Q row w e h =
     wrote-responds (Refused why) next (errorMessage m (errnoOf why) (detailOf why)) P Q w
     (subst (λ (x : Row). Wrote (errorMessage m (x .errno) (x .detail)) P Q w) e h)

@@ -1,4 +1,4 @@
--- Document 01, "What a call says back": kind, refusal number, next position, bytes written, and the state, whatever it holds.
+-- Document 01, "What a call says back", and request C-11: kind, refusal number, next position, next place, bytes written, and the state, whatever it holds.
 use Prim.Native.Nat.{ℕ, _/_, _%_}
 use mathlib.Core.Path.{_≡_}
 use mathlib.Core.List.{List, []}
@@ -29,10 +29,11 @@ refusalNumber Skipped = 0
 refusalNumber Done = 0
 refusalNumber (Refused r) = numberOf r
 
--- the kind, the next position and the bytes; the count is their length
+-- the kind, the next position, the next place and the bytes; the count is their length
 pub record Response : Type 0 where
   pub kind : Kind
   pub next : ℕ
+  pub place : ℕ
   pub bytes : List ℕ
 
 -- the response, and the state after it
@@ -40,9 +41,9 @@ pub record Outcome (S : Type 0) : Type 0 where
   pub response : Response
   pub state : S
 
--- the response of these parts
+-- "DONE and all other answers hand back 0": the response of these parts, at place 0
 abbrev pub responseOf : Kind → ℕ → List ℕ → Response
-responseOf kind next bytes = record { kind = kind; next = next; bytes = bytes }
+responseOf kind next bytes = record { kind = kind; next = next; place = 0; bytes = bytes }
 
 -- every refusal from 5 on writes one error message
 abbrev pub errorResponse : List ℕ → ℕ → Refusal → Response
@@ -62,7 +63,7 @@ unchanged s state = record { response = s; state = state }
 
 -- the code's answer
 abbrev pub answerOf : Response → Answer
-answerOf s = record { kind = s .kind; next = s .next; written = length (s .bytes) }
+answerOf s = record { kind = s .kind; next = s .next; place = s .place; written = length (s .bytes) }
 
 -- the bytes stand at the front of the page; "Page bytes beyond that count keep their content"
 pub record Responds (s : Response) (before after : List ℕ) (r : Answer) : Type 0 where

@@ -43,10 +43,11 @@ impl Kind {
     }
 }
 
-// The kind, the next position and the count of bytes written.
+// The kind, the next position, the next place and the count of bytes written. The place is 0 but after a port's reply of a dump.
 pub struct Answer {
     pub kind: Kind,
     pub next: usize,
+    pub place: usize,
     pub written: usize,
 }
 
@@ -62,6 +63,7 @@ pub fn refuse(page: &mut [u8], message: &[u8], why: Refusal, next: usize) -> Ans
     Answer {
         kind: Kind::Refused(why),
         next,
+        place: 0,
         written,
     }
 }
@@ -87,6 +89,7 @@ pub fn acknowledge(page: &mut [u8], message: &[u8], h: MessageHeader, next: usiz
     Answer {
         kind: Kind::Done,
         next,
+        place: 0,
         written,
     }
 }

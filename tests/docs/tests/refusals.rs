@@ -9,10 +9,10 @@ const REQUEST_ERRORS: std::ops::RangeInclusive<u32> = 5..=23;
 
 /// The error message of a refused case, with its refusal.
 fn refused(mut case: HandleCase) -> Option<(u32, Vec<u8>)> {
-    let HandleCase { family, admin, position, .. } = case;
+    let HandleCase { family, admin, position, place, .. } = case;
     let (roll, debug, flags) = (&case.roll, &case.debug_names, &case.flag_names);
-    let answer =
-        reader::handle(family, admin, roll, debug, flags, &mut case.settings, &case.datagram, position, &mut case.page);
+    let (settings, datagram, page) = (&mut case.settings, &case.datagram, &mut case.page);
+    let answer = reader::handle(family, admin, roll, debug, flags, settings, datagram, position, place, page);
     let told = answer.kind == reader::REFUSED && answer.written > 0;
     told.then(|| (answer.refusal, case.page[..answer.written as usize].to_vec()))
 }

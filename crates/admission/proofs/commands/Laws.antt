@@ -20,7 +20,7 @@ RowsFrom number rows i = commandOf number ≡ commandIn (drop i rows) number
 
 -- what stands past the rows' end
 abbrev blank : Command
-blank = commandRow 0 false Debug 0
+blank = commandRow 0 false Debug 0 false
 
 pub rows-start : (number : ℕ) (rows : List Command) → rows ≡ commands → RowsFrom number rows 0
 unfolding commandOf RowsFrom

@@ -1,4 +1,4 @@
-use Prim.Native.Nat.{_-_}
+use Prim.Native.Nat.{_+_, _-_}
 use mathlib.Core.Path.{_≡_}
 use lib.ListN.{length}
 use Rattle.boxes.specs.Box.{stateOf}
@@ -8,11 +8,11 @@ use Rattle.answer.proofs.answer_all.Statement.{statement}
 use Rattle.answer.proofs.answer_all.Tie as tie
 
 abbrev Inv-loop : tie.InvT-loop
-Inv-loop roll debug flags settings₀ datagram page₀ at₀ written₀ settings page at written =
-    SoFar datagram (stateOf settings) at (written .count) × (length page ≡ 32768) × (length page ≡ length page₀) × (length settings ≡ length settings₀)
+Inv-loop roll debug flags settings₀ datagram page₀ at₀ place₀ written₀ settings page at place written =
+    SoFar datagram (stateOf settings) at place (written .count) × (length page ≡ 32768) × (length page ≡ length page₀) × (length settings ≡ length settings₀)
 
 abbrev μ-loop : tie.MeasureT-loop
-μ-loop roll debug flags settings₀ datagram page₀ at₀ written₀ settings page at written = length datagram - at
+μ-loop roll debug flags settings₀ datagram page₀ at₀ place₀ written₀ settings page at place written = length datagram - (at + place)
 
 nothing-requires : tie.Need-nothing-requires Inv-loop μ-loop
 nothing-requires c κs = search (needs, run-laws)

@@ -4,6 +4,7 @@ use mathlib.Core.Path.{_≡_, sym, ap, _∙_}
 use mathlib.Core.List.{List}
 use mathlib.Core.Bool.{Bool, true, false, _&&_, not}
 use borrow.Author.Tests.{le-leb, lt-leb, not-true, not-false}
+use lib.Dec.{leb}
 use Rattle.entries.specs.Entry.{count}
 use Rattle.roll.specs.Table.{Tabled, TableRead}
 use lib.ListN.{length}
@@ -15,7 +16,7 @@ use Rattle.layout.specs.AtMost.{AtMost}
 use Rattle.boxes.specs.declared.Call.{Call}
 use Rattle.boxes.specs.Box.{Box, State, portsIn, sizesIn}
 use Rattle.boxes.specs.Settings.{settingsRight}
-use Rattle.boxes.specs.Rule.{familyRight, adminRight, listsRight, boxRight}
+use Rattle.boxes.specs.Rule.{familyRight, adminRight, placeRight, listsRight, boxRight}
 use Rattle.boxes.proofs.lists.Laws.{lists-few}
 
 -- the bounds by which the settings may be judged
@@ -45,22 +46,37 @@ module _ (box : Box) (state : State) (call : Call) where
       admin-other h = sym (rw (le-leb _ _ l, le-leb _ _ u, lt-leb _ _ h))
 
       module _ (a : call .admin ≤ 1) where
-        lists : boxRight box state call ≡ rollRight (box .roll) && (listsRight (box .names) && settingsRight (state .words) (portsIn box) (sizesIn box))
+        by-roll : boxRight box state call
+            ≡ rollRight (box .roll) && (placeRight (portsIn box) (call .place) && (listsRight (box .names) && settingsRight (state .words) (portsIn box) (sizesIn box)))
         unfolding boxRight familyRight adminRight
-        lists = rw (le-leb _ _ l, le-leb _ _ u, le-leb _ _ a)
+        by-roll = rw (le-leb _ _ l, le-leb _ _ u, le-leb _ _ a)
 
         module _ (r : Bool) (er : r ≡ rollRight (box .roll)) where
           pub roll-wrong : not r ≡ true → false ≡ boxRight box state call
-          roll-wrong h = sym (lists ∙ rw (← er, not-true r h))
+          roll-wrong h = sym (by-roll ∙ rw (← er, not-true r h))
 
-          module _ (hr : not r ≡ false) (n : Bool) (en : n ≡ listsRight (box .names)) where
-            pub lists-wrong : not n ≡ true → false ≡ boxRight box state call
-            lists-wrong h = sym (lists ∙ rw (← er, not-false r hr, ← en, not-true n h))
+          module _ (hr : not r ≡ false) (t : List ℕ) (rd : TableRead (box .roll) t) where
+            counted : length t ≡ portsIn box
+            counted = roll-tabled (box .roll) t rd r er hr .count
 
-            pub settings-decide : (t : List ℕ) (sizes : Sizes) (b : Bool) → TableRead (box .roll) t → not n ≡ false → sizes ≡ sizesIn box
-                → b ≡ settingsRight (state .words) (length t) sizes → b ≡ boxRight box state call
-            settings-decide t sizes b rd h es eb =
-                let ep : length t ≡ portsIn box = roll-tabled (box .roll) t rd r er hr .count in
-                eb ∙ ap (λ (x : ℕ). settingsRight (state .words) x sizes) ep ∙ rw es (sym (lists ∙ rw (← er, not-false r hr, ← en, not-false n h)))
+            by-place : boxRight box state call ≡ leb (call .place) (length t) && (listsRight (box .names) && settingsRight (state .words) (portsIn box) (sizesIn box))
+            unfolding placeRight
+            by-place = by-roll ∙ rw (← er, not-false r hr, counted)
 
-pub ruleset box-laws = (family-low, family-high, admin-other, roll-wrong, lists-wrong, settings-decide)
+            pub place-wrong : length t < call .place → false ≡ boxRight box state call
+            place-wrong h = sym (by-place ∙ rw (lt-leb _ _ h))
+
+            module _ (p : call .place ≤ length t) (n : Bool) (en : n ≡ listsRight (box .names)) where
+              by-lists : boxRight box state call ≡ n && settingsRight (state .words) (portsIn box) (sizesIn box)
+              by-lists = by-place ∙ rw (le-leb _ _ p, en)
+
+              pub lists-wrong : not n ≡ true → false ≡ boxRight box state call
+              lists-wrong h = sym (by-lists ∙ ap (λ (x : Bool). x && settingsRight (state .words) (portsIn box) (sizesIn box)) (not-true n h))
+
+              pub settings-decide : (sizes : Sizes) (b : Bool) → not n ≡ false → sizes ≡ sizesIn box → b ≡ settingsRight (state .words) (length t) sizes
+                  → b ≡ boxRight box state call
+              settings-decide sizes b h es eb =
+                  eb ∙ ap (λ (x : ℕ). settingsRight (state .words) x sizes) counted
+                  ∙ rw es (sym (by-lists ∙ ap (λ (x : Bool). x && settingsRight (state .words) (portsIn box) (sizesIn box)) (not-false n h)))
+
+pub ruleset box-laws = (family-low, family-high, admin-other, roll-wrong, place-wrong, lists-wrong, settings-decide)

@@ -2,6 +2,11 @@ use Rattle.decision.proofs.Laws.{decide-laws}
 use borrow.Author.Needs.{needs}
 use Rattle.decision.proofs.decide.Statement.{statement}
 use Rattle.decision.proofs.decide.Tie as tie
+use Rattle.decision.proofs.decide.Reads as reads
+use Rattle.decision.proofs.decide.Lts as lts
+use Rattle.decision.proofs.decide_header.Reads as decide-header-reads
+use Rattle.decision.proofs.without_form.Reads as without-form-reads
+use Rattle.request.proofs.top.read_top.Reads as read-top-reads
 
 read-top-requires : tie.Need-read-top-requires
 read-top-requires c κs = search needs

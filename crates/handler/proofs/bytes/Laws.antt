@@ -38,7 +38,7 @@ words-perform box stored call datagram ws new after P Q r w d k a =
     }
 
 module _ (box : Box) (stored : Stored) (call : Call) (datagram P : List ℕ) (r : Answer) (b : Bool) (e : b ≡ areWords (stored .settings)) where
-  pub bytes-broken : not b ≡ true → r ≡ record { kind = Refused R.Box; next = call .position; written = 0 } → Performs (bytesOutcome box stored call datagram (length P)) P P stored r
+  pub bytes-broken : not b ≡ true → r ≡ record { kind = Refused R.Box; next = call .position; place = 0; written = 0 } → Performs (bytesOutcome box stored call datagram (length P)) P P stored r
   unfolding bytesOutcome
   bytes-broken n q = rw (← e, not-true b n) (record { response = record { result = q; page = sym (put-nil P) }; state-is = refl })
 

@@ -40,13 +40,13 @@ use Rattle.response.specs.declared.Answer.{Answer}
 use Rattle.execute.proofs.Laws.{unchanged-performs}
 
 -- nothing is written, and the state is as before
-pub no-bytes-performs : (o : Outcome State) (k : Kind) (next : ℕ) (P : List ℕ) (state : State) (r : Answer) → r ≡ record { kind = k; next = next; written = 0 }
+pub no-bytes-performs : (o : Outcome State) (k : Kind) (next : ℕ) (P : List ℕ) (state : State) (r : Answer) → r ≡ record { kind = k; next = next; place = 0; written = 0 }
     → o ≡ unchanged (noBytes k next) state → Performs o P P state r
 no-bytes-performs o k next P state r e q = rw q (record { response = record { result = e; page = sym (put-nil P) }; state-is = refl })
 
 module _ (box : Box) (state : State) (call : Call) (m : List ℕ) (h : MessageHeader) (next : ℕ) (a : Admission)
     (e : a ≡ admitted m h (call .family) (eqb (call .admin) 1)) (P : List ℕ) (r : Answer) where
-  pub message-skipped : a ≡ A.Skipped → r ≡ record { kind = Skipped; next = next; written = 0 } → Performs (messageOutcome box state call m h next) P P state r
+  pub message-skipped : a ≡ A.Skipped → r ≡ record { kind = Skipped; next = next; place = 0; written = 0 } → Performs (messageOutcome box state call m h next) P P state r
   unfolding messageOutcome
   message-skipped q er = no-bytes-performs _ Skipped next P state r er (rw (← e, q))
 
@@ -55,7 +55,7 @@ module _ (box : Box) (state : State) (call : Call) (m : List ℕ) (h : MessageHe
     unfolding messageOutcome
     message-refused why q s = rw (← e, q) (unchanged-performs (errorResponse m next why) P Q state r s)
 
-    pub message-admitted : (c : Command) (new : State) → a ≡ A.Admitted c → Performs (requestOutcome box state m (requestOf h next c)) P Q new r
+    pub message-admitted : (c : Command) (new : State) → a ≡ A.Admitted c → Performs (requestOutcome box state m (requestOf call h next c)) P Q new r
         → Performs (messageOutcome box state call m h next) P Q new r
     unfolding messageOutcome
     message-admitted c new q d = rw (← e, q) d
@@ -81,16 +81,16 @@ module _ (box : Box) (state : State) (call : Call) (datagram P : List ℕ) (x : 
   by-message = rw (← ex)
 
   module _ (r : Answer) where
-    pub at-outside : x ≡ Outside → r ≡ record { kind = Refused R.Datagram; next = call .position; written = 0 } → Performs (positionOutcome box state call datagram) P P state r
+    pub at-outside : x ≡ Outside → r ≡ record { kind = Refused R.Datagram; next = call .position; place = 0; written = 0 } → Performs (positionOutcome box state call datagram) P P state r
     at-outside q er = no-bytes-performs _ (Refused R.Datagram) (call .position) P state r er (by-message ∙ rw q)
 
-    pub at-end : x ≡ AtEnd → r ≡ record { kind = End; next = call .position; written = 0 } → Performs (positionOutcome box state call datagram) P P state r
+    pub at-end : x ≡ AtEnd → r ≡ record { kind = End; next = call .position; place = 0; written = 0 } → Performs (positionOutcome box state call datagram) P P state r
     at-end q er = no-bytes-performs _ End (call .position) P state r er (by-message ∙ rw q)
 
-    pub at-cut : x ≡ Cut → r ≡ record { kind = Refused R.Datagram; next = call .position; written = 0 } → Performs (positionOutcome box state call datagram) P P state r
+    pub at-cut : x ≡ Cut → r ≡ record { kind = Refused R.Datagram; next = call .position; place = 0; written = 0 } → Performs (positionOutcome box state call datagram) P P state r
     at-cut q er = no-bytes-performs _ (Refused R.Datagram) (call .position) P state r er (by-message ∙ rw q)
 
-    pub at-misstated : x ≡ Misstated → r ≡ record { kind = Refused R.Length; next = call .position; written = 0 } → Performs (positionOutcome box state call datagram) P P state r
+    pub at-misstated : x ≡ Misstated → r ≡ record { kind = Refused R.Length; next = call .position; place = 0; written = 0 } → Performs (positionOutcome box state call datagram) P P state r
     at-misstated q er = no-bytes-performs _ (Refused R.Length) (call .position) P state r er (by-message ∙ rw q)
 
     pub at-message : (h : MessageHeader) (end next : ℕ) (m Q : List ℕ) (new : State) → x ≡ Message h end next → m ≡ partOf datagram (call .position) end
@@ -101,19 +101,19 @@ pub ruleset at-laws = (at-outside, at-end, at-cut, at-misstated, at-message)
 
 -- the box, the page, the datagram
 module _ (box : Box) (state : State) (call : Call) (datagram P : List ℕ) (b : Bool) (e : b ≡ boxRight box state call) where
-  pub call-box : (r : Answer) → not b ≡ true → r ≡ record { kind = Refused R.Box; next = call .position; written = 0 }
+  pub call-box : (r : Answer) → not b ≡ true → r ≡ record { kind = Refused R.Box; next = call .position; place = 0; written = 0 }
       → Performs (outcome box state call datagram (length P)) P P state r
   unfolding outcome
   call-box r z er = no-bytes-performs _ (Refused R.Box) (call .position) P state r er (rw (← e, z))
 
   module _ (right : not b ≡ false) where
-    pub call-page : (r : Answer) → length P < 32768 → r ≡ record { kind = Refused R.Page; next = call .position; written = 0 }
+    pub call-page : (r : Answer) → length P < 32768 → r ≡ record { kind = Refused R.Page; next = call .position; place = 0; written = 0 }
         → Performs (outcome box state call datagram (length P)) P P state r
     unfolding outcome
     call-page r l er = no-bytes-performs _ (Refused R.Page) (call .position) P state r er (rw (← e, right, lt-ltb _ _ l))
 
     module _ (room : 32768 ≤ length P) where
-      pub call-long : (r : Answer) → 32768 < length datagram → r ≡ record { kind = Refused R.Datagram; next = call .position; written = 0 }
+      pub call-long : (r : Answer) → 32768 < length datagram → r ≡ record { kind = Refused R.Datagram; next = call .position; place = 0; written = 0 }
           → Performs (outcome box state call datagram (length P)) P P state r
       unfolding outcome
       call-long r l er = no-bytes-performs _ (Refused R.Datagram) (call .position) P state r er (rw (← e, right, le-ltb _ _ room, lt-ltb _ _ l))

@@ -1,12 +1,12 @@
--- Where a call goes on: it moves by at least a header, and not past the datagram's end.
-use Prim.Native.Nat.{ℕ, _+_, _≤_, min}
+-- Where a call goes on: behind its message, by at least a header and not past the datagram's end, at place 0; or at the same position, at the next place.
+use Prim.Native.Nat.{ℕ, _+_, _≤_, _<_, min}
 use mathlib.Core.Path.{_≡_, refl}
 use mathlib.Core.List.{List}
 use mathlib.Core.Bool.{Bool, true, false, cond, not, _||_}
 use lib.ListN.{length}
 use lib.Dec.{eqb, ltb}
 use native.Mathlib.Omega.{arith}
-use borrow.Author.Tests.{ltb-false}
+use borrow.Author.Tests.{ltb-true, ltb-false}
 use Rattle.basics.specs.Numbers.{u32At}
 use Rattle.basics.proofs.Truth.{clash}
 use Rattle.netlink_headers.specs.Lengths.{roundUp4}
@@ -21,11 +21,12 @@ use Rattle.bitset_form.specs.Bitset.{Reading}
 use Rattle.bitset_form.specs.Bitset.Reading.{refused, accepted}
 use Rattle.bitset.specs.Judge.{bitsetReading}
 use Rattle.layout.specs.Layout.{listOf}
-use Rattle.boxes.specs.Box.{Box, State}
+use Rattle.boxes.specs.Box.{Box, State, portsIn}
 use Rattle.boxes.specs.Rule.{boxRight}
 use Rattle.boxes.specs.declared.Call.{Call}
 use Rattle.request.specs.declared.target.Target.{Target}
-use Rattle.admission.specs.Admission.{admitted}
+use Rattle.admission.specs.Admission.{isDump, admitted}
+use Rattle.netlink_dump.specs.Dump.{doneMessage}
 use Rattle.admission.specs.declared.Admission.{Admission}
 use Rattle.admission.specs.declared.Admission.the-variants as A
 use Rattle.request.specs.Top.{topOf}
@@ -35,57 +36,75 @@ use Rattle.request.specs.declared.top.Top.{Top}
 use Rattle.request.specs.declared.top.Top.the-variants as T
 use Rattle.request.specs.declared.target.TargetRead.{TargetRead}
 use Rattle.request.specs.declared.target.TargetRead.the-variants as P
-use Rattle.response.specs.Answer.{Outcome, responseOf, unchanged}
+use Rattle.response.specs.Answer.{Response, Outcome, responseOf, unchanged}
 use Rattle.response.specs.declared.Kind.the-variants.{Done}
 use Rattle.execute.specs.declared.Request.{Request}
-use Rattle.execute.specs.Execute.{requestOf, getBytes, readingOutcome, setOutcome, portOutcome, targetOutcome, headerOutcome, topOutcome, requestOutcome}
+use Rattle.execute.specs.Execute.{requestOf, getBytes, portResponse, dumpResponse, readingOutcome, setOutcome, portOutcome, targetOutcome, headerOutcome, topOutcome, requestOutcome}
 use Rattle.handler.specs.Call.{onAdmission, messageOutcome, refusedInPlace, onMessage, positionOutcome, outcome, endsRun}
 
--- whatever a message comes to, the next position is the one after it
+-- where the calls go on after a message: behind it at place 0, or in a dump at its own position and the next place, which is at most the port count
+pub data Onward (ports position place next : ℕ) (r : Response) : Type 0 where
+  behind : r .next ≡ next → r .place ≡ 0 → Onward ports position place next r
+  again : r .next ≡ position → r .place ≡ place + 1 → place < ports → Onward ports position place next r
+
+-- whatever a message comes to
 module _ (box : Box) (state : State) (m : List ℕ) where
   module _ (request : Request) where
-    set-next : (bitset : Slot) (position : ℕ) → setOutcome box state m request bitset position .response .next ≡ request .next
-    unfolding setOutcome
-    set-next bitset position = by (bitsetReading (partOf m 0 (bitset .end)) (bitset .start) (listOf (box .names) (request .command .set)))
-      where
-        by : (x : Reading) → readingOutcome x box state m request position .response .next ≡ request .next
-        by (refused r) = refl
-        by (accepted b) = refl
+    abbrev GoesOn : Outcome State → Type 0
+    GoesOn o = Onward (portsIn box) (request .position) (request .place) (request .next) (o .response)
 
-    port-outcome-next : (bitset : Slot) (target : Target) → portOutcome box state m request bitset target .response .next ≡ request .next
+    set-onward : (bitset : Slot) (position : ℕ) → GoesOn (setOutcome box state m request bitset position)
+    unfolding setOutcome
+    set-onward bitset position = by (bitsetReading (partOf m 0 (bitset .end)) (bitset .start) (listOf (box .names) (request .command .set)))
+      where
+        by : (x : Reading) → GoesOn (readingOutcome x box state m request position)
+        by (refused r) = behind refl refl
+        by (accepted b) = behind refl refl
+
+    port-onward : (bitset : Slot) (target : Target) → GoesOn (portOutcome box state m request bitset target)
     unfolding portOutcome
-    port-outcome-next bitset target = by (request .command .change)
+    port-onward bitset target = by (request .command .change)
       where
         by : (t : Bool)
-            → cond t (setOutcome box state m request bitset (target .position)) (unchanged (responseOf Done (request .next) (getBytes box state m request target)) state) .response .next
-            ≡ request .next
-        by true = set-next bitset (target .position)
-        by false = refl
+            → GoesOn (cond t (setOutcome box state m request bitset (target .position)) (unchanged (responseOf Done (request .next) (getBytes box state m request target)) state))
+        by true = set-onward bitset (target .position)
+        by false = behind refl refl
 
-    header-next : (parts : TopParts) → headerOutcome box state m request parts .response .next ≡ request .next
+    dump-onward : (flags : ℕ) → GoesOn (unchanged (dumpResponse box state request flags) state)
+    unfolding dumpResponse portResponse
+    dump-onward flags = by (ltb (request .place) (portsIn box)) refl
+      where
+        by : (t : Bool) → ltb (request .place) (portsIn box) ≡ t
+            → GoesOn (unchanged (cond t (portResponse box state request flags) (responseOf Done (request .next) (doneMessage (request .header)))) state)
+        by true e = again refl refl (ltb-true _ _ e)
+        by false e = behind refl refl
+
+    header-onward : (parts : TopParts) → GoesOn (headerOutcome box state m request parts)
     unfolding headerOutcome
-    header-next parts = by (targetOf m (parts .header) (box .roll))
+    header-onward parts = by (targetOf m (parts .header) (isDump (request .header)) (box .roll))
       where
-        by : (x : TargetRead) → targetOutcome x state m request (portOutcome box state m request (parts .bitset)) .response .next ≡ request .next
-        by (P.Refused r) = refl
-        by (P.Port target) = port-outcome-next (parts .bitset) target
+        by : (x : TargetRead) → GoesOn (targetOutcome x box state m request (portOutcome box state m request (parts .bitset)))
+        by (P.Refused r) = behind refl refl
+        by (P.Unnamed flags) = dump-onward flags
+        by (P.Port target) = port-onward (parts .bitset) target
 
-    request-next : requestOutcome box state m request .response .next ≡ request .next
+    request-onward : GoesOn (requestOutcome box state m request)
     unfolding requestOutcome
-    request-next = by (topOf m (request .command .change))
+    request-onward = by (topOf m (request .command .change))
       where
-        by : (x : Top) → topOutcome x state m request (headerOutcome box state m request) .response .next ≡ request .next
-        by (T.Refused r) = refl
-        by (T.Nests parts) = header-next parts
+        by : (x : Top) → GoesOn (topOutcome x state m request (headerOutcome box state m request))
+        by (T.Refused r) = behind refl refl
+        by (T.Nests parts) = header-onward parts
 
-  message-next : (call : Call) (h : MessageHeader) (next : ℕ) → messageOutcome box state call m h next .response .next ≡ next
+  pub message-onward : (call : Call) (h : MessageHeader) (next : ℕ)
+      → Onward (portsIn box) (call .position) (call .place) next (messageOutcome box state call m h next .response)
   unfolding messageOutcome
-  message-next call h next = by (admitted m h (call .family) (eqb (call .admin) 1))
+  message-onward call h next = by (admitted m h (call .family) (eqb (call .admin) 1))
     where
-      by : (x : Admission) → onAdmission x box state m h next .response .next ≡ next
-      by A.Skipped = refl
-      by (A.Refused r) = refl
-      by (A.Admitted command) = request-next (requestOf h next command)
+      by : (x : Admission) → Onward (portsIn box) (call .position) (call .place) next (onAdmission x box state call m h next .response)
+      by A.Skipped = behind refl refl
+      by (A.Refused r) = behind refl refl
+      by (A.Admitted command) = request-onward (requestOf call h next command)
 
 module _ (box : Box) (state : State) (call : Call) (datagram : List ℕ) (room : ℕ) where
   abbrev position : ℕ
@@ -97,26 +116,25 @@ module _ (box : Box) (state : State) (call : Call) (datagram : List ℕ) (room :
   abbrev after : ℕ
   after = min (position + roundUp4 stated) (length datagram)
 
-  abbrev answer : Outcome State
-  answer = messageOutcome box state call (partOf datagram position (position + stated)) (messageHeader datagram position) after
+  -- the box is right, and the call goes on behind its message or at the next place
+  pub record Moved (r : Response) : Type 0 where
+    pub right : boxRight box state call ≡ true
+    pub onward : Onward (portsIn box) position (call .place) after r
+    pub further : position + 16 ≤ after
+    pub inside : after ≤ length datagram
 
-  abbrev Moved : Outcome State → Type 0
-  Moved o = endsRun (o .response .kind) ≡ false → (position + 16 ≤ o .response .next) × (o .response .next ≤ length datagram)
-
-  answer-moved : 16 ≤ stated → position + stated ≤ length datagram → Moved answer
-  answer-moved lo hi e =
-      let n = message-next box state (partOf datagram position (position + stated)) call (messageHeader datagram position) after in
-      (omega arith, omega arith)
+  abbrev Moves : Outcome State → Type 0
+  Moves o = endsRun (o .response .kind) ≡ false → Moved (o .response)
 
   -- the message at the position
-  position-moved : Moved (positionOutcome box state call datagram)
+  position-moves : boxRight box state call ≡ true → Moves (positionOutcome box state call datagram)
   unfolding positionOutcome messageAt
-  position-moved =
+  position-moves right =
       by (ltb (length datagram) position) (eqb position (length datagram)) (ltb (length datagram) (position + 16)) (ltb stated 16)
       (ltb (length datagram) (position + stated)) refl refl
     where
       by : (past end cut low high : Bool) → ltb stated 16 ≡ low → ltb (length datagram) (position + stated) ≡ high
-          → Moved
+          → Moves
           (onMessage
           (cond past Outside (cond end AtEnd (cond cut Cut (cond (low || high) Misstated (Message (messageHeader datagram position) (position + stated) after)))))
           call state (λ h end next. messageOutcome box state call (partOf datagram position end) h next))
@@ -126,18 +144,25 @@ module _ (box : Box) (state : State) (call : Call) (datagram : List ℕ) (room :
       by false false false true high el eh e = absurd (clash refl e)
       by false false false false true el eh e = absurd (clash refl e)
       by false false false false false el eh e =
-          answer-moved (ltb-false stated 16 el) (ltb-false (length datagram) (position + stated) eh) e
+          let lo = ltb-false stated 16 el in
+          let hi = ltb-false (length datagram) (position + stated) eh in
+          record {
+            right = right;
+            onward = message-onward box state (partOf datagram position (position + stated)) call (messageHeader datagram position) after;
+            further = omega arith;
+            inside = omega arith;
+          }
 
-  pub moves : Moved (outcome box state call datagram room)
+  pub moves : Moves (outcome box state call datagram room)
   unfolding outcome
-  moves = by (boxRight box state call) (ltb room 32768) (ltb 32768 (length datagram))
+  moves = by (boxRight box state call) refl (ltb room 32768) (ltb 32768 (length datagram))
     where
-      by : (right page long : Bool)
-          → Moved
+      by : (right : Bool) → boxRight box state call ≡ right → (page long : Bool)
+          → Moves
           (cond (not right) (refusedInPlace R.Box call state)
           (cond page (refusedInPlace R.Page call state)
           (cond long (refusedInPlace R.Datagram call state) (positionOutcome box state call datagram))))
-      by false page long e = absurd (clash refl e)
-      by true true long e = absurd (clash refl e)
-      by true false true e = absurd (clash refl e)
-      by true false false e = position-moved e
+      by false q page long e = absurd (clash refl e)
+      by true q true long e = absurd (clash refl e)
+      by true q false true e = absurd (clash refl e)
+      by true q false false e = position-moves q e

@@ -1,6 +1,6 @@
 -- Laws of the header level: one for each return.
 use Prim.Native.Nat.{ℕ, _-_, _≤_, _<_}
-use mathlib.Core.Path.{_≡_, sym, ap, ap₂, _∙_}
+use mathlib.Core.Path.{_≡_, sym, ap, _∙_}
 use mathlib.Core.List.{List}
 use mathlib.Core.Bool.{Bool, true, false, _||_, not, cond}
 use borrow.Author.Tests.{lt-ltb, le-ltb}
@@ -15,12 +15,12 @@ use Rattle.netlink.specs.declared.walk.Stop.the-variants as S
 use Rattle.netlink.specs.declared.walk.Walked.{Walked}
 use Rattle.refusal.specs.Refusal.{ofFault}
 use Rattle.refusal.specs.declared.Refusal.{Refusal}
-use Rattle.refusal.specs.declared.Refusal.the-variants.{NoPort, HeaderFlag}
+use Rattle.refusal.specs.declared.Refusal.the-variants.{Dump, NoPort, HeaderFlag}
 use Rattle.request.specs.Policies.{headerPolicy}
 use Rattle.refusal.specs.Refusal.{onStop}
 use Rattle.request.specs.Parts.{headerParts}
 use Rattle.request.specs.declared.parts.HeaderParts.{HeaderParts}
-use Rattle.request.specs.Header.{flagsJudged, partsOf, headerOf}
+use Rattle.request.specs.Header.{flagsJudged, partsOf, dumpPartsOf, judgedParts, headerOf}
 use Rattle.request.specs.declared.header.Header.{Header}
 use Rattle.request.specs.declared.header.Header.the-variants.{Parts, Refused}
 
@@ -48,24 +48,42 @@ module _ (m : List ℕ) (nest : ℕ) (parts : HeaderParts) (b : Bool) (eb : b �
 
 pub ruleset parts-laws = (parts-none, parts-some)
 
-module _ (m : List ℕ) (header : Slot) (p : List Rule) (ep : p ≡ headerPolicy) (c : List ℕ) (ec : c ≡ partOf m 0 (header .end))
+module _ (m : List ℕ) (parts : HeaderParts) (b : Bool) (eb : b ≡ (parts .index .present || parts .name .present)) where
+  by-dump : dumpPartsOf m parts ≡ cond b (Refused Dump) (flagsJudged m parts)
+  unfolding dumpPartsOf
+  by-dump = ap (λ (x : Bool). cond x (Refused Dump) (flagsJudged m parts)) (sym eb)
+
+  pub dump-names : b ≡ true → Refused Dump ≡ dumpPartsOf m parts
+  dump-names h = sym (by-dump ∙ cond-true b _ _ h)
+
+  pub dump-none : (r : Header) → b ≡ false → r ≡ flagsJudged m parts → r ≡ dumpPartsOf m parts
+  dump-none r h e = e ∙ sym (by-dump ∙ cond-false b _ _ h)
+
+pub ruleset dump-laws = (dump-names, dump-none)
+
+module _ (m : List ℕ) (header : Slot) (dump : Bool) (p : List Rule) (ep : p ≡ headerPolicy) (c : List ℕ) (ec : c ≡ partOf m 0 (header .end))
     (w : Walked) (ew : w ≡ walked p c (header .start)) where
   rest : Walked → Header
-  rest x = partsOf m (header .start - 4) (headerParts (x .slots))
+  rest x = judgedParts m (header .start - 4) dump (headerParts (x .slots))
 
-  by-walk : headerOf m header ≡ onStop (w .stop) Refused (rest w)
+  by-walk : headerOf m header dump ≡ onStop (w .stop) Refused (rest w)
   unfolding headerOf rest
   by-walk =
       sym (ap (λ (x : Walked). onStop (x .stop) Refused (rest x))
       (ew ∙ ap (λ (x : List Rule). walked x c (header .start)) ep ∙ ap (λ (x : List ℕ). walked headerPolicy x (header .start)) ec))
 
-  pub header-fault : (f : Fault) (at : ℕ) (y : Refusal) → w .stop ≡ S.At f at → y ≡ ofFault f at → Refused y ≡ headerOf m header
+  pub header-fault : (f : Fault) (at : ℕ) (y : Refusal) → w .stop ≡ S.At f at → y ≡ ofFault f at → Refused y ≡ headerOf m header dump
   header-fault f at y q ey = ap Refused ey ∙ sym (by-walk ∙ ap (λ (x : Stop). onStop x Refused (rest w)) q)
 
-  pub header-whole : (at : ℕ) (parts : HeaderParts) (r : Header) → w .stop ≡ S.Whole → at ≡ header .start - 4 → parts ≡ headerParts (w .slots)
-      → r ≡ partsOf m at parts → r ≡ headerOf m header
-  unfolding rest
-  header-whole at parts r q ea es e =
-      e ∙ ap₂ (partsOf m) ea es ∙ sym (by-walk ∙ ap (λ (x : Stop). onStop x Refused (rest w)) q)
+  module _ (parts : HeaderParts) (r : Header) (q : w .stop ≡ S.Whole) (es : parts ≡ headerParts (w .slots)) where
+    whole : headerOf m header dump ≡ judgedParts m (header .start - 4) dump parts
+    unfolding rest
+    whole = by-walk ∙ ap (λ (x : Stop). onStop x Refused (rest w)) q ∙ ap (judgedParts m (header .start - 4) dump) (sym es)
 
-pub ruleset header-laws = (header-fault, header-whole)
+    pub header-dump : dump ≡ true → r ≡ dumpPartsOf m parts → r ≡ headerOf m header dump
+    header-dump h e = e ∙ sym (whole ∙ cond-true dump _ _ h)
+
+    pub header-one : (at : ℕ) → dump ≡ false → at ≡ header .start - 4 → r ≡ partsOf m at parts → r ≡ headerOf m header dump
+    header-one at h ea e = e ∙ ap (λ (x : ℕ). partsOf m x parts) ea ∙ sym (whole ∙ cond-false dump _ _ h)
+
+pub ruleset header-laws = (header-fault, header-dump, header-one)

@@ -59,6 +59,7 @@ module _ (roll : List ℕ) where
 
   abbrev pub TargetIn : TargetRead → Type 0
   TargetIn (A.Refused why) = 0 ≤ length roll
+  TargetIn (A.Unnamed flags) = 0 ≤ length roll
   TargetIn (A.Port target) = target .position < portCount roll
 
   with-flags-in : (t : PortRead) (flags : ℕ) → PortReadIn t → TargetIn (withFlags t flags)
@@ -67,14 +68,17 @@ module _ (roll : List ℕ) where
   with-flags-in (T.Port k) flags p = p
 
   -- whatever a request names
-  pub target-counted : (m : List ℕ) (header : Slot) → TargetIn (targetOf m header roll)
+  pub target-counted : (m : List ℕ) (header : Slot) (dump : Bool) → TargetIn (targetOf m header dump roll)
   unfolding targetOf
-  target-counted m header = go (headerOf m header)
+  target-counted m header dump = go (headerOf m header dump)
     where
-      go : (h : Header) → TargetIn (onHeader h (λ parts flags. withFlags (portOf m header parts roll) flags))
+      go : (h : Header) → TargetIn (onHeader h (λ parts flags. cond dump (A.Unnamed flags) (withFlags (portOf m header parts roll) flags)))
       go (H.Refused why) = omega arith
-      go (H.Parts parts flags) = with-flags-in (portOf m header parts roll) flags (port-in m header parts)
+      go (H.Parts parts flags) =
+          keeps TargetIn dump (A.Unnamed flags) (withFlags (portOf m header parts roll) flags) (omega arith)
+          (with-flags-in (portOf m header parts roll) flags (port-in m header parts))
 
   -- the port that a request names
-  pub target-inside : (m : List ℕ) (header : Slot) (r : TargetRead) (target : Target) → r ≡ targetOf m header roll → r ≡ A.Port target → target .position < portCount roll
-  target-inside m header r target er q = rw (sym er ∙ q) at (target-counted m header)
+  pub target-inside : (m : List ℕ) (header : Slot) (dump : Bool) (r : TargetRead) (target : Target) → r ≡ targetOf m header dump roll → r ≡ A.Port target
+      → target .position < portCount roll
+  target-inside m header dump r target er q = rw (sym er ∙ q) at (target-counted m header dump)

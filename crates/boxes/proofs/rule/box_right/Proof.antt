@@ -2,6 +2,12 @@ use Rattle.boxes.proofs.rule.Laws.{box-laws, roll-few, sizes-few}
 use borrow.Author.Needs.{needs}
 use Rattle.boxes.proofs.rule.box_right.Statement.{statement}
 use Rattle.boxes.proofs.rule.box_right.Tie as tie
+use Rattle.boxes.proofs.rule.box_right.Reads as reads
+use Rattle.boxes.proofs.rule.box_right.Lts as lts
+use Rattle.boxes.proofs.lists.lists_right.Reads as lists-right-reads
+use Rattle.boxes.proofs.lists.sizes.Reads as sizes-reads
+use Rattle.boxes.proofs.settings.settings_right.Reads as settings-right-reads
+use Rattle.roll_rule.proofs.roll_right.Reads as roll-right-reads
 
 returns : tie.Need-returns
 returns c = search (needs, box-laws)
@@ -18,11 +24,14 @@ roll-right-requires c κs = search needs
 returns-4 : tie.Need-returns-4
 returns-4 c = search (needs, box-laws)
 
+returns-5 : tie.Need-returns-5
+returns-5 c = search (needs, box-laws)
+
 lists-right-requires : tie.Need-lists-right-requires
 lists-right-requires c κs = search needs
 
-returns-5 : tie.Need-returns-5
-returns-5 c = search (needs, box-laws)
+returns-6 : tie.Need-returns-6
+returns-6 c = search (needs, box-laws)
 
 sizes-requires : tie.Need-sizes-requires
 sizes-requires c κs = search needs
@@ -30,8 +39,8 @@ sizes-requires c κs = search needs
 settings-right-requires : tie.Need-settings-right-requires
 settings-right-requires c κs = search (needs, roll-few, sizes-few)
 
-returns-6 : tie.Need-returns-6
-returns-6 c = search (needs, box-laws)
+returns-7 : tie.Need-returns-7
+returns-7 c = search (needs, box-laws)
 
 pub box-right-spec : {M : Type 1} → statement M
 box-right-spec =
@@ -42,8 +51,9 @@ box-right-spec =
     returns-3
     roll-right-requires
     returns-4
-    lists-right-requires
     returns-5
+    lists-right-requires
+    returns-6
     sizes-requires
     settings-right-requires
-    returns-6)
+    returns-7)

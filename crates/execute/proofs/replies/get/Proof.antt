@@ -1,13 +1,18 @@
-use Rattle.execute.proofs.get_reply.Laws.{get-reply-responds}
+use Rattle.execute.proofs.replies.Laws.{get-responds}
 use borrow.Author.Needs.{needs}
-use Rattle.execute.proofs.get_reply.put_get_reply.Statement.{statement}
-use Rattle.execute.proofs.get_reply.put_get_reply.Tie as tie
+use Rattle.execute.proofs.replies.get.Statement.{statement}
+use Rattle.execute.proofs.replies.get.Tie as tie
+use Rattle.execute.proofs.replies.get.Reads as reads
+use Rattle.execute.proofs.replies.get.Lts as lts
+use Rattle.execute.proofs.replies.put_port_reply.Reads as put-port-reply-reads
+use Rattle.reply.proofs.message.heading_of.Reads as heading-of-reads
+use Rattle.response.proofs.put_ack_if_asked.Reads as put-ack-if-asked-reads
 
 heading-of-requires : tie.Need-heading-of-requires
 heading-of-requires c κs = search needs
 
-put-reply-requires : tie.Need-put-reply-requires
-put-reply-requires c κs = search needs
+put-port-reply-requires : tie.Need-put-port-reply-requires
+put-port-reply-requires c κs = search needs
 
 sub-put-ack-if-asked : tie.Need-sub-put-ack-if-asked
 sub-put-ack-if-asked c = search needs
@@ -28,14 +33,14 @@ same-length : tie.Need-same-length
 same-length c = search needs
 
 returns : tie.Need-returns
-returns c = search (needs, get-reply-responds)
+returns c = search (needs, get-responds)
 
-pub put-get-reply-spec : {M : Type 1} → statement M
-put-get-reply-spec =
+pub get-spec : {M : Type 1} → statement M
+get-spec =
     tie.close
     (tie.spec
     heading-of-requires
-    put-reply-requires
+    put-port-reply-requires
     sub-put-ack-if-asked
     part-put-ack-if-asked-start
     part-put-ack-if-asked-end
