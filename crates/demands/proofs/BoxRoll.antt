@@ -12,7 +12,7 @@ use mathlib.Core.Logic.{⊎-elim}
 use lib.ListN.{length, getD}
 use lib.Dec.{eqb}
 use native.Mathlib.Omega.{arith}
-use borrow.Author.Tests.{ne-eqb, eqb-true, eqb-false, le-leb, not-true}
+use borrow.Author.Tests.{eq-eqb, ne-eqb, eqb-true, eqb-false, le-leb, not-true}
 use Rattle.basics.specs.Numbers.{byteAt, u32At}
 use Rattle.basics.specs.Nuls.{nulThenNul}
 use Rattle.basics.specs.Scan.{all}
@@ -290,6 +290,16 @@ module _ (roll : List ℕ) (r : PortRoll roll) where
   means-roll : rollRight roll ≡ true
   unfolding rollRight portsDistinct
   means-roll = rw (listed, all-of (portRight roll) (portCount roll) right-at, all-of (isNew roll) (portCount roll) new-at)
+
+  -- an index is one port's
+  pub one-index : (j k : ℕ) → j < portCount roll → k < portCount roll → portAt roll j .index ≡ portAt roll k .index → j ≡ k
+  unfolding indexOf
+  one-index j k a b q =
+      let c = rules-counted in
+      ⊎-elim (λ (l : j < k). absurd (clash (eq-eqb _ _ q) (index-other j k l (omega arith))))
+      (λ (u : k ≤ j).
+      ⊎-elim (λ (l : k < j). absurd (clash (eq-eqb _ _ (sym q)) (index-other k j l (omega arith)))) (λ (v : j ≤ k). omega arith) (lt-or-ge k j))
+      (lt-or-ge j k)
 
 pub roll-exactly : (roll : List ℕ) → (rollRight roll ≡ true → PortRoll roll) × (PortRoll roll → rollRight roll ≡ true)
 roll-exactly roll = (roll-means roll, means-roll roll)

@@ -37,7 +37,7 @@ use Rattle.handler.specs.Call.{outcome, endsRun}
 use Rattle.response.specs.declared.Kind.{Kind}
 use Rattle.response.specs.declared.Kind.the-variants.{End, Skipped, Done, Refused}
 use Rattle.demands.specs.Answer.{refusalBytes}
-use Rattle.demands.specs.Message.{Dump}
+use Rattle.demands.specs.Message.{DumpAsked}
 use Rattle.demands.specs.Request.{asksDump}
 use Rattle.demands.specs.Call.{messageOf, nextOf, tellsPort, nextAfter, placeAfter}
 use Rattle.demands.specs.CallCase.MessageCase.{messageSkipped, messageRefused, getDone, dumpDone, setDone}
@@ -99,7 +99,7 @@ module _ (box : Box) (state : State) (call : Call) (datagram : List ℕ) (room :
   place-of e = ap (λ (x : Outcome State). x .response .place) e
 
   -- a dump is done
-  dumped : (d : Dump m) → o ≡ unchanged (dumpResponse box state (requestOf call (messageHeader datagram position) (nextOf datagram position) (d .command)) (d .flags)) state
+  dumped : (d : DumpAsked m) → o ≡ unchanged (dumpResponse box state (requestOf call (messageHeader datagram position) (nextOf datagram position) (d .command)) (d .flags)) state
       → Done ≡ o .response .kind
   dumped d e = sym (dump-kind box state _ (d .flags)) ∙ response e
 
@@ -199,7 +199,7 @@ module _ (box : Box) (state : State) (call : Call) (datagram : List ℕ) (room :
     quiet : {p : Outcome State} → o ≡ p → (k : Kind) → p .response .kind ≡ k → tellsPort box call datagram k ≡ false → no ≡ by-kind (o .response .kind)
     quiet e k q f = sym (ap by-kind (sym (response e) ∙ q) ∙ ap (λ (t : Bool). cond t yes no) f)
 
-    dumps : (d : Dump m) → isDump h ≡ true
+    dumps : (d : DumpAsked m) → isDump h ≡ true
         → (e : o ≡ unchanged (dumpResponse box state (requestOf call h (nextOf datagram position) (d .command)) (d .flags)) state)
         → cond (ltb (call .place) (portsIn box)) yes no ≡ by-kind (o .response .kind)
     dumps d q e = sym (ap by-kind (sym (dumped d e)) ∙ ap (λ (t : Bool). cond t yes no) (told true q))

@@ -56,7 +56,7 @@ use Rattle.demands.specs.Answer.{ackIfAsked, doneBytes, withMulti, Count
 use Rattle.demands.specs.Call.{messageOf, nextOf}
 use Rattle.demands.specs.CallCase.{CallCase}
 use Rattle.demands.specs.CallCase.CallCase.{ended, notRead, messageAnswered}
-use Rattle.demands.specs.Message.{Named, Dump, Carries}
+use Rattle.demands.specs.Message.{Named, DumpAsked, Carries}
 use Rattle.demands.specs.CallCase.MessageCase.{messageSkipped, messageRefused, getDone, dumpDone, setDone}
 use Rattle.demands.specs.Done.{DoneSet, contentAbout, replyAbout, replyTo, TellsSet, DoneGet, DonePort, DoneLast, DoneDump}
 use Rattle.demands.specs.Request.{isSet, asksDump}
@@ -221,7 +221,7 @@ module _ (box : Box) (state : State) (call : Call) (datagram : List ℕ) (room :
         (about-counted right (n .command) (n .target .flags) (n .target .position) inside (headingOf h 0 (n .command .reply)) (ackBytes m h) (ack .0) (ack .1))
 
   -- a dump
-  module _ (right : boxRight box state call ≡ true) (d : Dump m) (next : ℕ) where
+  module _ (right : boxRight box state call ≡ true) (d : DumpAsked m) (next : ℕ) where
     abbrev request : Request
     request = requestOf call h next (d .command)
 

@@ -57,7 +57,7 @@ use Rattle.response.specs.Answer.{Outcome, responseOf}
 use Rattle.response.specs.declared.Kind.{Kind}
 use Rattle.response.specs.declared.Kind.the-variants.{End, Done, Refused}
 use Rattle.handler.specs.Bytes.{Stored, storedOf}
-use Rattle.demands.specs.Example.{exampleRoll, exampleDebug, exampleFlags, exampleBox, exampleCall, firstSettings, secondSettings, thirdSettings, fourthSettings, debugSetAck, flagsReply, debugReply, debugGetAck, otherNameError, firstPort, secondPort, dumpDone, namedDumpError, exampleDatagram}
+use Rattle.demands.specs.Example.{exampleRoll, exampleDebug, exampleFlags, exampleBox, exampleCall, firstSettings, secondSettings, thirdSettings, fourthSettings, debugSetAck, flagsReply, debugReply, debugGetAck, otherNameError, firstPort, secondPort, flagsDumpDone, namedDumpError, exampleDatagram}
 
 -- a call of the example, with settings, at a position and a place
 abbrev handled : List ℕ → ℕ → ℕ → Outcome Stored
@@ -79,7 +79,7 @@ pub example-run : (handled firstSettings 0 0 ≡ answered Done 88 debugSetAck se
     × (handled thirdSettings 296 0 ≡ answered Done 364 [] fourthSettings)
     × (handled fourthSettings 364 0 ≡ told 1 firstPort)
     × (handled fourthSettings 364 1 ≡ told 2 secondPort)
-    × (handled fourthSettings 364 2 ≡ answered Done 396 dumpDone fourthSettings)
+    × (handled fourthSettings 364 2 ≡ answered Done 396 flagsDumpDone fourthSettings)
     × (handled fourthSettings 364 3 ≡ answered (Refused Box) 364 [] fourthSettings)
     × (handled fourthSettings 396 0 ≡ answered (Refused Dump) 428 namedDumpError fourthSettings)
     × (handled fourthSettings 428 0 ≡ answered End 428 [] fourthSettings)

@@ -39,4 +39,5 @@ pub mod BoxRefused
 pub mod BoxBeginnings
 pub mod BoxPlace
 pub mod BoxFault
+pub mod GetOne
 pub mod Dump

@@ -113,6 +113,7 @@ module _ (box : Box) (state : State) (call : Call) (m : List ℕ) (h : MessageHe
               flags = flags;
               read = given .read;
               flags-are = given .flags-are;
+              flags-few = given .flags-few;
               no-index = given .no-index;
               no-name = given .no-name;
             })

@@ -1,12 +1,13 @@
 -- The port that a request's header gives is the one that is found; that of a dump gives none.
 --     header-gives     the header's parts, its flags, and the record of the roll that has the index and the name that are given
 --     dump-gives       of a dump: the header's parts, its flags, and that neither index nor name stands
-use Prim.Native.Nat.{ℕ, _-_, _<_}
+use Prim.Native.Nat.{ℕ, _-_, _≤_, _<_}
 use mathlib.Core.Path.{_≡_, refl, sym, ap, _∙_}
 use mathlib.Core.List.{List}
 use mathlib.Core.Bool.{Bool, true, false, _&&_, _||_, not, cond}
 use lib.Dec.{ltb}
 use native.Mathlib.Omega.{arith}
+use borrow.Author.Tests.{ltb-false}
 use Rattle.basics.proofs.Truth.{clash}
 use Rattle.netlink_attributes.specs.Attributes.{partOf}
 use Rattle.netlink.specs.Walk.{walked, slotNumber}
@@ -65,27 +66,29 @@ module _ (m : List ℕ) (nest : Slot) (header : HeaderParts) (flags : ℕ) where
       go Whole e = by (read .index .present || read .name .present) (ltb 3 (slotNumber m (read .flags))) refl e
 
   -- and in a dump none is
-  dump-parts-are : headerOf m nest true ≡ H.Parts header flags
-      → (flags ≡ slotNumber m (header .flags)) × (header .index .present ≡ false) × (header .name .present ≡ false)
+  abbrev None : Type 0
+  None = (flags ≡ slotNumber m (header .flags)) × (flags ≤ 3) × (header .index .present ≡ false) × (header .name .present ≡ false)
+
+  dump-parts-are : headerOf m nest true ≡ H.Parts header flags → None
   unfolding headerOf dumpPartsOf flagsJudged
   dump-parts-are = go (walk .stop)
     where
-      by : (i n b : Bool) → read .index .present ≡ i → read .name .present ≡ n
+      by : (i n b : Bool) → read .index .present ≡ i → read .name .present ≡ n → ltb 3 (slotNumber m (read .flags)) ≡ b
           → cond (i || n) (H.Refused Dump)
           (cond b (H.Refused (HeaderFlag (read .flags .start - 4))) (H.Parts read (slotNumber m (read .flags)))) ≡ H.Parts header flags
-          → (flags ≡ slotNumber m (header .flags)) × (header .index .present ≡ false) × (header .name .present ≡ false)
-      by true n b p q e = absurd (let z : _≡_ {A = ℕ} 0 1 = cc in omega arith)
-      by false true b p q e = absurd (let z : _≡_ {A = ℕ} 0 1 = cc in omega arith)
-      by false false true p q e = absurd (let z : _≡_ {A = ℕ} 0 1 = cc in omega arith)
-      by false false false p q e =
+          → None
+      by true n b p q f e = absurd (let z : _≡_ {A = ℕ} 0 1 = cc in omega arith)
+      by false true b p q f e = absurd (let z : _≡_ {A = ℕ} 0 1 = cc in omega arith)
+      by false false true p q f e = absurd (let z : _≡_ {A = ℕ} 0 1 = cc in omega arith)
+      by false false false p q f e =
           let same : read ≡ header = cc in
           let number : slotNumber m (read .flags) ≡ flags = cc in
-          (sym number ∙ ap (λ (x : HeaderParts). slotNumber m (x .flags)) same, rw same at p, rw same at q)
+          let few = ltb-false 3 (slotNumber m (read .flags)) f in
+          (sym number ∙ ap (λ (x : HeaderParts). slotNumber m (x .flags)) same, omega arith, rw same at p, rw same at q)
 
-      go : (t : Stop) → onStop t H.Refused (dumpPartsOf m read) ≡ H.Parts header flags
-          → (flags ≡ slotNumber m (header .flags)) × (header .index .present ≡ false) × (header .name .present ≡ false)
+      go : (t : Stop) → onStop t H.Refused (dumpPartsOf m read) ≡ H.Parts header flags → None
       go (At fault at) e = absurd (let z : _≡_ {A = ℕ} 0 1 = cc in omega arith)
-      go Whole e = by (read .index .present) (read .name .present) (ltb 3 (slotNumber m (read .flags))) refl refl e
+      go Whole e = by (read .index .present) (read .name .present) (ltb 3 (slotNumber m (read .flags))) refl refl refl e
 
 -- the port level: the record that is found has the index and the name
 module _ (roll m : List ℕ) (nest : Slot) (header : HeaderParts) (position : ℕ) where
@@ -179,6 +182,7 @@ pub record DumpGives (m : List ℕ) (nest : Slot) (flags : ℕ) : Type 0 where
   pub header : HeaderParts
   pub read : headerOf m nest true ≡ H.Parts header flags
   pub flags-are : flags ≡ slotNumber m (header .flags)
+  pub flags-few : flags ≤ 3
   pub no-index : header .index .present ≡ false
   pub no-name : header .name .present ≡ false
 
@@ -193,7 +197,7 @@ module _ (roll m : List ℕ) (nest : Slot) where
           let same : asked ≡ flags = cc in
           let read = r ∙ ap (H.Parts header) same in
           let are = dump-parts-are m nest header flags read in
-          record { header = header; read = read; flags-are = are .0; no-index = are .1; no-name = are .2 }
+          record { header = header; read = read; flags-are = are .0; flags-few = are .1; no-index = are .2; no-name = are .3 }
 
   -- a dump names no port, and another request does
   pub dump-unnamed : (target : Target) → targetOf m nest true roll ≡ A.Port target → ⊥

@@ -20,7 +20,7 @@ use Rattle.boxes.specs.Rule.{boxRight}
 use Rattle.demands.specs.Check.{firstKind}
 use Rattle.demands.specs.Request.{messageChecks}
 use Rattle.demands.specs.Call.{messageOf, nextOf}
-use Rattle.demands.specs.Message.{Named, Dump, Carries}
+use Rattle.demands.specs.Message.{Named, DumpAsked, Carries}
 
 -- what a message comes to: nothing for a skipped one, an error message, a reply, a message of a dump, or a change of one set of one port
 pub data MessageCase (box : Box) (state : State) (call : Call) (m : List ℕ) (h : MessageHeader) (next : ℕ) (o : Outcome State) : Type 0 where
@@ -29,7 +29,7 @@ pub data MessageCase (box : Box) (state : State) (call : Call) (m : List ℕ) (h
   getDone : isDump h ≡ false → (n : Named (box .roll) m) → n .command .change ≡ false
       → o ≡ unchanged (responseOf Done next (getBytes box state m (requestOf call h next (n .command)) (n .target))) state
       → MessageCase box state call m h next o
-  dumpDone : isDump h ≡ true → (d : Dump m) → o ≡ unchanged (dumpResponse box state (requestOf call h next (d .command)) (d .flags)) state
+  dumpDone : isDump h ≡ true → (d : DumpAsked m) → o ≡ unchanged (dumpResponse box state (requestOf call h next (d .command)) (d .flags)) state
       → MessageCase box state call m h next o
   setDone : isDump h ≡ false → (n : Named (box .roll) m) → n .command .change ≡ true → (b : Bitset) → Carries box m n b
       → o ≡ record { response = responseOf Done next (ackBytes m h); state = withEffect box state (n .target .position) (n .command .set) b }

@@ -25,7 +25,7 @@ use Rattle.admission.specs.declared.commands.Command.{Command}
 use Rattle.reply.specs.Message.{headingOf, Content, replyBytes}
 use Rattle.response.specs.Answer.{Response, Outcome}
 use Rattle.demands.specs.Answer.{ackIfAsked, doneBytes, withMulti}
-use Rattle.demands.specs.Message.{Named, Dump, Carries}
+use Rattle.demands.specs.Message.{Named, DumpAsked, Carries}
 
 -- a done SET: the named set of the named port is what the bitset makes of it, every other set and every other word is as before, and the box
 -- stays right; an ACK is written if asked
@@ -82,7 +82,7 @@ pub record DoneGet (box : Box) (state : State) (m : List ℕ) (h : MessageHeader
 
 -- a dump at the place of a port: the reply about this port that a GET would write, but "with the MULTI flag (2)", is written, and no ACK; it tells the stored set of
 -- this port; "the next place and, until DONE, the same position"
-pub record DonePort (box : Box) (state : State) (call : Call) (m : List ℕ) (h : MessageHeader) (d : Dump m) (r : Response) : Type 0 where
+pub record DonePort (box : Box) (state : State) (call : Call) (m : List ℕ) (h : MessageHeader) (d : DumpAsked m) (r : Response) : Type 0 where
   pub bytes : r .bytes ≡ withMulti (replyAbout box state h (d .command) (d .flags) (call .place))
   pub tells : TellsSet (r .bytes) (listOf (box .names) (d .command .set)) (has (setOf box state (call .place) (d .command .set)))
   pub next : r .next ≡ call .position
@@ -96,7 +96,7 @@ pub record DoneLast (h : MessageHeader) (next : ℕ) (r : Response) : Type 0 whe
 
 -- a done call of a dump, after whose message the datagram goes on at a position: the settings stay, and it tells a port or the end
 pub record DoneDump (box : Box) (state : State) (call : Call) (m : List ℕ) (h : MessageHeader) (next : ℕ) (o : Outcome State) : Type 0 where
-  pub dump : Dump m
+  pub dump : DumpAsked m
   pub keeps : o .state ≡ state
   pub counted : call .place ≤ portsIn box
   pub port : call .place < portsIn box → DonePort box state call m h dump (o .response)

@@ -1,8 +1,10 @@
 -- Request C-11, "All ports at once": the calls of one dump, place by place, as `ethnl_handle` answers them.
 use Prim.Native.Nat.{ℕ, zero, suc, _≤_, _<_}
 use mathlib.Core.Path.{_≡_}
-use mathlib.Core.List.{List, _++_}
+use mathlib.Core.List.{List, _∷_, _++_}
 use mathlib.Core.Bool.{false}
+use Rattle.basics.specs.Numbers.{byteAt, le16, le32}
+use Rattle.roll.specs.Record.{portAt}
 use Rattle.netlink_headers.specs.Headers.{messageHeader}
 use Rattle.netlink_headers.specs.declared.headers.MessageHeader.{MessageHeader}
 use Rattle.boxes.specs.Box.{Box, portsIn}
@@ -12,7 +14,7 @@ use Rattle.response.specs.declared.Kind.the-variants.{Done}
 use Rattle.handler.specs.Bytes.{Stored, inWords, bytesOutcome}
 use Rattle.demands.specs.Answer.{ackIfAsked, withMulti}
 use Rattle.demands.specs.Call.{messageOf, nextOf}
-use Rattle.demands.specs.Message.{Dump}
+use Rattle.demands.specs.Message.{DumpAsked}
 use Rattle.demands.specs.Done.{DoneGet, DonePort, DoneLast}
 use Rattle.demands.specs.Stored.{asWords}
 use Rattle.demands.specs.Run.{after}
@@ -36,7 +38,7 @@ headerOfGet g = messageHeader (g .datagram) (g .call .position)
 
 -- it asks for one port what the dump m, whose header is h, asks for all: the same command with the same header flags, of the port at a place, under the same message
 -- type, sequence and port id
-pub record AsksOne {box : Box} {stored : Stored} (g : HandledGet box stored) (m : List ℕ) (h : MessageHeader) (d : Dump m) (place : ℕ) : Type 0 where
+pub record AsksOne {box : Box} {stored : Stored} (g : HandledGet box stored) (m : List ℕ) (h : MessageHeader) (d : DumpAsked m) (place : ℕ) : Type 0 where
   pub command : g .got .named .command ≡ d .command
   pub flags : g .got .named .target .flags ≡ d .flags
   pub port : g .got .named .target .position ≡ place
@@ -50,10 +52,25 @@ pub record RepliesAlike {box : Box} {stored : Stored} (g : HandledGet box stored
   pub get : bytesOutcome box stored (g .call) (g .datagram) (g .room) .response .bytes ≡ reply ++ ackIfAsked (messageOf (g .datagram) (g .call .position)) (headerOfGet g)
   pub dump : r .bytes ≡ withMulti reply
 
--- the calls of a dump at all its places, each with the settings that it finds: each is done and leaves the settings; the place of a port tells that port, as a GET of this
--- port over the same settings would; the port count tells DONE
+-- a GET of the port with an index, under the message type, sequence and port id of a header h: 40 bytes, REQUEST alone, a command, and a header nest with the index and header flags
+unfoldable pub getOne : MessageHeader → ℕ → ℕ → ℕ → List ℕ
+getOne h command index flags =
+    le32 40 ++ (le16 (h .kind) ++ (le16 1 ++ (le32 (h .sequence) ++ (le32 (h .port)
+    ++ (command ∷ 1 ∷ 0 ∷ 0 ∷ 20 ∷ 0 ∷ 1 ∷ 128 ∷ 8 ∷ 0 ∷ 1 ∷ 0 ∷ (le32 index ++ (8 ∷ 0 ∷ 3 ∷ 0 ∷ le32 flags)))))))
+
+-- the call of that GET as a datagram of its own, by the same sender
+abbrev pub callOne : Call → Call
+callOne call = record { family = call .family; admin = call .admin; position = 0; place = 0 }
+
+-- that GET, as `ethnl_handle` answers it, is done, and an answer of the dump has the bytes that it writes but for MULTI in the message flags
+pub record AsGetOne (box : Box) (stored : Stored) (call : Call) (get : List ℕ) (room : ℕ) (r : Response) : Type 0 where
+  pub done : bytesOutcome box stored (callOne call) get room .response .kind ≡ Done
+  pub bytes : r .bytes ≡ withMulti (bytesOutcome box stored (callOne call) get room .response .bytes)
+
+-- the calls of a dump at all its places, each with the settings that it finds: each is done and leaves the settings; the place of a port tells that port, as every GET of this
+-- port over the same settings does, and so the GET by its index that `getOne` makes; the port count tells DONE
 pub record WholeDump (box : Box) (call : Call) (datagram : List ℕ) (room : ℕ) (found : ℕ → Stored) : Type 0 where
-  pub dump : Dump (messageOf datagram (call .position))
+  pub dump : DumpAsked (messageOf datagram (call .position))
   pub done : (k : ℕ) → k ≤ portsIn box → bytesOutcome box (found k) (atPlace call k) datagram room .response .kind ≡ Done
   pub keeps : (k : ℕ) → k ≤ portsIn box → bytesOutcome box (found k) (atPlace call k) datagram room .state ≡ found k
   pub port : (k : ℕ) → k < portsIn box
@@ -64,6 +81,10 @@ pub record WholeDump (box : Box) (call : Call) (datagram : List ℕ) (room : ℕ
   pub as-get : (k : ℕ) → k < portsIn box → (g : HandledGet box (found k))
       → AsksOne g (messageOf datagram (call .position)) (messageHeader datagram (call .position)) dump k
       → RepliesAlike g (bytesOutcome box (found k) (atPlace call k) datagram room .response)
+  pub by-index : (k : ℕ) → k < portsIn box → messageHeader datagram (call .position) .sequence < 4294967296 → messageHeader datagram (call .position) .port < 4294967296
+      → AsGetOne box (found k) call
+      (getOne (messageHeader datagram (call .position)) (byteAt (messageOf datagram (call .position)) 16) (portAt (box .roll) k .index) (dump .flags)) room
+      (bytesOutcome box (found k) (atPlace call k) datagram room .response)
 
 -- where a run has come to: the state, and the call that comes next
 pub record Point (S : Type 0) : Type 0 where

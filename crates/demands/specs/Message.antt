@@ -1,5 +1,5 @@
 -- What a request names, and the bitset that it carries; what a dump asks for. Document 01, "What a call says back"; request C-11.
-use Prim.Native.Nat.{ℕ, _<_}
+use Prim.Native.Nat.{ℕ, _≤_, _<_}
 use mathlib.Core.Path.{_≡_}
 use mathlib.Core.List.{List}
 use mathlib.Core.Bool.{true, false, _||_}
@@ -47,7 +47,7 @@ pub record Named (roll m : List ℕ) : Type 0 where
   pub port : IsPort roll m header (target .position)
 
 -- what the dump m asks for: a listed GET, its header nest, the header's parts and flags; it names no port
-pub record Dump (m : List ℕ) : Type 0 where
+pub record DumpAsked (m : List ℕ) : Type 0 where
   pub command : Command
   pub listed : commandOf (byteAt m 16) ≡ Listed command
   pub is-get : command .change ≡ false
@@ -57,6 +57,7 @@ pub record Dump (m : List ℕ) : Type 0 where
   pub flags : ℕ
   pub read : headerOf m (parts .header) true ≡ H.Parts header flags
   pub flags-are : flags ≡ slotNumber m (header .flags)
+  pub flags-few : flags ≤ 3
   pub no-index : header .index .present ≡ false
   pub no-name : header .name .present ≡ false
 

@@ -10,11 +10,12 @@ use Rattle.response.specs.Answer.{Outcome, kindNumber}
 use Rattle.handler.specs.Bytes.{Stored, bytesOutcome}
 use Rattle.demands.specs.BoxRules.{StoredRules}
 use Rattle.demands.specs.Request.{asksDump}
-use Rattle.demands.specs.Dump.{atPlace, WholeDump}
+use Rattle.roll.specs.Record.{portAt}
+use Rattle.demands.specs.Dump.{atPlace, callOne, WholeDump}
 use Rattle.demands.proofs.BoxRules.{stored-exactly}
 use Rattle.demands.proofs.Dump.{whole-dump}
 use Rattle.exported.specs.Returned.{Lent, Left, Leaves, headerIn, Wrote}
-use Rattle.exported.specs.Dumped.{lentAt, PortLeft, Dumped}
+use Rattle.exported.specs.Dumped.{lentAt, lentOne, WroteAlike, PortLeft, Dumped}
 use Rattle.exported.proofs.Returned.{is-done, wrote}
 
 module _ (c : Lent) (settings : ℕ → Stored) (pages : ℕ → List ℕ) (left : ℕ → Left) (leaves : (k : ℕ) → Leaves (lentAt c settings pages k) (left k))
@@ -43,6 +44,22 @@ module _ (c : Lent) (settings : ℕ → Stored) (pages : ℕ → List ℕ) (left
   written : (k : ℕ) {bytes : List ℕ} → answer k .response .bytes ≡ bytes → Wrote (lent k) (left k) bytes
   written k e = wrote (lent k) (left k) (leaves k) _ (ap (λ (o : Outcome Stored). o .response .bytes) (same k) ∙ e)
 
+  -- the GET by index
+  by-index : (k : ℕ) → k < portsIn (c .box) → headerIn c .sequence < 4294967296 → headerIn c .port < 4294967296 → (page : List ℕ) (got : Left) → length page ≡ length (c .page)
+      → Leaves (lentOne c (whole .dump .flags) (portAt (c .box .roll) k .index) (settings k) page) got
+      → (got .kind ≡ 2) × WroteAlike (lentOne c (whole .dump .flags) (portAt (c .box .roll) k .index) (settings k) page) got (lent k) (left k)
+  by-index k l sequence port-id page got size leave =
+      let alike = whole .by-index k l sequence port-id in
+      let get = lentOne c (whole .dump .flags) (portAt (c .box .roll) k .index) (settings k) page in
+      let one : ℕ → Outcome Stored = bytesOutcome (c .box) (settings k) (callOne (c .call)) (get .datagram) in (
+        leave .kind ∙ ap (λ (n : ℕ). kindNumber (one n .response .kind)) size ∙ ap kindNumber (alike .done),
+        record {
+          reply = one (length (c .page)) .response .bytes;
+          get-wrote = wrote get got leave _ (ap (λ (n : ℕ). one n .response .bytes) size);
+          dump-wrote = written k (alike .bytes);
+        },
+      )
+
   pub dumped : Dumped c settings pages left
   dumped =
       let ports = portsIn (c .box) in
@@ -57,6 +74,7 @@ module _ (c : Lent) (settings : ℕ → Stored) (pages : ℕ → List ℕ) (left
               place = told k (λ o. o .response .place) (leaves k .place) (whole .port k l .place);
             };
         as-get = λ k l g asks. (answer k .response, written k refl, whole .as-get k l g asks);
+        by-index = by-index;
         last = written ports (whole .last .bytes);
         last-next = told ports (λ o. o .response .next) (leaves ports .next) (whole .last .next-is);
         last-place = told ports (λ o. o .response .place) (leaves ports .place) (whole .last .place);

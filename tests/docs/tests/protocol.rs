@@ -12,18 +12,22 @@ fn bytes(text: &str) -> Vec<u8> {
     text.split_whitespace().map(|pair| u8::from_str_radix(pair, 16).expect("a byte in hexadecimal")).collect()
 }
 
-/// The annotated dumps in order: of each line what stands before the first run of two blanks. Blocks of C are passed over.
-fn dumps(page: &str) -> Vec<Vec<u8>> {
+/// The annotated blocks of bytes in order: of each line what stands before the first run of two blanks. Blocks of C are passed over.
+fn blocks(page: &str) -> Vec<Vec<u8>> {
     let block = |text: &str| text.lines().flat_map(|line| bytes(line.split("  ").next().unwrap_or(""))).collect();
     page.split("```").skip(1).step_by(2).filter(|text| !text.starts_with("c\n")).map(block).collect()
 }
 
 #[test]
-fn dumps_are_requests_and_their_answers() {
-    let found = dumps(&page());
-    let [error, lacking, missing, two_bits, disagreeing, request, reply, two, answers] = &found[..] else {
-        panic!("{} dumps", found.len())
+fn blocks_are_requests_and_their_answers() {
+    let found = blocks(&page());
+    let [all, ports, named, barred, error, lacking, missing, two_bits, disagreeing, request, reply, two, answers] =
+        &found[..]
+    else {
+        panic!("{} blocks", found.len())
     };
+    assert_eq!(&reader::run(all), ports);
+    assert_eq!(&reader::run(named), barred);
     assert_eq!(&reader::run(lacking), missing);
     assert_eq!(&reader::run(two_bits), disagreeing);
     assert_eq!(&reader::run(request), reply);
