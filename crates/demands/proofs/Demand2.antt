@@ -50,7 +50,7 @@ use Rattle.handler.specs.Call.{outcome}
 use Rattle.reply.specs.Message.{headingOf, headersBytes, Content, replyBytes}
 use Rattle.reply.specs.declared.message.Heading.{Heading}
 use Rattle.execute.specs.declared.Request.{Request}
-use Rattle.execute.specs.Execute.{requestOf, contentIn, replyAndAck, getBytes, portResponse, dumpResponse}
+use Rattle.execute.specs.Execute.{requestOf, contentIn, portReply, getBytes, portResponse, dumpResponse}
 use Rattle.response.specs.declared.Kind.the-variants.{Done}
 use Rattle.demands.specs.Answer.{ackIfAsked, doneBytes, withMulti, Counted}
 use Rattle.demands.specs.Call.{messageOf, nextOf}
@@ -197,7 +197,7 @@ module _ (box : Box) (state : State) (call : Call) (datagram : List ℕ) (room :
     inside = n .port .inside
 
     got-bytes : (next : ℕ) → getBytes box state m (requestOf call h next (n .command)) (n .target) ≡ replyTo box state m h n ++ ackIfAsked m h
-    unfolding getBytes replyAndAck ackIfAsked ackBytes
+    unfolding getBytes portReply ackIfAsked ackBytes
     got-bytes next =
         ap (λ (c : Content). replyBytes (headingOf h 0 (n .command .reply)) c ++ ackBytes m h)
         (content-is right (n .command) (n .target .flags) (n .target .position) inside)
@@ -244,7 +244,7 @@ module _ (box : Box) (state : State) (call : Call) (datagram : List ℕ) (room :
 
     -- the bytes of the port's reply
     port-bytes : call .place < portsIn box → told .bytes ≡ replyBytes heading (contentAbout box state (d .command) (d .flags) (call .place))
-    unfolding portResponse
+    unfolding portResponse portReply
     port-bytes l = ap (λ (r : Response). r .bytes) (at-port l) ∙ ap (replyBytes heading) (content-is right (d .command) (d .flags) (call .place) l)
 
     done-port : call .place < portsIn box → DonePort box state call m h d told

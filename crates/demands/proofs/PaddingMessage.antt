@@ -40,7 +40,7 @@ use Rattle.request.specs.declared.top.Top.{Top}
 use Rattle.request.specs.declared.top.Top.the-variants as T
 use Rattle.response.specs.Answer.{ackBytes, errorResponse, unchanged}
 use Rattle.execute.specs.declared.Request.{Request}
-use Rattle.execute.specs.Execute.{requestOf, replyAndAck, getBytes, readingOutcome, setOutcome, portOutcome, targetOutcome, headerOutcome, topOutcome, requestOutcome}
+use Rattle.execute.specs.Execute.{requestOf, portReply, getBytes, readingOutcome, setOutcome, portOutcome, targetOutcome, headerOutcome, topOutcome, requestOutcome}
 use Rattle.handler.specs.Call.{onAdmission, messageOutcome}
 use Rattle.demands.specs.Padding.{MessagesAgree}
 use Rattle.demands.proofs.PaddingWalk.{SlotAgrees}
@@ -106,7 +106,7 @@ module _ (s t : List ℕ) (agree : MessagesAgree s t) where
         go (accepted b) = rw (ack-same (request .header))
 
     get-same : (target : Target) → getBytes box state t request target ≡ getBytes box state s request target
-    unfolding getBytes replyAndAck
+    unfolding getBytes portReply
     get-same target = rw (ack-same (request .header))
 
     header-same : (parts : TopParts) → topOf s (request .command .change) ≡ T.Nests parts

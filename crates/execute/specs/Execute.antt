@@ -44,7 +44,7 @@ withSet box state position set new = record { words = splice (placeIn box positi
 unfoldable pub withEffect : Box → State → ℕ → Set → Bitset → State
 withEffect box state position set b = withSet box state position set (wordsOf (widthIn box set) (effect b (has (setOf box state position set))))
 
--- what the reply to a GET is about: a set of the port that is named, compact with header flag 1
+-- what a reply is about: a set of a port, compact with header flag 1
 unfoldable pub contentIn : Box → State → Set → Target → Content
 contentIn box state set target =
     record {
@@ -56,14 +56,14 @@ contentIn box state set target =
       bits = sizeOf (sizesIn box) set;
     }
 
--- "A done GET writes the reply, then the ACK if asked"
-unfoldable pub replyAndAck : List ℕ → Request → Content → List ℕ
-replyAndAck m request content =
-    replyBytes (headingOf (request .header) 0 (request .command .reply)) content ++ ackBytes m (request .header)
+-- the reply to a request about a port, with message flags
+unfoldable pub portReply : Box → State → Request → ℕ → Target → List ℕ
+portReply box state request flags target =
+    replyBytes (headingOf (request .header) flags (request .command .reply)) (contentIn box state (request .command .set) target)
 
--- a done GET
+-- "A done GET writes the reply, then the ACK if asked": message flags 0
 unfoldable pub getBytes : Box → State → List ℕ → Request → Target → List ℕ
-getBytes box state m request target = replyAndAck m request (contentIn box state (request .command .set) target)
+getBytes box state m request target = portReply box state request 0 target ++ ackBytes m (request .header)
 
 -- a dump at the place of a port: the reply that a GET of this port writes, but "with the MULTI flag (2)", without an ACK; the next place and "the same position"
 unfoldable pub portResponse : Box → State → Request → ℕ → Response
@@ -72,9 +72,7 @@ portResponse box state request flags =
       kind = Done;
       next = request .position;
       place = request .place + 1;
-      bytes =
-          replyBytes (headingOf (request .header) multi (request .command .reply))
-          (contentIn box state (request .command .set) (record { position = request .place; flags = flags }));
+      bytes = portReply box state request multi (record { position = request .place; flags = flags });
     }
 
 -- "given a place (0 for the first port, the port count for DONE)": a dump whose header has these flags

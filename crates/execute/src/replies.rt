@@ -6,10 +6,9 @@ ghost use Rattle.page.specs.Page.{Wrote};
 ghost use Rattle.roll.specs.Record.{portCount};
 ghost use Rattle.roll.specs.Table.{Tabled};
 ghost use Rattle.boxes.specs.Box.{boxOf, stateOf, setOf};
-ghost use Rattle.reply.specs.Message.{replyBytes};
 ghost use Rattle.response.specs.Answer.{Responds, responseOf};
 ghost use Rattle.response.specs.declared.Kind.the-variants.{Done};
-ghost use Rattle.execute.specs.Execute.{contentIn, getBytes, portResponse, dumpResponse};
+ghost use Rattle.execute.specs.Execute.{portReply, getBytes, portResponse, dumpResponse};
 ghost use Rattle.execute.specs.Fit.{Fit};
 use crate::Request;
 use boxes::lists::sizes;
@@ -20,7 +19,6 @@ use layout::size_of;
 use layout::widths;
 use netlink_dump::MULTI;
 use netlink_dump::put_done;
-use reply::message::Heading;
 use reply::message::heading_of;
 use reply::message::put_reply;
 use request::target::Target;
@@ -52,7 +50,7 @@ fn stored_words<'s>(
     set_at(settings, ports.len(), width, position, set)
 }
 
-// The reply about a set of a port, under a heading.
+// The reply to a request about a port, with message flags.
 fn put_port_reply<'a>(
     page: &mut [u8],
     settings: &[u32],
@@ -60,16 +58,20 @@ fn put_port_reply<'a>(
     ports: &[u64],
     debug: &'a [u8],
     flags: &'a [u8],
-    heading: Heading,
-    set: Set,
+    request: Request,
+    message_flags: u16,
     target: Target,
 ) -> usize
     requires { ⌜ (32768 ≤ length (now page)) × (target .position < portCount (now roll)) ⌝ }
     requires { ⌜ Tabled (now roll) (now ports) ⌝ }
     requires { ⌜ Fit (boxOf (now roll) (now debug) (now flags)) (stateOf (now settings)) ⌝ }
-    ensures { λ r. ⌜ Wrote (replyBytes heading (contentIn (boxOf (now (roll .entry)) (now (debug .entry)) (now (flags .entry))) (stateOf (now (settings .entry))) set target)) (now (page .entry)) (now (page .exit)) r ⌝ }
+    ensures { λ r. ⌜ Wrote (portReply (boxOf (now (roll .entry)) (now (debug .entry)) (now (flags .entry))) (stateOf (now (settings .entry))) request «message_flags» target) (now (page .entry)) (now (page .exit)) r ⌝ }
     ensures { λ r. ⌜ r ≤ 26700 ⌝ }
 {
+    let h = request.header;
+    let command = request.command;
+    let set = command.set;
+    let heading = heading_of(h, message_flags, command.reply);
     let position = target.position;
     let index = index_of(roll, ports, position);
     let name = name_of(roll, ports, position);
@@ -106,9 +108,6 @@ pub fn get<'a>(
     ensures { λ r. ⌜ Responds (responseOf Done (request .next) (getBytes (boxOf (now (roll .entry)) (now (debug .entry)) (now (flags .entry))) (stateOf (now (settings .entry))) (now (m .entry)) request target)) (now (page .entry)) (now (page .exit)) r ⌝ }
 {
     let h = request.header;
-    let command = request.command;
-    let set = command.set;
-    let heading = heading_of(h, NO_FLAGS, command.reply);
     let reply = put_port_reply(
         page,
         settings,
@@ -116,8 +115,8 @@ pub fn get<'a>(
         ports,
         debug,
         flags,
-        heading,
-        set,
+        request,
+        NO_FLAGS,
         target,
     );
     let ack = put_ack_if_asked(&mut page[reply..], m, h);
@@ -146,10 +145,6 @@ fn dump_port<'a>(
     requires { ⌜ Fit (boxOf (now roll) (now debug) (now flags)) (stateOf (now settings)) ⌝ }
     ensures { λ r. ⌜ Responds (portResponse (boxOf (now (roll .entry)) (now (debug .entry)) (now (flags .entry))) (stateOf (now (settings .entry))) request asked) (now (page .entry)) (now (page .exit)) r ⌝ }
 {
-    let h = request.header;
-    let command = request.command;
-    let set = command.set;
-    let heading = heading_of(h, MULTI, command.reply);
     let target = Target {
         position: request.place,
         flags: asked,
@@ -161,8 +156,8 @@ fn dump_port<'a>(
         ports,
         debug,
         flags,
-        heading,
-        set,
+        request,
+        MULTI,
         target,
     );
     Answer {

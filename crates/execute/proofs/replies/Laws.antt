@@ -27,7 +27,7 @@ use Rattle.response.specs.declared.Answer.{Answer}
 use Rattle.response.specs.declared.Kind.the-variants.{Done}
 use Rattle.response.proofs.Laws.{wrote-responds}
 use Rattle.execute.specs.declared.Request.{Request}
-use Rattle.execute.specs.Execute.{contentIn, replyAndAck, getBytes, portResponse, dumpResponse}
+use Rattle.execute.specs.Execute.{contentIn, portReply, getBytes, portResponse, dumpResponse}
 use Rattle.execute.specs.Fit.{Fit}
 
 -- what a reply requires
@@ -53,35 +53,31 @@ module _ (box : Box) (state : State) (set : Set) (target : Target) where
   unfolding contentIn
   content-is index name names words sizes bits ei en el ew es eb = let size : bits ≡ sizeOf (sizesIn box) set = eb ∙ rw es in rw (ei, en, el, ew, size)
 
-  pub port-wrote : (heading : Heading) (content : Content) (P Q : List ℕ) (r : ℕ) → content ≡ contentIn box state set target → Wrote (replyBytes heading content) P Q r
-      → Wrote (replyBytes heading (contentIn box state set target)) P Q r
-  port-wrote heading content P Q r e w = rw (← e) w
+pub port-wrote : (box : Box) (state : State) (request : Request) (flags : ℕ) (target : Target) (heading : Heading) (content : Content) (P Q : List ℕ) (r : ℕ)
+    → heading ≡ headingOf (request .header) flags (request .command .reply) → content ≡ contentIn box state (request .command .set) target
+    → Wrote (replyBytes heading content) P Q r → Wrote (portReply box state request flags target) P Q r
+unfolding portReply
+port-wrote box state request flags target heading content P Q r eh ec w = rw (← eh, ← ec) w
 
 pub ruleset port-laws = (content-is, port-wrote)
 
 -- a GET
-pub get-responds : (box : Box) (state : State) (m : List ℕ) (request : Request) (target : Target) (heading : Heading) (P A B : List ℕ) (r a : ℕ)
-    → heading ≡ headingOf (request .header) 0 (request .command .reply) → 32768 ≤ length P → r ≤ 26700
-    → Wrote (replyBytes heading (contentIn box state (request .command .set) target)) P A r → Wrote (ackBytes m (request .header)) (take (length A - r) (drop r A)) B a
+pub get-responds : (box : Box) (state : State) (m : List ℕ) (request : Request) (target : Target) (P A B : List ℕ) (r a : ℕ) → 32768 ≤ length P → r ≤ 26700
+    → Wrote (portReply box state request 0 target) P A r → Wrote (ackBytes m (request .header)) (take (length A - r) (drop r A)) B a
     → Responds (responseOf Done (request .next) (getBytes box state m request target)) P (putMid r (length A - r) A B)
     (record { kind = Done; next = request .next; place = 0; written = r + a })
-unfolding getBytes replyAndAck
-get-responds box state m request target heading P A B r a eh room l wa wb =
-    let content = contentIn box state (request .command .set) target in
+unfolding getBytes
+get-responds box state m request target P A B r a room l wa wb =
     wrote-responds Done (request .next) _ P _ (r + a)
-    (rw (← eh) (wrote-then P A B (replyBytes heading content) (ackBytes m (request .header)) r a (omega arith) wa wb))
+    (wrote-then P A B (portReply box state request 0 target) (ackBytes m (request .header)) r a (omega arith) wa wb)
 
 -- a dump at the place of a port
-pub port-responds : (box : Box) (state : State) (request : Request) (flags : ℕ) (heading : Heading) (P Q : List ℕ) (r : ℕ)
-    → heading ≡ headingOf (request .header) 2 (request .command .reply)
-    → Wrote (replyBytes heading (contentIn box state (request .command .set) (record { position = request .place; flags = flags }))) P Q r
+pub port-responds : (box : Box) (state : State) (request : Request) (flags : ℕ) (P Q : List ℕ) (r : ℕ)
+    → Wrote (portReply box state request 2 (record { position = request .place; flags = flags })) P Q r
     → Responds (portResponse box state request flags) P Q (record { kind = Done; next = request .position; place = request .place + 1; written = r })
 unfolding portResponse
-port-responds box state request flags heading P Q r eh w =
-    rw (← eh) (record { result = ap (λ (n : ℕ). record { kind = Done; next = request .position; place = request .place + 1; written = n }) (w .count); page = w .page })
-
-pub place-small : (roll t : List ℕ) (k : ℕ) → Tabled roll t → k < portCount roll → k + 1 < 18446744073709551616
-place-small roll t k tab l = let few = tab .few in let count = tab .count in omega arith
+port-responds box state request flags P Q r w =
+    record { result = ap (λ (n : ℕ). record { kind = Done; next = request .position; place = request .place + 1; written = n }) (w .count); page = w .page }
 
 -- and at any place
 module _ (box : Box) (state : State) (request : Request) (flags : ℕ) (t : List ℕ) (tab : Tabled (box .roll) t) (P Q : List ℕ) where

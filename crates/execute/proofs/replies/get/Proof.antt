@@ -5,11 +5,7 @@ use Rattle.execute.proofs.replies.get.Tie as tie
 use Rattle.execute.proofs.replies.get.Reads as reads
 use Rattle.execute.proofs.replies.get.Lts as lts
 use Rattle.execute.proofs.replies.put_port_reply.Reads as put-port-reply-reads
-use Rattle.reply.proofs.message.heading_of.Reads as heading-of-reads
 use Rattle.response.proofs.put_ack_if_asked.Reads as put-ack-if-asked-reads
-
-heading-of-requires : tie.Need-heading-of-requires
-heading-of-requires c κs = search needs
 
 put-port-reply-requires : tie.Need-put-port-reply-requires
 put-port-reply-requires c κs = search needs
@@ -39,7 +35,6 @@ pub get-spec : {M : Type 1} → statement M
 get-spec =
     tie.close
     (tie.spec
-    heading-of-requires
     put-port-reply-requires
     sub-put-ack-if-asked
     part-put-ack-if-asked-start

@@ -9,9 +9,13 @@ use Rattle.boxes.proofs.lists.sizes.Reads as sizes-reads
 use Rattle.execute.proofs.replies.stored_words.Reads as stored-words-reads
 use Rattle.layout.proofs.names_of.Reads as names-of-reads
 use Rattle.layout.proofs.size_of.Reads as size-of-reads
+use Rattle.reply.proofs.message.heading_of.Reads as heading-of-reads
 use Rattle.reply.proofs.message.put_reply.Reads as put-reply-reads
 use Rattle.roll.proofs.index_of.Reads as index-of-reads
 use Rattle.roll.proofs.name_of.Reads as name-of-reads
+
+heading-of-requires : tie.Need-heading-of-requires
+heading-of-requires c κs = search needs
 
 index-of-requires : tie.Need-index-of-requires
 index-of-requires c κs = search needs
@@ -33,7 +37,7 @@ names-of-requires c κs = search needs
 
 put-reply-requires : tie.Need-put-reply-requires
 put-reply-requires c κs =
-    let given = c .before .before .before .before .before .before .before .before .before .before .before .before .before .before .pre in
+    let given = c .before .before .before .before .before .before .before .before .before .before .before .before .before .before .before .before .before .pre in
     (search (needs, reply-name), search (needs, reply-words), search (needs, reply-few), omega (arith, given .0 .0))
 
 same-length : tie.Need-same-length
@@ -46,6 +50,7 @@ pub put-port-reply-spec : {M : Type 1} → statement M
 put-port-reply-spec =
     tie.close
     (tie.spec
+    heading-of-requires
     index-of-requires
     name-of-requires
     stored-words-requires
