@@ -102,6 +102,12 @@ impl Call {
         call
     }
 
+    /// Has this call made over the other's box and page, and the other over this one's.
+    pub fn swap_buffers(&mut self, other: &mut Self) {
+        std::mem::swap(&mut self.lent, &mut other.lent);
+        std::mem::swap(&mut self.page, &mut other.page);
+    }
+
     /// Bytes of the datagram or contents.
     pub fn input_bytes(&self) -> usize {
         match &self.input {

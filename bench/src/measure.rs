@@ -14,16 +14,6 @@ pub struct Times {
     pub reader: f64,
     /// The median of the runs' ratios.
     pub ratio: f64,
-    /// Library and reader in each run.
-    runs: Vec<(f64, f64)>,
-}
-
-impl Times {
-    /// How many times as long as another call of the same runs, by the library and by the reader.
-    pub fn against(&self, other: &Times) -> (f64, f64) {
-        let pairs = || self.runs.iter().zip(&other.runs);
-        (median(pairs().map(|(own, others)| own.0 / others.0)), median(pairs().map(|(own, others)| own.1 / others.1)))
-    }
 }
 
 fn time(call: &mut Call, made: Made, times: u32) -> Duration {
@@ -68,11 +58,23 @@ pub fn measure(calls: &mut [Call], runs: usize) -> Vec<Times> {
     measured.into_iter().map(times).collect()
 }
 
+/// How many times as long as another call one takes, by the same implementation: the median of the ratios of so many
+/// runs' slices. Both are made over the same buffers, since where these lie moves a call's time by a few hundredths.
+pub fn against(call: &mut Call, other: &mut Call, made: Made, runs: usize) -> f64 {
+    let turn = |_| {
+        let others = time(other, made, 1).as_secs_f64();
+        call.swap_buffers(other);
+        let own = time(call, made, 1).as_secs_f64();
+        call.swap_buffers(other);
+        own / others
+    };
+    median((0..runs * SLICES).map(turn))
+}
+
 fn times(runs: Vec<(f64, f64)>) -> Times {
     Times {
         library: median(runs.iter().map(|run| run.0)),
         reader: median(runs.iter().map(|run| run.1)),
         ratio: median(runs.iter().map(|run| run.0 / run.1)),
-        runs,
     }
 }

@@ -1,7 +1,7 @@
 //! The figures as tables in markdown.
 
-use crate::call::Call;
-use crate::measure::{measure, Times};
+use crate::call::{Call, Made};
+use crate::measure::{against, measure, Times};
 
 fn row(call: &Call, times: &Times) -> String {
     let ports = call.lent.roll.len() / 21;
@@ -53,11 +53,12 @@ pub fn distinct(calls: &mut [Call], runs: usize) {
 /// What a whole dump costs against a GET for each port; the calls come in pairs.
 pub fn dumps(calls: &mut [Call], runs: usize) {
     println!("All ports, one by one and at once, nanoseconds for all calls together:\n");
-    let times = table(calls, runs);
-    for (pair, calls) in times.chunks(2).zip(calls.chunks(2)) {
-        if let ([gets, dump], [_, call]) = (pair, calls) {
-            let (library, reader) = dump.against(gets);
-            println!("A {} against the GETs: library {library:.3} times, reader {reader:.3}.", call.name);
+    table(calls, runs);
+    for pair in calls.chunks_mut(2) {
+        if let [gets, dump] = pair {
+            let mut times = |made| against(dump, gets, made, runs);
+            let (library, reader) = (times(Made::Library), times(Made::Reader));
+            println!("A {} against the GETs: library {library:.4} times, reader {reader:.4}.", dump.name);
         }
     }
     println!();
