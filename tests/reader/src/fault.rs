@@ -1,4 +1,5 @@
-//! Refusals 5 to 22 (document 01, "What a call says back") and 23 (request C-12): number, errno, detail.
+//! Refusals 5 to 22 (document 01, "What a call says back"), 23 (request C-12), 24 and 25 (request C-13): number, errno,
+//! detail.
 
 /// What an error message says beside its errno.
 #[derive(Clone, Copy, Debug, PartialEq, Eq)]
@@ -38,9 +39,10 @@ impl Fault {
     pub const fn errno(self) -> i32 {
         match self.number {
             5 => 2,
-            7 | 8 | 15 | 20 | 21 => 95,
+            7 | 8 | 15 | 20 | 21 | 24 => 95,
             9 => 1,
             16 | 17 => 19,
+            25 => 90,
             _ => 22,
         }
     }

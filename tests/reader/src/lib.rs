@@ -23,6 +23,8 @@ mod program;
 mod reply;
 mod roll;
 mod slots;
+pub mod strset;
+mod strset_reply;
 mod switch_box;
 mod text;
 pub mod wire;

@@ -38,6 +38,15 @@ pub fn judge_dump(message: &[u8], header: Attribute) -> Result<bool, Fault> {
     judge_flags(message, flags)
 }
 
+/// Walks the header of a request that need not name a port whole, then judges 15 and, where a port is named, 16 and 17;
+/// gives that port's position (request C-13).
+pub fn judge_optional(message: &[u8], header: Attribute, roll: &Roll) -> Result<Option<usize>, Fault> {
+    let [index, name, flags] = attribute::walk(message, header.span(), &POLICY)?;
+    judge_flags(message, flags)?;
+    let names_a_port = index.is_some() || name.is_some();
+    names_a_port.then(|| find_port(message, header, index, name, roll)).transpose()
+}
+
 /// Number 15: a flag other than the two known ones. Tells whether a compact reply is asked for.
 fn judge_flags(message: &[u8], flags: Option<Attribute>) -> Result<bool, Fault> {
     let Some(attribute) = flags else {

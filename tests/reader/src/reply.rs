@@ -25,7 +25,7 @@ const BIT: u16 = 1;
 const BIT_INDEX: u16 = 1;
 const BIT_NAME: u16 = 2;
 
-/// Error message of a refusal 5 to 23.
+/// Error message of a refusal 5 to 25.
 pub fn error(page: &mut Page, request: &[u8], header: &MessageHeader, fault: Fault) {
     let flags = match fault.detail {
         Detail::None => CAPPED,
@@ -91,7 +91,7 @@ pub fn reply(page: &mut Page, header: &MessageHeader, flags: u16, stored: &Store
 }
 
 /// The header nest: index and name.
-fn port(page: &mut Page, port: &Port) {
+pub fn port(page: &mut Page, port: &Port) {
     let nest = page.open_nest(HEADER);
     page.attribute_u32(PORT_INDEX, port.index);
     let mut block = [0; 16];

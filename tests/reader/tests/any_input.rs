@@ -72,6 +72,34 @@ fn any_bytes_in_the_header_of_a_dump() {
 }
 
 #[test]
+fn any_bytes_in_a_request_for_name_lists() {
+    let state = &mut 8;
+    for _ in 0..50_000 {
+        let mut inside = some_bytes(state, 40);
+        inside.iter_mut().for_each(|byte| *byte %= [12, 255][next(state) % 2]);
+        let lists = [strset::list(&[attribute(0x8001, &inside)]), attribute(0x8002, &inside), inside];
+        let header = [strset::no_port(), by_index(3)][next(state) % 2].clone();
+        let request = strset::request(&[header, lists[next(state) % 3].clone()]);
+        let (refusal, written) = strset::answered(&mut strset::lists(), &request);
+        assert!(matches!(refusal, 0 | 10..=13 | 15..=17 | 24));
+        assert!(written.len() >= 36 && written.len().is_multiple_of(4));
+    }
+}
+
+#[test]
+fn any_message_and_page_for_name_lists() {
+    let state = &mut 9;
+    for _ in 0..5_000 {
+        let mut setup = strset::lists();
+        if next(state).is_multiple_of(4) {
+            setup.page = some_bytes(state, 300);
+        }
+        let (refusal, written) = strset::answered(&mut setup, &some_bytes(state, 60));
+        assert!(refusal >= 5 || written.is_empty());
+    }
+}
+
+#[test]
 fn whole_bitmaps_as_long_as_a_datagram() {
     let room = 32_768 - 20 - 12 - 4 - 4 - 8 - 4;
     let parts = [attribute(NOMASK, &[]), number(SIZE, 8 * room as u32), attribute(VALUE, &vec![0; room])];

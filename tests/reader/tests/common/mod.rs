@@ -2,6 +2,7 @@
 #![allow(dead_code)]
 
 pub mod dumps;
+pub mod strset;
 
 use reader::Answer;
 
