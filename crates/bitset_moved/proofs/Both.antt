@@ -21,7 +21,7 @@ use Rattle.netlink_attributes.proofs.Laws.{part-in}
 use Rattle.refusal.specs.Refusal.{numberOf}
 use Rattle.refusal.specs.declared.Refusal.{Refusal}
 use Rattle.refusal.proofs.Table.{number-above}
-use Rattle.refusal.specs.declared.Refusal.the-variants.{Box, Page, Datagram, Length, Family, Short, Command, Dump, Permission, Broken, Unlisted, Payload, MissingTop, MissingIn, NoPort, HeaderFlag, UnknownPort, OtherName, Mixed, ShortBitmap, PastLength, UnknownBit, NoBit, TwoBits}
+use Rattle.refusal.specs.declared.Refusal.the-variants.{Box, Page, Datagram, Length, Family, Short, Command, Dump, Permission, Broken, Unlisted, Payload, MissingTop, MissingIn, NoPort, HeaderFlag, UnknownPort, OtherName, Mixed, ShortBitmap, PastLength, UnknownBit, NoBit, TwoBits, NotOffered, LongReply}
 use Rattle.bitset_form.specs.Bitset.{Bitset, Reading}
 use Rattle.bitset_form.specs.Bitset.Reading.{refused, accepted}
 use Rattle.bitset.specs.Judge.{bitsetReading}
@@ -57,6 +57,8 @@ number-kept by (PastLength at) = refl
 number-kept by (UnknownBit at) = refl
 number-kept by (NoBit at) = refl
 number-kept by (TwoBits at) = refl
+number-kept by (NotOffered at) = refl
+number-kept by LongReply = refl
 
 -- so the normaliser's answer is the same wherever the contents stand
 answer-kept : (by n : ℕ) (x : Reading) → readingAnswer (movedReading by x) n ≡ readingAnswer x n

@@ -2,7 +2,7 @@
 -- What a reading tells, with its places counted from further ahead.
 use Prim.Native.Nat.{ℕ, _+_, _-_}
 use Rattle.refusal.specs.declared.Refusal.{Refusal}
-use Rattle.refusal.specs.declared.Refusal.the-variants.{Box, Page, Datagram, Length, Family, Short, Command, Dump, Permission, Broken, Unlisted, Payload, MissingTop, MissingIn, NoPort, HeaderFlag, UnknownPort, OtherName, Mixed, ShortBitmap, PastLength, UnknownBit, NoBit, TwoBits}
+use Rattle.refusal.specs.declared.Refusal.the-variants.{Box, Page, Datagram, Length, Family, Short, Command, Dump, Permission, Broken, Unlisted, Payload, MissingTop, MissingIn, NoPort, HeaderFlag, UnknownPort, OtherName, Mixed, ShortBitmap, PastLength, UnknownBit, NoBit, TwoBits, NotOffered, LongReply}
 use Rattle.bitset_form.specs.Bitset.{Reading}
 use Rattle.bitset_form.specs.Bitset.Reading.{refused, accepted}
 
@@ -33,6 +33,8 @@ moved by (PastLength at) = PastLength (by + at)
 moved by (UnknownBit at) = UnknownBit (by + at)
 moved by (NoBit at) = NoBit (by + at)
 moved by (TwoBits at) = TwoBits (by + at)
+moved by (NotOffered at) = NotOffered (by + at)
+moved by LongReply = LongReply
 
 -- what is accepted has no places: it stays
 abbrev pub movedReading : ℕ → Reading → Reading

@@ -36,6 +36,8 @@ refusals-are at kind =
       twenty-one = (refl, refl, refl);
       twenty-two = (refl, refl, refl);
       twenty-three = (refl, refl, refl);
+      twenty-four = (refl, refl, refl);
+      twenty-five = (refl, refl, refl);
     }
 
 pub commands-are : CommandTable

@@ -1,4 +1,4 @@
--- The tables of document 01 and of request C-11 said a second time, number by number: refusals, commands, kinds.
+-- The tables of document 01 and of requests C-11 to C-13 said a second time, number by number: refusals, commands, kinds.
 use Prim.Native.Nat.{ℕ}
 use mathlib.Core.Path.{_≡_}
 use mathlib.Core.Bool.{Bool, true, false}
@@ -6,7 +6,7 @@ use Rattle.netlink_error.specs.declared.Detail.{Detail}
 use Rattle.netlink_error.specs.declared.Detail.the-variants.{Nothing, Offset, MissTop, MissIn}
 use Rattle.refusal.specs.Refusal.{numberOf, errnoOf, detailOf}
 use Rattle.refusal.specs.declared.Refusal.{Refusal}
-use Rattle.refusal.specs.declared.Refusal.the-variants.{Box, Page, Datagram, Length, Family, Short, Command, Dump, Permission, Broken, Unlisted, Payload, MissingTop, MissingIn, NoPort, HeaderFlag, UnknownPort, OtherName, Mixed, ShortBitmap, PastLength, UnknownBit, NoBit, TwoBits}
+use Rattle.refusal.specs.declared.Refusal.the-variants.{Box, Page, Datagram, Length, Family, Short, Command, Dump, Permission, Broken, Unlisted, Payload, MissingTop, MissingIn, NoPort, HeaderFlag, UnknownPort, OtherName, Mixed, ShortBitmap, PastLength, UnknownBit, NoBit, TwoBits, NotOffered, LongReply}
 use Rattle.layout.specs.declared.Set.{Set}
 use Rattle.layout.specs.declared.Set.the-variants.{Debug, Flags}
 use Rattle.admission.specs.Commands.{commandOf}
@@ -44,6 +44,8 @@ pub record RefusalTable (at kind : ℕ) : Type 0 where
   pub twenty-one : RowIs (UnknownBit at) 21 95 (Offset at)
   pub twenty-two : RowIs (NoBit at) 22 22 (Offset at)
   pub twenty-three : RowIs (TwoBits at) 23 22 (Offset at)
+  pub twenty-four : RowIs (NotOffered at) 24 95 (Offset at)
+  pub twenty-five : RowIs LongReply 25 90 Nothing
 
 -- a listed command: whether it is a SET, its set, the command of its reply, and whether it may be dumped
 abbrev pub CommandIs : ℕ → Bool → Set → ℕ → Bool → Type 0

@@ -4,7 +4,7 @@ use mathlib.Core.Path.{_≡_, sym, ap, _∙_}
 use native.Mathlib.Omega.{arith}
 use Rattle.refusal.specs.Refusal.{rowOf, numberOf}
 use Rattle.refusal.specs.declared.Refusal.{Refusal}
-use Rattle.refusal.specs.declared.Refusal.the-variants.{Box, Page, Datagram, Length, Family, Short, Command, Dump, Permission, Broken, Unlisted, Payload, MissingTop, MissingIn, NoPort, HeaderFlag, UnknownPort, OtherName, Mixed, ShortBitmap, PastLength, UnknownBit, NoBit, TwoBits}
+use Rattle.refusal.specs.declared.Refusal.the-variants.{Box, Page, Datagram, Length, Family, Short, Command, Dump, Permission, Broken, Unlisted, Payload, MissingTop, MissingIn, NoPort, HeaderFlag, UnknownPort, OtherName, Mixed, ShortBitmap, PastLength, UnknownBit, NoBit, TwoBits, NotOffered, LongReply}
 use Rattle.refusal.specs.declared.Row.{Row}
 
 pub row-of : (r s : Refusal) (x : Row) → r ≡ s → x ≡ rowOf s → x ≡ rowOf r
@@ -35,3 +35,5 @@ number-above (PastLength at) = omega arith
 number-above (UnknownBit at) = omega arith
 number-above (NoBit at) = omega arith
 number-above (TwoBits at) = omega arith
+number-above (NotOffered at) = omega arith
+number-above LongReply = omega arith

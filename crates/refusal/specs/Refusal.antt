@@ -11,7 +11,7 @@ use Rattle.netlink_error.specs.declared.Detail.{Detail}
 use Rattle.netlink_error.specs.declared.Detail.the-variants.{Nothing, Offset, MissTop, MissIn}
 use Rattle.refusal.specs.declared.Refusal.{Refusal}
 use Rattle.refusal.specs.declared.Row.{Row}
-use Rattle.refusal.specs.declared.Refusal.the-variants.{Box, Page, Datagram, Length, Family, Short, Command, Dump, Permission, Broken, Unlisted, Payload, MissingTop, MissingIn, NoPort, HeaderFlag, UnknownPort, OtherName, Mixed, ShortBitmap, PastLength, UnknownBit, NoBit, TwoBits}
+use Rattle.refusal.specs.declared.Refusal.the-variants.{Box, Page, Datagram, Length, Family, Short, Command, Dump, Permission, Broken, Unlisted, Payload, MissingTop, MissingIn, NoPort, HeaderFlag, UnknownPort, OtherName, Mixed, ShortBitmap, PastLength, UnknownBit, NoBit, TwoBits, NotOffered, LongReply}
 
 -- a row of the table
 abbrev row : ℕ → ℕ → Detail → Row
@@ -44,6 +44,8 @@ rowOf (PastLength at) = row 20 95 (Offset at)
 rowOf (UnknownBit at) = row 21 95 (Offset at)
 rowOf (NoBit at) = row 22 22 (Offset at)
 rowOf (TwoBits at) = row 23 22 (Offset at)
+rowOf (NotOffered at) = row 24 95 (Offset at)
+rowOf LongReply = row 25 90 Nothing
 
 -- the number
 abbrev pub numberOf : Refusal → ℕ

@@ -54,6 +54,10 @@ pub enum Refusal {
     NoBit(usize),
     // 23: a BIT whose index and name mean two bits.
     TwoBits(usize),
+    // 24: the id of a name list that is not offered, or that of the private flags without a port.
+    NotOffered(usize),
+    // 25: a reply that is too long, with its ACK.
+    LongReply,
 }
 
 // A row of the table: the number, the errno of the error message (0 where none is written), and what the message says beside it.
@@ -103,6 +107,8 @@ impl Refusal {
             Refusal::UnknownBit(at) => as_row(21, 95, Detail::Offset(at)),
             Refusal::NoBit(at) => as_row(22, 22, Detail::Offset(at)),
             Refusal::TwoBits(at) => as_row(23, 22, Detail::Offset(at)),
+            Refusal::NotOffered(at) => as_row(24, 95, Detail::Offset(at)),
+            Refusal::LongReply => as_row(25, 90, Detail::Nothing),
         }
     }
 

@@ -4,3 +4,4 @@ pub mod Top
 pub mod Header
 pub mod Port
 pub mod Target
+pub mod Optional

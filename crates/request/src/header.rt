@@ -24,7 +24,7 @@ pub enum Header {
 }
 
 // Whether a port is given, by index or by name.
-fn gives_port(parts: HeaderParts) -> bool
+pub fn gives_port(parts: HeaderParts) -> bool
     ensures { λ r. ⌜ r ≡ (parts .index .present || parts .name .present) ⌝ }
 {
     if parts.index.present {
@@ -34,7 +34,7 @@ fn gives_port(parts: HeaderParts) -> bool
 }
 
 // Judges the flags.
-fn judge_flags(message: &[u8], parts: HeaderParts) -> Header
+pub fn judge_flags(message: &[u8], parts: HeaderParts) -> Header
     ensures { λ r. ⌜ r ≡ flagsJudged (now (message .entry)) parts ⌝ }
 {
     let slot = parts.flags;

@@ -22,7 +22,7 @@ pub enum TargetRead {
     Refused(Refusal),
 }
 
-fn with_flags(port: PortRead, flags: u32) -> TargetRead
+pub fn with_flags(port: PortRead, flags: u32) -> TargetRead
     ensures { λ r. ⌜ r ≡ withFlags port flags ⌝ }
 {
     match port {

@@ -14,6 +14,7 @@ use Rattle.roll.specs.declared.find.Found.{Found}
 use Rattle.roll.specs.declared.find.Found.the-variants as F
 use Rattle.roll.proofs.find.Laws.{index-is, name-is}
 use Rattle.request.specs.Header.{headerOf}
+use Rattle.request.specs.Optional.{givesPort, optionalHeaderOf, optionalTargetOf}
 use Rattle.request.specs.Port.{onFound, otherName, portByIndex, portByName, portOf}
 use Rattle.request.specs.Target.{withFlags, onHeader, targetOf}
 use Rattle.request.specs.declared.parts.HeaderParts.{HeaderParts}
@@ -77,6 +78,17 @@ module _ (roll : List ℕ) where
       go (H.Parts parts flags) =
           keeps TargetIn dump (A.Unnamed flags) (withFlags (portOf m header parts roll) flags) (omega arith)
           (with-flags-in (portOf m header parts roll) flags (port-in m header parts))
+
+  -- and where it may name none
+  pub optional-counted : (m : List ℕ) (header : Slot) → TargetIn (optionalTargetOf m header roll)
+  unfolding optionalTargetOf
+  optional-counted m header = go (optionalHeaderOf m header)
+    where
+      go : (h : Header) → TargetIn (onHeader h (λ parts flags. cond (givesPort parts) (withFlags (portOf m header parts roll) flags) (A.Unnamed flags)))
+      go (H.Refused why) = omega arith
+      go (H.Parts parts flags) =
+          keeps TargetIn (givesPort parts) (withFlags (portOf m header parts roll) flags) (A.Unnamed flags)
+          (with-flags-in (portOf m header parts roll) flags (port-in m header parts)) (omega arith)
 
   -- the port that a request names
   pub target-inside : (m : List ℕ) (header : Slot) (dump : Bool) (r : TargetRead) (target : Target) → r ≡ targetOf m header dump roll → r ≡ A.Port target

@@ -147,6 +147,18 @@ enum-known-self-15 c = search needs
 as-row-requires-24 : tie.Need-as-row-requires-24
 as-row-requires-24 c κs = search needs
 
+enum-known-self-16 : tie.Need-enum-known-self-16
+enum-known-self-16 c = search needs
+
+as-row-requires-25 : tie.Need-as-row-requires-25
+as-row-requires-25 c κs = search needs
+
+enum-told-10 : tie.Need-enum-told-10
+enum-told-10 c = search needs
+
+as-row-requires-26 : tie.Need-as-row-requires-26
+as-row-requires-26 c κs = search needs
+
 returns : tie.Need-returns
 returns c = search (needs, row-of)
 
@@ -219,6 +231,12 @@ returns-23 c = search (needs, row-of)
 returns-24 : tie.Need-returns-24
 returns-24 c = search (needs, row-of)
 
+returns-25 : tie.Need-returns-25
+returns-25 c = search (needs, row-of)
+
+returns-26 : tie.Need-returns-26
+returns-26 c = search (needs, row-of)
+
 pub row-spec : {M : Type 1} → statement M
 row-spec =
     tie.close
@@ -271,6 +289,10 @@ row-spec =
     as-row-requires-23
     enum-known-self-15
     as-row-requires-24
+    enum-known-self-16
+    as-row-requires-25
+    enum-told-10
+    as-row-requires-26
     returns
     returns-2
     returns-3
@@ -294,4 +316,6 @@ row-spec =
     returns-21
     returns-22
     returns-23
-    returns-24)
+    returns-24
+    returns-25
+    returns-26)
