@@ -1,0 +1,5 @@
+pub mod Policies
+pub mod Top
+pub mod Set
+pub mod List
+pub mod Asked
