@@ -47,6 +47,13 @@ module _ (list : List ℕ) (i : ℕ) where
         rw
         (byte p k (omega arith) e, byte (p + 1) (k + 1) (omega arith) (omega arith), byte (p + 2) (k + 2) (omega arith) (omega arith), byte (p + 3) (k + 3) (omega arith) (omega arith), byte (p + 4) (k + 4) (omega arith) (omega arith), byte (p + 4 + 1) (k + 4 + 1) (omega arith) (omega arith), byte (p + 4 + 2) (k + 4 + 2) (omega arith) (omega arith), byte (p + 4 + 3) (k + 4 + 3) (omega arith) (omega arith))
 
+pub entry-most : (list : List ℕ) (i : ℕ) → length (entryAt list i) ≤ 32
+entry-most list i =
+    ⊎-elim
+    (λ (h : i < count list). omega (arith, entry-length list i h))
+    (λ (h : count list ≤ i). omega (arith, ap length (entry-none list i h)))
+    (lt-or-ge i (count list))
+
 -- past the end every byte is 0
 pub eight-past : (s : List ℕ) (at : ℕ) → length s ≤ at → 0 ≡ u64At s at
 unfolding u32At

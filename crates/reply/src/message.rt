@@ -42,7 +42,7 @@ pub fn heading_of(h: MessageHeader, flags: u16, command: u8) -> Heading
 }
 
 // The two headers of a message whose attributes already stand behind them.
-fn close_message(page: &mut [u8], h: Heading, attributes: usize) -> usize
+pub fn close_message(page: &mut [u8], h: Heading, attributes: usize) -> usize
     requires { ⌜ (attributes ≤ 65535) × (20 ≤ length (now page)) ⌝ }
     ensures { λ r. ⌜ r ≡ attributes + 20 ⌝ }
     ensures { λ _. ⌜ now (page .exit) ≡ put (now (page .entry)) (headersBytes h (attributes + 20)) ⌝ }

@@ -3,17 +3,15 @@ use Prim.Native.Nat.{ℕ, _+_, _*_, _-_, _≤_, _<_}
 use mathlib.Core.Path.{_≡_, refl, sym, ap}
 use mathlib.Core.Bool.{Bool, true, false, not}
 use mathlib.Core.List.{List}
-use mathlib.Core.Logic.{⊎-elim}
 use lib.ListN.{length, take, drop}
 use native.Mathlib.Numerals.{add-one}
 use native.Mathlib.Omega.{arith}
 use borrow.Author.Tests.{not-true, not-false}
 use borrow.Rule.Slice.PartMut.{putMid}
-use Rattle.basics.proofs.Order.{lt-or-ge}
 use Rattle.basics.specs.Put.{put}
 use Rattle.basics.proofs.Put.{put-nil}
-use Rattle.entries.specs.Entry.{count, entryAt}
-use Rattle.entries.proofs.Entries.{entry-none, entry-length}
+use Rattle.entries.specs.Entry.{entryAt}
+use Rattle.entries.proofs.Entries.{entry-most}
 use Rattle.page.specs.Page.{Wrote}
 use Rattle.netlink_write.specs.Headers.{attributeHeaderBytes}
 use Rattle.netlink_write.specs.Attributes.{nest}
@@ -21,13 +19,6 @@ use Rattle.index_name.specs.IndexName.{indexNest}
 use Rattle.page.proofs.Page.{wrote-then}
 use Rattle.netlink_write.proofs.attributes.Laws.{nest-wrote}
 use Rattle.bitset_reply.specs.List.{bitIn, bitsBytes}
-
-pub entry-most : (names : List ℕ) (i : ℕ) → length (entryAt names i) ≤ 32
-entry-most names i =
-    ⊎-elim
-    (λ (h : i < count names). omega (arith, entry-length names i h))
-    (λ (h : count names ≤ i). omega (arith, ap length (entry-none names i h)))
-    (lt-or-ge i (count names))
 
 -- one bit
 module _ (names : List ℕ) (listed : ℕ → Bool) (i : ℕ) (b : Bool) (eb : b ≡ listed i) where

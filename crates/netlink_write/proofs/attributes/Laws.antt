@@ -69,7 +69,7 @@ flag-wrote P Q kind r e q =
     }
 
 -- a payload past the header's four bytes, and zeros up to the step, then the header
-padded-wrote : (P B C payload : List ℕ) (kind next : ℕ) → length payload + 7 ≤ length P → next ≡ roundUp4 (length payload + 4)
+pub padded-wrote : (P B C payload : List ℕ) (kind next : ℕ) → 4 ≤ length P → next ≡ roundUp4 (length payload + 4)
     → B ≡ put (take (length P - 4) (drop 4 P)) (payload ++ replicate (next - 4 - length payload) 0)
     → C ≡ put (putMid 4 (length P - 4) P B) (attributeHeaderBytes (length payload + 4) kind) → Wrote (attr kind payload) P C next
 unfolding attr padding
@@ -78,7 +78,7 @@ padded-wrote P B C payload kind next room en b c =
     let pad : next - 4 - length payload ≡ roundUp4 stated - stated = omega arith in
     record {
       count = en ∙ sym (length-attr kind payload);
-      page = then-front P (attributeHeaderBytes stated kind) (payload ++ replicate (roundUp4 stated - stated) 0) 4 (length-attribute-header stated kind) (omega arith)
+      page = then-front P (attributeHeaderBytes stated kind) (payload ++ replicate (roundUp4 stated - stated) 0) 4 (length-attribute-header stated kind) room
           (rw pad at b) c;
     }
 
@@ -86,7 +86,7 @@ pub payload-wrote : (P B C payload : List ℕ) (kind next : ℕ) → length payl
     → B ≡ put (take (length P - 4) (drop 4 P)) (take (length payload) payload ++ replicate (next - 4 - length payload) 0)
     → C ≡ put (putMid 4 (length P - 4) P B) (attributeHeaderBytes (length payload + 4) kind) → Wrote (attr kind payload) P C next
 payload-wrote P B C payload kind next room en b c =
-    padded-wrote P B C payload kind next room en (rw (take-all (length payload) payload (omega arith)) at b) c
+    padded-wrote P B C payload kind next (omega arith) en (rw (take-all (length payload) payload (omega arith)) at b) c
 
 pub nul-le : (s : List ℕ) → nulAt s ≤ length s
 unfolding nulAt
@@ -116,4 +116,4 @@ name-wrote P B C name kind n next room e en b c =
     let z = next - 4 - length (nameBytes name) in
     let stated : n + 5 ≡ length (nameBytes name) + 4 = omega arith in
     let pad : 4 - nulAt name % 4 ≡ suc z = omega arith in
-    padded-wrote P B C (nameBytes name) kind next (omega (arith, nul-le name)) (omega arith) (rw (name-padded name z pad) at b) (rw stated at c)
+    padded-wrote P B C (nameBytes name) kind next (omega arith) (omega arith) (rw (name-padded name z pad) at b) (rw stated at c)
