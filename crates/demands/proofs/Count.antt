@@ -14,14 +14,14 @@ use Rattle.names.specs.Rule.{namesRight}
 use Rattle.netlink.specs.Policy.{nulAt}
 use Rattle.netlink_headers.specs.declared.headers.MessageHeader.{MessageHeader}
 use Rattle.netlink_write.specs.Attributes.{attr}
-use Rattle.netlink_error.specs.Error.{detailBytes, flagsOf, errorHeader, errorStart, errorMessage}
+use Rattle.netlink_error.specs.Error.{detailBytes, errorHeader, errorStart, errorMessage}
 use Rattle.netlink_write.specs.Headers.{messageHeaderBytes}
 use Rattle.netlink_dump.specs.Dump.{doneHeader, doneMessage}
 use Rattle.netlink_dump.proofs.Laws.{done-long}
 use Rattle.netlink_error.specs.declared.Detail.{Detail}
 use Rattle.netlink_error.specs.declared.Detail.the-variants.{Nothing, Offset, MissTop, MissIn}
 use Rattle.netlink_write.proofs.attributes.Laws.{length-attr}
-use Rattle.netlink_error.proofs.Laws.{length-start}
+use Rattle.netlink_error.proofs.Laws.{length-error}
 use Rattle.reply.proofs.message.Lengths.{length-reply, reply-whole, longest}
 use Rattle.reply.specs.Message.{headersBytes, Content, attributesBytes, replyBytes}
 use Rattle.reply.specs.declared.message.Heading.{Heading}
@@ -42,25 +42,19 @@ detail-long (MissIn kind nest) =
 
 -- an error message to a request, and the ACK
 module _ (m : List ℕ) (long : 16 ≤ length m) (errno : ℕ) (d : Detail) where
-  length-error : length (errorMessage m errno d) ≡ length (detailBytes d) + 36
-  unfolding errorMessage
-  length-error =
-      let total = length (detailBytes d) + 36 in
-      omega (arith, length-append (errorStart m errno (flagsOf d) total) (detailBytes d), length-start m errno (flagsOf d) total long)
-
   error-stated : u32At (errorMessage m errno d) 0 ≡ length (errorMessage m errno d)
   unfolding errorMessage errorStart errorHeader messageHeaderBytes u32At
-  error-stated = digits32 (length (detailBytes d) + 36) (let l = detail-long d in let a = l .0 in omega arith) ∙ sym length-error
+  error-stated = digits32 (length (detailBytes d) + 36) (let l = detail-long d in let a = l .0 in omega arith) ∙ sym (length-error m long errno d)
 
   one : Messages (errorMessage m errno d)
-  one = rw (← append-nil (errorMessage m errno d)) (next (errorMessage m errno d) [] (let e = length-error in omega arith) error-stated none)
+  one = rw (← append-nil (errorMessage m errno d)) (next (errorMessage m errno d) [] (let e = length-error m long errno d in omega arith) error-stated none)
 
   pub error-counted : Counted (errorMessage m errno d)
   error-counted =
       let l = detail-long d in
       let a = l .0 in
       let b = l .1 in
-      let e = length-error in
+      let e = length-error m long errno d in
       record { messages = one; words = omega arith; most = omega arith }
 
 pub none-counted : Counted []

@@ -70,6 +70,13 @@ length-start request errno flags total fits =
     omega (arith, length-take-le 16 request fits, length-message-header (errorHeader request flags total), length-append header (le32 (negative errno) ++ take 16 request), length-append (le32 (negative errno)) (take 16 request))
 
 -- header, errno, the request's header
+-- an error message to a request
+pub length-error : (m : List ℕ) → 16 ≤ length m → (errno : ℕ) (d : Detail) → length (errorMessage m errno d) ≡ length (detailBytes d) + 36
+unfolding errorMessage
+length-error m long errno d =
+    let total = length (detailBytes d) + 36 in
+    omega (arith, length-append (errorStart m errno (flagsOf d) total) (detailBytes d), length-start m errno (flagsOf d) total long)
+
 pub start-put : (P request A B C : List ℕ) (errno flags total s p e : ℕ) → 36 ≤ length P → 16 ≤ length request → s ≡ u32At request 8
     → p ≡ u32At request 12 → e ≡ negative errno
     → A ≡ put P (messageHeaderBytes (record { length = total; kind = 2; flags = flags; sequence = s; port = p }))

@@ -53,6 +53,10 @@ errorResponse message next r = responseOf (Refused r) next (errorMessage message
 unfoldable pub ackBytes : List ℕ → MessageHeader → List ℕ
 ackBytes message h = cond (eqb (h .flags / 4 % 2) 1) (errorMessage message 0 Nothing) []
 
+-- how long that is
+unfoldable pub ackLength : MessageHeader → ℕ
+ackLength h = cond (eqb (h .flags / 4 % 2) 1) 36 0
+
 -- nothing is written
 abbrev pub noBytes : Kind → ℕ → Response
 noBytes kind next = responseOf kind next []

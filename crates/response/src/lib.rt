@@ -3,12 +3,15 @@ ghost use mathlib.Core.Path.{_≡_};
 ghost use Prim.Native.Nat.{_≤_};
 ghost use lib.ListN.{length};
 ghost use Rattle.page.specs.Page.{Wrote};
-ghost use Rattle.response.specs.Answer.{kindNumber, refusalNumber, Responds, errorResponse, responseOf, ackBytes};
+ghost use Rattle.response.specs.Answer.{kindNumber, refusalNumber, Responds, errorResponse, responseOf, ackBytes, ackLength};
 ghost use Rattle.response.specs.declared.Kind.the-variants.{Done};
 use netlink_error::put_ack;
 use netlink_error::put_error;
 use netlink_headers::headers::MessageHeader;
 use refusal::Refusal;
+
+// The bytes of an ACK.
+const ACK: usize = 36;
 
 pub enum Kind {
     End,
@@ -66,6 +69,17 @@ pub fn refuse(page: &mut [u8], message: &[u8], why: Refusal, next: usize) -> Ans
         place: 0,
         written,
     }
+}
+
+// How long the ACK is, where the request asks for one.
+pub fn ack_length(h: MessageHeader) -> usize
+    ensures { λ r. ⌜ r ≡ ackLength h ⌝ }
+    ensures { λ r. ⌜ r ≤ 36 ⌝ }
+{
+    if h.flags / 4 % 2 == 1 {
+        return ACK;
+    }
+    0
 }
 
 // The ACK where the request asks for one.

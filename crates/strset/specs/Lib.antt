@@ -1,0 +1,2 @@
+pub mod Strset
+pub mod PortNamed
