@@ -1,6 +1,11 @@
 pub mod Places
+pub mod Number
 pub mod Name
 pub mod Bit
 pub mod List
 pub mod Set
 pub mod Reply
+pub mod StrsetNests
+pub mod StrsetNames
+pub mod StrsetSets
+pub mod Strset
