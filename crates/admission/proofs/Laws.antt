@@ -19,12 +19,12 @@ use Rattle.netlink_headers.specs.declared.headers.MessageHeader.{MessageHeader}
 use Rattle.netlink_headers.proofs.headers.Laws.{generic-short, generic-whole}
 use Rattle.refusal.specs.declared.Refusal.the-variants as R
 use Rattle.admission.specs.Commands.{commandOf}
-use Rattle.admission.specs.Admission.{isDump, noDump, notPermitted, permitted, onCommand, admitted}
+use Rattle.admission.specs.Admission.{isDump, noDump, notPermitted, permitted, strsetPermitted, onCommand, admitted}
 use Rattle.admission.specs.declared.commands.Command.{Command}
 use Rattle.admission.specs.declared.commands.CommandRead.{CommandRead}
-use Rattle.admission.specs.declared.commands.CommandRead.the-variants.{Listed, Unlisted}
+use Rattle.admission.specs.declared.commands.CommandRead.the-variants as C
 use Rattle.admission.specs.declared.Admission.{Admission}
-use Rattle.admission.specs.declared.Admission.the-variants.{Admitted, Skipped, Refused}
+use Rattle.admission.specs.declared.Admission.the-variants.{Admitted, Strset, Skipped, Refused}
 
 module _ (command : Command) (admin : Bool) where
   pub permission-change : command .change ≡ true → not admin ≡ notPermitted command admin
@@ -71,6 +71,17 @@ module _ (h : MessageHeader) (command : Command) (admin : Bool) where
       pub permit-admitted : b ≡ false → Admitted command ≡ permitted h admin command
       permit-admitted z = sym (past-dump ∙ cond-false b _ _ z)
 
+module _ (h : MessageHeader) (b : Bool) (eb : b ≡ isDump h) where
+  pub strset-dump : b ≡ true → Refused R.Dump ≡ strsetPermitted h
+  unfolding strsetPermitted
+  strset-dump q = sym (cond-true (isDump h) _ _ (sym eb ∙ q))
+
+  pub strset-one : b ≡ false → Strset ≡ strsetPermitted h
+  unfolding strsetPermitted
+  strset-one q = sym (cond-false (isDump h) _ _ (sym eb ∙ q))
+
+pub ruleset strset-laws = (strset-dump, strset-one)
+
 pub ruleset permit-laws = (permit-dump, permit-refused, permit-admitted)
 
 -- what is learnt of the generic header: it is missing below 20 bytes, and holds the command
@@ -110,7 +121,7 @@ module _ (m : List ℕ) (h : MessageHeader) (family : ℕ) (admin : Bool) where
       admit-other q = sym (rw (le-ltb _ _ k, ne-eqb _ _ r, ne-eqb _ _ q))
 
       module _ (f : h .kind ≡ family) (g : GenericHeaderRead) (eg : g ≡ genericHeaderAt m 16) where
-        ours : admitted m h family admin ≡ cond (ltb (length m) 20) (Refused R.Short) (onCommand (commandOf (byteAt m 16)) (permitted h admin))
+        ours : admitted m h family admin ≡ cond (ltb (length m) 20) (Refused R.Short) (onCommand (commandOf (byteAt m 16)) (strsetPermitted h) (permitted h admin))
         unfolding admitted
         ours = rw (le-ltb _ _ k, ne-eqb _ _ r, eq-eqb _ _ f)
 
@@ -118,15 +129,18 @@ module _ (m : List ℕ) (h : MessageHeader) (family : ℕ) (admin : Bool) where
         admit-short q = sym (ours ∙ rw (lt-ltb _ _ (generic-cut m g eg q)))
 
         module _ (x : GenericHeader) (q : g ≡ G.Header x) (c : CommandRead) (ec : c ≡ commandOf (x .command)) where
-          whole : admitted m h family admin ≡ onCommand c (permitted h admin)
+          whole : admitted m h family admin ≡ onCommand c (strsetPermitted h) (permitted h admin)
           whole =
               ours ∙ rw (le-ltb _ _ (generic-fits m g eg x q))
-              (ap (λ (y : CommandRead). onCommand y (permitted h admin)) (sym (ec ∙ ap commandOf (generic-command m g eg x q))))
+              (ap (λ (y : CommandRead). onCommand y (strsetPermitted h) (permitted h admin)) (sym (ec ∙ ap commandOf (generic-command m g eg x q))))
 
-          pub admit-unlisted : c ≡ Unlisted → Refused R.Command ≡ admitted m h family admin
+          pub admit-unlisted : c ≡ C.Unlisted → Refused R.Command ≡ admitted m h family admin
           admit-unlisted z = sym (rw z at whole)
 
-          pub admit-listed : (command : Command) (a : Admission) → c ≡ Listed command → a ≡ permitted h admin command → a ≡ admitted m h family admin
+          pub admit-strset : (a : Admission) → c ≡ C.Strset → a ≡ strsetPermitted h → a ≡ admitted m h family admin
+          admit-strset a z ea = ea ∙ sym (rw z at whole)
+
+          pub admit-listed : (command : Command) (a : Admission) → c ≡ C.Listed command → a ≡ permitted h admin command → a ≡ admitted m h family admin
           admit-listed command a z ea = ea ∙ sym (rw z at whole)
 
-pub ruleset admit-laws = (admit-low, admit-unasked, admit-other, admit-short, admit-unlisted, admit-listed)
+pub ruleset admit-laws = (admit-low, admit-unasked, admit-other, admit-short, admit-unlisted, admit-strset, admit-listed)

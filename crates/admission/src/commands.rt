@@ -1,9 +1,11 @@
 // The commands that are taken up, a row of one table each.
 ghost use mathlib.Core.Path.{_≡_};
-ghost use Rattle.admission.specs.Commands.{commandRow, commands, commandOf};
+ghost use Rattle.admission.specs.Commands.{commandRow, listedRow, commands, commandOf};
 use layout::Set;
 
 // The numbers of the commands, and of their replies.
+const STRSET_GET: u8 = 1;
+
 const DEBUG_GET: u8 = 7;
 
 const DEBUG_SET: u8 = 8;
@@ -17,9 +19,9 @@ const DEBUG_GET_REPLY: u8 = 7;
 const PRIVFLAGS_GET_REPLY: u8 = 14;
 
 // How many commands there are.
-const COUNT: usize = 4;
+const COUNT: usize = 5;
 
-// A command: its number, whether it changes the set (SET) or asks for it (GET), the set, the command of its reply, and whether it may be dumped.
+// A command about a set of a port: its number, whether it changes the set (SET) or asks for it (GET), the set, the command of its reply, and whether it may be dumped.
 pub struct Command {
     pub number: u8,
     pub change: bool,
@@ -30,7 +32,15 @@ pub struct Command {
 
 pub enum CommandRead {
     Listed(Command),
+    // STRSET_GET, which is about no set of a port.
+    Strset,
     Unlisted,
+}
+
+// A row of the table.
+pub struct Row {
+    pub number: u8,
+    pub command: CommandRead,
 }
 
 fn command_row(number: u8, change: bool, set: Set, reply: u8, dump: bool) -> Command
@@ -45,15 +55,28 @@ fn command_row(number: u8, change: bool, set: Set, reply: u8, dump: bool) -> Com
     }
 }
 
+fn listed_row(number: u8, change: bool, set: Set, reply: u8, dump: bool) -> Row
+    ensures { λ r. ⌜ r ≡ listedRow number change set reply dump ⌝ }
+{
+    Row {
+        number,
+        command: CommandRead::Listed(command_row(number, change, set, reply, dump)),
+    }
+}
+
 // The table.
-fn commands() -> [Command; COUNT]
+fn commands() -> [Row; COUNT]
     ensures { λ r. ⌜ r ≡ commands ⌝ }
 {
     [
-        command_row(DEBUG_GET, false, Set::Debug, DEBUG_GET_REPLY, true),
-        command_row(DEBUG_SET, true, Set::Debug, DEBUG_GET_REPLY, false),
-        command_row(PRIVFLAGS_GET, false, Set::Flags, PRIVFLAGS_GET_REPLY, true),
-        command_row(PRIVFLAGS_SET, true, Set::Flags, PRIVFLAGS_GET_REPLY, false),
+        Row {
+            number: STRSET_GET,
+            command: CommandRead::Strset,
+        },
+        listed_row(DEBUG_GET, false, Set::Debug, DEBUG_GET_REPLY, true),
+        listed_row(DEBUG_SET, true, Set::Debug, DEBUG_GET_REPLY, false),
+        listed_row(PRIVFLAGS_GET, false, Set::Flags, PRIVFLAGS_GET_REPLY, true),
+        listed_row(PRIVFLAGS_SET, true, Set::Flags, PRIVFLAGS_GET_REPLY, false),
     ]
 }
 
@@ -63,9 +86,9 @@ pub fn read_command(number: u8) -> CommandRead
 {
     let rows = commands();
     for i in 0..COUNT {
-        let command = rows[i];
-        if command.number == number {
-            return CommandRead::Listed(command);
+        let row = rows[i];
+        if row.number == number {
+            return row.command;
         }
     }
     CommandRead::Unlisted

@@ -1,6 +1,6 @@
 // Whether a message is taken up, by its two headers: skipped, and refusals 5 to 9.
 ghost use mathlib.Core.Path.{_≡_};
-ghost use Rattle.admission.specs.Admission.{isDump, noDump, notPermitted, permitted, admitted};
+ghost use Rattle.admission.specs.Admission.{isDump, noDump, notPermitted, permitted, strsetPermitted, admitted};
 use crate::commands::Command;
 use crate::commands::CommandRead;
 use crate::commands::read_command;
@@ -13,6 +13,7 @@ pub mod commands;
 
 pub enum Admission {
     Admitted(Command),
+    Strset,
     Skipped,
     Refused(Refusal),
 }
@@ -57,6 +58,16 @@ fn permit(h: MessageHeader, command: Command, admin: bool) -> Admission
     Admission::Admitted(command)
 }
 
+// Judges a STRSET_GET, which may not be dumped.
+fn permit_strset(h: MessageHeader) -> Admission
+    ensures { λ r. ⌜ r ≡ strsetPermitted h ⌝ }
+{
+    if is_dump(h) {
+        return Admission::Refused(Refusal::Dump);
+    }
+    Admission::Strset
+}
+
 // Judges a message, cut at its stated end, and its header h.
 pub fn admit(message: &[u8], h: MessageHeader, family: u32, admin: bool) -> Admission
     ensures { λ r. ⌜ r ≡ admitted (now (message .entry)) h family admin ⌝ }
@@ -75,8 +86,9 @@ pub fn admit(message: &[u8], h: MessageHeader, family: u32, admin: bool) -> Admi
     else {
         return Admission::Refused(Refusal::Short);
     };
-    let CommandRead::Listed(command) = read_command(generic.command) else {
-        return Admission::Refused(Refusal::Command);
-    };
-    permit(h, command, admin)
+    match read_command(generic.command) {
+        CommandRead::Unlisted => Admission::Refused(Refusal::Command),
+        CommandRead::Strset => permit_strset(h),
+        CommandRead::Listed(command) => permit(h, command, admin),
+    }
 }

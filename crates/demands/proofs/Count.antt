@@ -26,7 +26,7 @@ use Rattle.reply.proofs.message.Lengths.{length-reply, reply-whole, longest}
 use Rattle.reply.specs.Message.{headersBytes, Content, attributesBytes, replyBytes}
 use Rattle.reply.specs.declared.message.Heading.{Heading}
 use Rattle.response.specs.Answer.{ackBytes}
-use Rattle.demands.specs.Answer.{Messages, Counted}
+use Rattle.demands.specs.Answer.{Messages, CountedTo, Counted, longestAnswer}
 use Rattle.demands.specs.Answer.Messages.{none, next}
 
 detail-long : (d : Detail) → (length (detailBytes d) ≤ 16) × (length (detailBytes d) % 4 ≡ 0)
@@ -100,3 +100,9 @@ module _ (h : Heading) (content : Content) (port : nulAt (content .name) < 16) (
       let all = length-append reply rest in
       let after = counted .words in
       record { messages = next reply rest (let e = length-reply h content in omega arith) reply-stated (counted .messages); words = omega arith; most = omega arith }
+
+-- none is longer than the longest answer
+pub within-longest : (strset : Bool) {bytes : List ℕ} → Counted bytes → CountedTo (longestAnswer strset) bytes
+unfolding longestAnswer
+within-longest true counted = let few = counted .most in record { messages = counted .messages; words = counted .words; most = omega arith }
+within-longest false counted = counted

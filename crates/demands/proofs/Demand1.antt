@@ -40,7 +40,7 @@ use Rattle.demands.specs.Answer.{refusalBytes}
 use Rattle.demands.specs.Message.{DumpAsked}
 use Rattle.demands.specs.Request.{asksDump}
 use Rattle.demands.specs.Call.{messageOf, nextOf, tellsPort, nextAfter, placeAfter}
-use Rattle.demands.specs.CallCase.MessageCase.{messageSkipped, messageRefused, getDone, dumpDone, setDone}
+use Rattle.demands.specs.CallCase.MessageCase.{messageSkipped, messageRefused, getDone, dumpDone, strsetDone, setDone}
 use Rattle.demands.specs.CallCase.{CallCase}
 use Rattle.demands.specs.CallCase.CallCase.{ended, notRead, messageAnswered}
 use Rattle.demands.specs.Run.{MovesOn, endsWithin}
@@ -115,6 +115,7 @@ module _ (box : Box) (state : State) (call : Call) (datagram : List ℕ) (room :
             (kept e, bytes e ∙ no-bytes-before-five m why (rw (← same) l))
         by (messageAnswered right lo hi long first (messageSkipped e)) = absurd (skipped-not why (response e ∙ kind-of))
         by (messageAnswered right lo hi long first (getDone q d g e)) = absurd (done-not why (response e ∙ kind-of))
+        by (messageAnswered right lo hi long first (strsetDone q c a x l e)) = absurd (done-not why (response e ∙ kind-of))
         by (messageAnswered right lo hi long first (dumpDone q d e)) = absurd (done-not why (dumped d e ∙ kind-of))
         by (messageAnswered right lo hi long first (setDone q d g b c e)) = absurd (done-not why (response e ∙ kind-of))
         by (messageAnswered right lo hi long first (messageRefused w e)) =
@@ -140,6 +141,7 @@ module _ (box : Box) (state : State) (call : Call) (datagram : List ℕ) (room :
       by (notRead w l e) t = absurd (not-refused w t (response e))
       by (messageAnswered right lo hi long first (messageSkipped e)) t = (kept e, bytes e)
       by (messageAnswered right lo hi long first (getDone q d g e)) t = absurd (not-done t (response e))
+      by (messageAnswered right lo hi long first (strsetDone q c a x l e)) t = absurd (not-done t (response e))
       by (messageAnswered right lo hi long first (dumpDone q d e)) t = absurd (not-done t (dumped d e))
       by (messageAnswered right lo hi long first (setDone q d g b c e)) t = absurd (not-done t (response e))
       by (messageAnswered right lo hi long first (messageRefused w e)) t = absurd (not-refused w t (response e))
@@ -156,6 +158,7 @@ module _ (box : Box) (state : State) (call : Call) (datagram : List ℕ) (room :
       by (notRead w l e) = next e
       by (messageAnswered right lo hi long first (messageSkipped e)) = absurd (over-clash e refl is)
       by (messageAnswered right lo hi long first (getDone q d g e)) = absurd (over-clash e refl is)
+      by (messageAnswered right lo hi long first (strsetDone q c a x l e)) = absurd (over-clash e refl is)
       by (messageAnswered right lo hi long first (dumpDone q d e)) = absurd (clash is (ap endsRun (sym (dumped d e))))
       by (messageAnswered right lo hi long first (setDone q d g b c e)) = absurd (over-clash e refl is)
       by (messageAnswered right lo hi long first (messageRefused w e)) =
@@ -226,6 +229,7 @@ module _ (box : Box) (state : State) (call : Call) (datagram : List ℕ) (room :
       by (messageAnswered right lo hi long first (messageSkipped e)) = place-of e ∙ quiet (call .place + 1) 0 e Skipped refl skipped-quiet
       by (messageAnswered right lo hi long first (messageRefused w e)) = place-of e ∙ quiet (call .place + 1) 0 e (Refused w) refl (refused-quiet w)
       by (messageAnswered right lo hi long first (getDone q d g e)) = place-of e ∙ quiet (call .place + 1) 0 e Done refl (told false q)
+      by (messageAnswered right lo hi long first (strsetDone q c a x l e)) = place-of e ∙ quiet (call .place + 1) 0 e Done refl (told false q)
       by (messageAnswered right lo hi long first (setDone q d g b c e)) = place-of e ∙ quiet (call .place + 1) 0 e Done refl (told false q)
       by (messageAnswered right lo hi long first (dumpDone q d e)) = place-of e ∙ dump-place _ (d .flags) ∙ dumps (call .place + 1) 0 d q e
 
@@ -246,6 +250,7 @@ module _ (box : Box) (state : State) (call : Call) (datagram : List ℕ) (room :
         by (messageAnswered right lo hi long first (messageSkipped e)) = next e ∙ quiet position after e Skipped refl skipped-quiet
         by (messageAnswered right lo hi long first (messageRefused w e)) = next e ∙ quiet position after e (Refused w) refl (refused-quiet w)
         by (messageAnswered right lo hi long first (getDone q d g e)) = next e ∙ quiet position after e Done refl (told false q)
+        by (messageAnswered right lo hi long first (strsetDone q c a x l e)) = next e ∙ quiet position after e Done refl (told false q)
         by (messageAnswered right lo hi long first (setDone q d g b c e)) = next e ∙ quiet position after e Done refl (told false q)
         by (messageAnswered right lo hi long first (dumpDone q d e)) = next e ∙ dump-next _ (d .flags) ∙ dumps position after d q e
 

@@ -4,7 +4,8 @@
 --     dump             a done call of a dump: the settings stay, and the reply of the port at the place, or DONE, is written
 --     box-kept         a right box stays right, whatever is asked
 --     small-kept       words of 32 bits stay words of 32 bits
---     bytes-counted    what is written is whole messages, each as long as it states, and never more than 24,684 bytes
+--     strset-done      a done STRSET_GET: the settings stay, and the reply tells the port, if one is named, and each list that is asked for
+--     bytes-counted    what is written is whole messages, each as long as it states, and never more than 24,684 bytes, of a STRSET_GET 32,768
 use Prim.Native.Nat.{ℕ, _+_, _-_, _≤_, _<_}
 use mathlib.Core.Path.{_≡_, refl, sym, ap, _∙_}
 use mathlib.Core.List.{List, [], _++_, append-nil}
@@ -51,20 +52,24 @@ use Rattle.reply.specs.Message.{headingOf, headersBytes, Content, replyBytes}
 use Rattle.reply.specs.declared.message.Heading.{Heading}
 use Rattle.execute.specs.declared.Request.{Request}
 use Rattle.execute.specs.Execute.{requestOf, contentIn, portReply, getBytes, portResponse, dumpResponse}
+use Rattle.strset.specs.Strset.{strsetBytes}
+use Rattle.read_back.specs.Strset.Told.{told as reads}
 use Rattle.response.specs.declared.Kind.the-variants.{Done}
-use Rattle.demands.specs.Answer.{ackIfAsked, doneBytes, withMulti, Counted}
+use Rattle.demands.specs.Answer.{ackIfAsked, doneBytes, withMulti, CountedTo, Counted, longestAnswer}
 use Rattle.demands.specs.Call.{messageOf, nextOf}
 use Rattle.demands.specs.CallCase.{CallCase}
 use Rattle.demands.specs.CallCase.CallCase.{ended, notRead, messageAnswered}
 use Rattle.demands.specs.Message.{Named, DumpAsked, Carries}
-use Rattle.demands.specs.CallCase.MessageCase.{messageSkipped, messageRefused, getDone, dumpDone, setDone}
-use Rattle.demands.specs.Done.{DoneSet, contentAbout, replyAbout, replyTo, TellsSet, DoneGet, DonePort, DoneLast, DoneDump}
-use Rattle.demands.specs.Request.{isSet, asksDump}
-use Rattle.demands.proofs.Count.{none-counted, error-counted, ack-counted, done-counted, reply-counted}
+use Rattle.demands.specs.CallCase.MessageCase.{messageSkipped, messageRefused, getDone, dumpDone, strsetDone, setDone}
+use Rattle.demands.specs.Done.{DoneSet, contentAbout, replyAbout, replyTo, TellsSet, DoneGet, DonePort, DoneLast, DoneDump, DoneStrset}
+use Rattle.demands.specs.Request.{isSet, isStrset, asksDump}
+use Rattle.demands.proofs.Count.{none-counted, error-counted, ack-counted, done-counted, reply-counted, within-longest}
 use Rattle.demands.proofs.Request.{dump-kind}
 use Rattle.demands.proofs.CallCase.{call-case}
 use Rattle.demands.proofs.Effect.{after, set-own, set-others, set-elsewhere, set-small, set-right}
 use Rattle.demands.proofs.Port.{port-short}
+use Rattle.demands.proofs.NamesTold.{names-owed}
+use Rattle.demands.proofs.DoneStrset.{names-told, strset-counted}
 
 -- whether it is a SET is said by the command
 module _ (roll m : List ℕ) (n : Named roll m) where
@@ -291,6 +296,9 @@ module _ (box : Box) (state : State) (call : Call) (datagram : List ℕ) (room :
   abbrev is-set : Bool
   is-set = isSet (commandOf (byteAt m 16))
 
+  abbrev is-strset : Bool
+  is-strset = isStrset (commandOf (byteAt m 16))
+
   pub effect : o .response .kind ≡ Done → is-set ≡ true → DoneSet box state call m h o
   unfolding isSet
   effect kind-of request = by (call-case box state call datagram room)
@@ -302,11 +310,12 @@ module _ (box : Box) (state : State) (call : Call) (datagram : List ℕ) (room :
       by (messageAnswered right lo hi long first (messageRefused w e)) = absurd (let q = kind-is e ∙ kind-of in let z : _≡_ {A = ℕ} 0 1 = cc in omega arith)
       by (messageAnswered right lo hi long first (getDone q n g e)) = absurd (clash request (named-set (box .roll) m n ∙ g))
       by (messageAnswered right lo hi long first (dumpDone q d e)) = absurd (clash request (ap isSet (d .listed) ∙ d .is-get))
+      by (messageAnswered right lo hi long first (strsetDone q c a x l e)) = absurd (clash request (ap isSet c))
       by (messageAnswered right lo hi long first (setDone q n g b c e)) = rw e (done-set right n g b c refl refl)
 
-  pub read-back : o .response .kind ≡ Done → is-set ≡ false → asksDump h ≡ false → DoneGet box state m h o
-  unfolding asksDump isDump
-  read-back kind-of request one = by (call-case box state call datagram room)
+  pub read-back : o .response .kind ≡ Done → is-set ≡ false → is-strset ≡ false → asksDump h ≡ false → DoneGet box state m h o
+  unfolding asksDump isDump isStrset
+  read-back kind-of request other one = by (call-case box state call datagram room)
     where
       by : CallCase box state call datagram o → DoneGet box state m h o
       by (ended e) = absurd (let q = kind-is e ∙ kind-of in let z : _≡_ {A = ℕ} 0 1 = cc in omega arith)
@@ -315,7 +324,24 @@ module _ (box : Box) (state : State) (call : Call) (datagram : List ℕ) (room :
       by (messageAnswered right lo hi long first (messageRefused w e)) = absurd (let q = kind-is e ∙ kind-of in let z : _≡_ {A = ℕ} 0 1 = cc in omega arith)
       by (messageAnswered right lo hi long first (getDone q n g e)) = rw e (done-get right n (nextOf datagram position) g refl refl)
       by (messageAnswered right lo hi long first (dumpDone q d e)) = absurd (clash q one)
+      by (messageAnswered right lo hi long first (strsetDone q c a x l e)) = absurd (clash (ap isStrset c) other)
       by (messageAnswered right lo hi long first (setDone q n g b c e)) = absurd (clash (named-set (box .roll) m n ∙ g) request)
+
+  pub strset-done : o .response .kind ≡ Done → is-strset ≡ true → DoneStrset box state m h o
+  unfolding isStrset strsetBytes ackIfAsked ackBytes
+  strset-done kind-of request = by (call-case box state call datagram room)
+    where
+      by : CallCase box state call datagram o → DoneStrset box state m h o
+      by (ended e) = absurd (let q = kind-is e ∙ kind-of in let z : _≡_ {A = ℕ} 0 1 = cc in omega arith)
+      by (notRead w l e) = absurd (let q = kind-is e ∙ kind-of in let z : _≡_ {A = ℕ} 0 1 = cc in omega arith)
+      by (messageAnswered right lo hi long first (messageSkipped e)) = absurd (let q = kind-is e ∙ kind-of in let z : _≡_ {A = ℕ} 0 1 = cc in omega arith)
+      by (messageAnswered right lo hi long first (messageRefused w e)) = absurd (let q = kind-is e ∙ kind-of in let z : _≡_ {A = ℕ} 0 1 = cc in omega arith)
+      by (messageAnswered right lo hi long first (getDone q n g e)) = absurd (clash request (ap isStrset (n .listed)))
+      by (messageAnswered right lo hi long first (dumpDone q d e)) = absurd (clash request (ap isStrset (d .listed)))
+      by (messageAnswered right lo hi long first (setDone q n g b c e)) = absurd (clash request (ap isStrset (n .listed)))
+      by (messageAnswered right lo hi long first (strsetDone q c a x l e)) =
+          let owed = names-owed box m a x in
+          rw e (record { asked = a; asks = x; keeps = refl; bytes = refl; few = l; port = owed .0; port-is = owed .1; tells = names-told box state call right m h a x ∙ ap reads (owed .2) })
 
   pub dump : o .response .kind ≡ Done → asksDump h ≡ true → DoneDump box state call m h (nextOf datagram position) o
   unfolding asksDump isDump
@@ -328,6 +354,7 @@ module _ (box : Box) (state : State) (call : Call) (datagram : List ℕ) (room :
       by (messageAnswered right lo hi long first (messageRefused w e)) = absurd (let q = kind-is e ∙ kind-of in let z : _≡_ {A = ℕ} 0 1 = cc in omega arith)
       by (messageAnswered right lo hi long first (getDone q n g e)) = absurd (clash all q)
       by (messageAnswered right lo hi long first (dumpDone q d e)) = done-dump right d (nextOf datagram position) e
+      by (messageAnswered right lo hi long first (strsetDone q c a x l e)) = absurd (clash all q)
       by (messageAnswered right lo hi long first (setDone q n g b c e)) = absurd (clash all q)
 
   pub box-kept : boxRight box state call ≡ true → boxRight box (o .state) call ≡ true
@@ -343,6 +370,7 @@ module _ (box : Box) (state : State) (call : Call) (datagram : List ℕ) (room :
       by (messageAnswered right lo hi long first (messageRefused w e)) = same e refl
       by (messageAnswered right lo hi long first (getDone q n g e)) = same e refl
       by (messageAnswered right lo hi long first (dumpDone q d e)) = same e refl
+      by (messageAnswered right lo hi long first (strsetDone q c a x l e)) = same e refl
       by (messageAnswered right lo hi long first (setDone q n g b c e)) =
           rw e (set-right box state call right (n .target .position) (n .port .inside) (n .command .set) b (fits right n g b c))
 
@@ -359,17 +387,23 @@ module _ (box : Box) (state : State) (call : Call) (datagram : List ℕ) (room :
       by (messageAnswered right lo hi long first (messageRefused w e)) = same e refl
       by (messageAnswered right lo hi long first (getDone q n g e)) = same e refl
       by (messageAnswered right lo hi long first (dumpDone q d e)) = same e refl
+      by (messageAnswered right lo hi long first (strsetDone q c a x l e)) = same e refl
       by (messageAnswered right lo hi long first (setDone q n g b c e)) =
           rw e (set-small box state call right (n .target .position) (n .port .inside) (n .command .set) b (fits right n g b c) small)
 
-  pub bytes-counted : Counted (o .response .bytes)
+  pub bytes-counted : CountedTo (longestAnswer is-strset) (o .response .bytes)
+  unfolding isStrset longestAnswer
   bytes-counted = by (call-case box state call datagram room)
     where
-      by : CallCase box state call datagram o → Counted (o .response .bytes)
-      by (ended e) = rw (bytes-are e) none-counted
-      by (notRead w l e) = rw (bytes-are e) none-counted
-      by (messageAnswered right lo hi long first (messageSkipped e)) = rw (bytes-are e) none-counted
-      by (messageAnswered right lo hi long first (messageRefused w e)) = rw (bytes-are e) (error-counted m long (errnoOf w) (detailOf w))
-      by (messageAnswered right lo hi long first (getDone q n g e)) = rw (bytes-are e) (get-counted right n (nextOf datagram position) long)
-      by (messageAnswered right lo hi long first (dumpDone q d e)) = rw (bytes-are e) (dump-counted right d (nextOf datagram position))
-      by (messageAnswered right lo hi long first (setDone q n g b c e)) = rw (bytes-are e) (ack-counted m h long .0)
+      within : {bytes : List ℕ} → Counted bytes → CountedTo (longestAnswer is-strset) bytes
+      within counted = within-longest is-strset counted
+
+      by : CallCase box state call datagram o → CountedTo (longestAnswer is-strset) (o .response .bytes)
+      by (ended e) = rw (bytes-are e) (within none-counted)
+      by (notRead w l e) = rw (bytes-are e) (within none-counted)
+      by (messageAnswered right lo hi long first (messageSkipped e)) = rw (bytes-are e) (within none-counted)
+      by (messageAnswered right lo hi long first (messageRefused w e)) = rw (bytes-are e) (within (error-counted m long (errnoOf w) (detailOf w)))
+      by (messageAnswered right lo hi long first (getDone q n g e)) = rw (bytes-are e) (within (get-counted right n (nextOf datagram position) long))
+      by (messageAnswered right lo hi long first (dumpDone q d e)) = rw (bytes-are e) (within (dump-counted right d (nextOf datagram position)))
+      by (messageAnswered right lo hi long first (strsetDone q c a x l e)) = rw (bytes-are e, c) (strset-counted box m h a long l)
+      by (messageAnswered right lo hi long first (setDone q n g b c e)) = rw (bytes-are e) (within (ack-counted m h long .0))

@@ -40,7 +40,8 @@ use Rattle.demands.specs.Answer.{ackIfAsked, withMulti}
 use Rattle.demands.specs.BoxRules.{StoredRules}
 use Rattle.demands.specs.Check.{Check, refuseIf, firstKind}
 use Rattle.demands.specs.Check.Check.{passes, refuses, ends, skips}
-use Rattle.demands.specs.Request.{noPort, asksDump, commandChecks, admissionChecks, messageChecks}
+use Rattle.demands.specs.PortChecks.{noPort}
+use Rattle.demands.specs.Request.{asksDump, commandChecks, admissionChecks, messageChecks}
 use Rattle.demands.specs.Call.{messageOf, nextOf, callChecks}
 use Rattle.demands.specs.Message.{DumpAsked}
 use Rattle.demands.specs.Done.{contentAbout, replyAbout, DoneSet, DoneGet, DonePort, DoneLast, DoneDump}
@@ -48,7 +49,7 @@ use Rattle.demands.specs.Stored.{storedRight, asWords}
 use Rattle.demands.specs.Dump.{atPlace, HandledGet, headerOfGet, AsksOne, RepliesAlike, getOne, callOne, AsGetOne, WholeDump, Point, pointAfter, DumpCalls}
 use Rattle.demands.specs.Run.{after}
 use Rattle.demands.proofs.BoxRoll.{roll-exactly, rules-counted, one-index}
-use Rattle.demands.proofs.GetOne.{kind-is, sequence-is, port-is, asks-one, one-get, no-ack, names-one, one-passes}
+use Rattle.demands.proofs.GetOne.{kind-is, sequence-is, port-is, asks-one, one-get, one-about-port, no-ack, names-one, one-passes}
 use Rattle.demands.proofs.Missing.{index-missing}
 use Rattle.demands.proofs.BoxRules.{stored-exactly}
 use Rattle.demands.proofs.Stored as S
@@ -229,7 +230,7 @@ module _ (box : Box) (call : Call) (datagram : List ℕ) (room : ℕ) (found : �
     get-of : DoneGet box (inWords (found k)) (messageOf g 0) (messageHeader g 0) (asWords got)
     get-of =
         S.read-back box (found k) one g room (bytes k) done-one
-        (one-get h command index (first .flags) (first .command) (first .listed) (first .is-get)) (asks-one h command index (first .flags)) .1
+        (one-get h command index (first .flags) (first .command) (first .listed) (first .is-get)) (one-about-port h command index (first .flags) (first .command) (first .listed)) (asks-one h command index (first .flags)) .1
 
     handled : HandledGet box (found k)
     handled = record { call = one; datagram = g; room = room; done = done-one; got = get-of }

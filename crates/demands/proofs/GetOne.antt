@@ -46,7 +46,8 @@ use Rattle.request.specs.declared.header.Header.the-variants as H
 use Rattle.response.specs.declared.Kind.the-variants.{Done}
 use Rattle.demands.specs.Check.{Check, refuseIf, walks, firstKind}
 use Rattle.demands.specs.Check.Check.{passes}
-use Rattle.demands.specs.Request.{unlisted, isSet, setIn, noPort, namedOtherwise, skipIf, asksDump, admissionChecks, topChecks, portChecks, headerChecks, levelChecks, commandChecks, messageChecks}
+use Rattle.demands.specs.PortChecks.{noPort, namedOtherwise, namedPortChecks}
+use Rattle.demands.specs.Request.{unlisted, isSet, isStrset, setIn, skipIf, asksDump, admissionChecks, topChecks, portChecks, headerChecks, levelChecks, commandChecks, messageChecks}
 use Rattle.demands.specs.Answer.{ackIfAsked}
 use Rattle.demands.specs.Message.{Named}
 use Rattle.demands.specs.Call.{messageOf, endIf, callChecks}
@@ -156,6 +157,10 @@ module _ (h : MessageHeader) (command index flags : ℕ) where
   unfolding isSet
   one-get c listed get = ap (λ (s : List ℕ). isSet (commandOf (byteAt s 16))) message-is ∙ ap (λ (x : ℕ). isSet (commandOf x)) command-is ∙ ap isSet listed ∙ get
 
+  pub one-about-port : (c : Command) → commandOf command ≡ Listed c → isStrset (commandOf (byteAt (messageOf g 0) 16)) ≡ false
+  unfolding isStrset
+  one-about-port c listed = ap (λ (s : List ℕ). isStrset (commandOf (byteAt s 16))) message-is ∙ ap (λ (x : ℕ). isStrset (commandOf x)) command-is ∙ ap isStrset listed
+
   pub no-ack : ackIfAsked (messageOf g 0) (messageHeader g 0) ≡ []
   unfolding getOne ackIfAsked u16At
   no-ack = refl
@@ -193,7 +198,7 @@ module _ (h : MessageHeader) (command index flags : ℕ) where
     unnamed (F.At k) = refl
 
     ports-pass : Done ≡ firstKind Done (portChecks g (box .roll) false (found 24 40) (record { index = found 28 32; name = absent; flags = found 36 40 }) ++ [])
-    unfolding portChecks
+    unfolding portChecks namedPortChecks
     ports-pass =
         row _ _ _ refl
         (row _ _ _ refl
@@ -208,7 +213,7 @@ module _ (h : MessageHeader) (command index flags : ℕ) where
         (row _ _ _ refl (row _ _ _ refl (whole-row _ _ refl ports-pass)))
 
     message-passes : Done ≡ firstKind Done (commandChecks box call g (messageHeader g 0) (Listed c))
-    unfolding commandChecks admissionChecks topParts unlisted isSet
+    unfolding commandChecks admissionChecks topParts unlisted isSet isStrset
     message-passes =
         rw (asks-one, top-walk)
         (passes-row _ _ not-skipped

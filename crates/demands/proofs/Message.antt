@@ -1,4 +1,4 @@
--- Every message comes to one of the five cases.
+-- Every message comes to one of the six cases.
 use Prim.Native.Nat.{ℕ, _%_}
 use mathlib.Core.Path.{_≡_, refl, sym, ap, _∙_}
 use mathlib.Core.List.{List}
@@ -6,6 +6,7 @@ use mathlib.Core.Bool.{Bool, true, false, _||_, not, cond}
 use lib.ListN.{length}
 use lib.Dec.{eqb, ltb}
 use native.Mathlib.Omega.{arith}
+use borrow.Author.Tests.{ltb-false}
 use Rattle.basics.specs.Numbers.{byteAt}
 use Rattle.netlink_attributes.specs.Attributes.{partOf}
 use Rattle.netlink_headers.specs.declared.headers.MessageHeader.{MessageHeader}
@@ -16,7 +17,7 @@ use Rattle.bitset.specs.Judge.{bitsetReading}
 use Rattle.layout.specs.Layout.{listOf}
 use Rattle.boxes.specs.Box.{Box, State}
 use Rattle.boxes.specs.declared.Call.{Call}
-use Rattle.admission.specs.Admission.{isDump, noDump, notPermitted, permitted, onCommand, admitted}
+use Rattle.admission.specs.Admission.{isDump, noDump, notPermitted, permitted, strsetPermitted, onCommand, admitted}
 use Rattle.request.specs.Target.{targetOf}
 use Rattle.admission.specs.Commands.{commandOf}
 use Rattle.request.specs.Top.{topOf}
@@ -26,11 +27,16 @@ use Rattle.request.specs.declared.target.TargetRead.{TargetRead}
 use Rattle.request.specs.declared.target.TargetRead.the-variants as P
 use Rattle.admission.specs.declared.commands.Command.{Command}
 use Rattle.admission.specs.declared.commands.CommandRead.{CommandRead}
-use Rattle.admission.specs.declared.commands.CommandRead.the-variants.{Listed, Unlisted}
+use Rattle.admission.specs.declared.commands.CommandRead.the-variants.{Listed, Strset, Unlisted}
 use Rattle.request.specs.declared.parts.TopParts.{TopParts}
 use Rattle.request.specs.declared.top.Top.{Top}
 use Rattle.request.specs.declared.top.Top.the-variants as T
-use Rattle.response.specs.Answer.{Outcome, responseOf, unchanged}
+use Rattle.response.specs.Answer.{Outcome, responseOf, errorResponse, unchanged}
+use Rattle.strset_request.specs.Asked.{askedOf}
+use Rattle.strset_request.specs.declared.asked.Asked.{Asked}
+use Rattle.strset_request.specs.declared.asked.AskedRead.{AskedRead}
+use Rattle.strset_request.specs.declared.asked.AskedRead.the-variants as Q
+use Rattle.strset.specs.Strset.{strsetContentIn, strsetBytes, contentResponse, askedResponse, strsetResponse}
 use Rattle.response.specs.declared.Kind.the-variants.{Done}
 use Rattle.execute.specs.Execute.{requestOf, getBytes, readingOutcome, setOutcome, portOutcome, targetOutcome, headerOutcome, topOutcome, requestOutcome}
 use Rattle.handler.specs.Call.{onAdmission, messageOutcome}
@@ -38,12 +44,12 @@ use Rattle.demands.specs.Message.{Named}
 use Rattle.demands.specs.CallCase.{MessageCase}
 use Rattle.demands.proofs.Named.{header-gives, dump-gives, dump-unnamed, one-named}
 use Rattle.demands.proofs.Request.{listed-dump, not-both}
-use Rattle.demands.specs.CallCase.MessageCase.{messageSkipped, messageRefused, getDone, dumpDone, setDone}
+use Rattle.demands.specs.CallCase.MessageCase.{messageSkipped, messageRefused, getDone, dumpDone, strsetDone, setDone}
 
 -- a command that is admitted is listed, and is no SET that asks for a dump
 pub go-listed : (m : List ℕ) (h : MessageHeader) (family : ℕ) (admin : Bool) (command : Command) → admitted m h family admin ≡ A.Admitted command
     → (commandOf (byteAt m 16) ≡ Listed command) × (noDump h command ≡ false)
-unfolding admitted permitted
+unfolding admitted permitted strsetPermitted
 go-listed m h family admin command e =
     by (ltb (h .kind) 16 || eqb (h .flags % 2) 0) (not (eqb (h .kind) family)) (ltb (length m) 20) (commandOf (byteAt m 16)) e
   where
@@ -53,16 +59,65 @@ go-listed m h family admin command e =
     admits false true c q e = absurd (let z : _≡_ {A = ℕ} 0 1 = cc in omega arith)
     admits false false c q e = let same : c ≡ command = cc in (same, rw same at q)
 
+    strset-not : (t : Bool) → cond t (A.Refused R.Dump) A.Strset ≡ A.Admitted command → ⊥
+    strset-not true e = let z : _≡_ {A = ℕ} 0 1 = cc in omega arith
+    strset-not false e = let z : _≡_ {A = ℕ} 0 1 = cc in omega arith
+
     by : (a b c : Bool) (x : CommandRead)
-        → cond a A.Skipped (cond b (A.Refused R.Family) (cond c (A.Refused R.Short) (onCommand x (permitted h admin)))) ≡ A.Admitted command
+        → cond a A.Skipped (cond b (A.Refused R.Family) (cond c (A.Refused R.Short) (onCommand x (strsetPermitted h) (permitted h admin)))) ≡ A.Admitted command
         → (x ≡ Listed command) × (noDump h command ≡ false)
     by true b c x e = absurd (let z : _≡_ {A = ℕ} 0 1 = cc in omega arith)
     by false true c x e = absurd (let z : _≡_ {A = ℕ} 0 1 = cc in omega arith)
     by false false true x e = absurd (let z : _≡_ {A = ℕ} 0 1 = cc in omega arith)
     by false false false Unlisted e = absurd (let z : _≡_ {A = ℕ} 0 1 = cc in omega arith)
+    by false false false Strset e = absurd (strset-not (isDump h) e)
     by false false false (Listed c) e = let a = admits (noDump h c) (notPermitted c admin) c refl e in (ap Listed (a .0), a .1)
 
+-- a STRSET_GET that is admitted is no dump
+pub go-strset : (m : List ℕ) (h : MessageHeader) (family : ℕ) (admin : Bool) → admitted m h family admin ≡ A.Strset
+    → (commandOf (byteAt m 16) ≡ Strset) × (isDump h ≡ false)
+unfolding admitted permitted strsetPermitted
+go-strset m h family admin e =
+    by (ltb (h .kind) 16 || eqb (h .flags % 2) 0) (not (eqb (h .kind) family)) (ltb (length m) 20) (commandOf (byteAt m 16)) e
+  where
+    strset : (t : Bool) → isDump h ≡ t → cond t (A.Refused R.Dump) A.Strset ≡ A.Strset → isDump h ≡ false
+    strset true q e = absurd (let z : _≡_ {A = ℕ} 0 1 = cc in omega arith)
+    strset false q e = q
+
+    other : (a b : Bool) (c : Command) → cond a (A.Refused R.Dump) (cond b (A.Refused R.Permission) (A.Admitted c)) ≡ A.Strset → ⊥
+    other true b c e = let z : _≡_ {A = ℕ} 0 1 = cc in omega arith
+    other false true c e = let z : _≡_ {A = ℕ} 0 1 = cc in omega arith
+    other false false c e = let z : _≡_ {A = ℕ} 0 1 = cc in omega arith
+
+    by : (a b c : Bool) (x : CommandRead)
+        → cond a A.Skipped (cond b (A.Refused R.Family) (cond c (A.Refused R.Short) (onCommand x (strsetPermitted h) (permitted h admin)))) ≡ A.Strset
+        → (x ≡ Strset) × (isDump h ≡ false)
+    by true b c x e = absurd (let z : _≡_ {A = ℕ} 0 1 = cc in omega arith)
+    by false true c x e = absurd (let z : _≡_ {A = ℕ} 0 1 = cc in omega arith)
+    by false false true x e = absurd (let z : _≡_ {A = ℕ} 0 1 = cc in omega arith)
+    by false false false Unlisted e = absurd (let z : _≡_ {A = ℕ} 0 1 = cc in omega arith)
+    by false false false Strset e = (refl, strset (isDump h) refl e)
+    by false false false (Listed c) e = absurd (other (noDump h c) (notPermitted c admin) c e)
+
 module _ (box : Box) (state : State) (call : Call) (m : List ℕ) (h : MessageHeader) (next : ℕ) where
+  strset-case : admitted m h (call .family) (eqb (call .admin) 1) ≡ A.Strset → MessageCase box state call m h next (unchanged (strsetResponse box m h next) state)
+  unfolding strsetResponse contentResponse
+  strset-case admit =
+      let l = go-strset m h (call .family) (eqb (call .admin) 1) admit in
+      go (l .0) (l .1) (askedOf m (box .roll)) refl
+    where
+      by : commandOf (byteAt m 16) ≡ Strset → isDump h ≡ false → (asked : Asked) → askedOf m (box .roll) ≡ Q.Asked asked
+          → (t : Bool) → ltb 32768 (length (strsetBytes m h (strsetContentIn box asked))) ≡ t
+          → MessageCase box state call m h next
+          (unchanged (cond t (errorResponse m next R.LongReply) (responseOf Done next (strsetBytes m h (strsetContentIn box asked)))) state)
+      by listed one asked q true e = messageRefused R.LongReply refl
+      by listed one asked q false e = strsetDone one listed asked q (ltb-false 32768 (length (strsetBytes m h (strsetContentIn box asked))) e) refl
+
+      go : commandOf (byteAt m 16) ≡ Strset → isDump h ≡ false → (x : AskedRead) → askedOf m (box .roll) ≡ x
+          → MessageCase box state call m h next (unchanged (askedResponse x box m h next) state)
+      go listed one (Q.Refused why) q = messageRefused why refl
+      go listed one (Q.Asked asked) q = by listed one asked q (ltb 32768 (length (strsetBytes m h (strsetContentIn box asked)))) refl
+
   module _ (one : isDump h ≡ false) (n : Named (box .roll) m) where
     set-case : n .command .change ≡ true → MessageCase box state call m h next (setOutcome box state m (requestOf call h next (n .command)) (n .parts .bitset) (n .target .position))
     unfolding setOutcome
@@ -150,4 +205,5 @@ module _ (box : Box) (state : State) (call : Call) (m : List ℕ) (h : MessageHe
           → MessageCase box state call m h next (onAdmission a box state call m h next)
       go A.Skipped e = messageSkipped refl
       go (A.Refused why) e = messageRefused why refl
+      go A.Strset e = strset-case e
       go (A.Admitted command) e = let l = go-listed m h (call .family) (eqb (call .admin) 1) command e in request-case command (l .0) (l .1)

@@ -17,7 +17,7 @@ use Rattle.roll.specs.Name.{holdsName}
 use Rattle.roll.specs.Record.{portCount, portAt, indexOf, nameOf}
 use Rattle.roll.specs.Find.{hasIndex, hasName, findPort, foundByIndex, foundByName}
 use Rattle.roll.specs.declared.find.Found.the-variants as F
-use Rattle.demands.specs.Request.{noPort}
+use Rattle.demands.specs.PortChecks.{noPort}
 
 module _ (f : ℕ → Bool) where
   -- the first number of which f holds is at most the bound

@@ -133,7 +133,7 @@ module _ (roll m : List ℕ) (nest : Slot) (header : HeaderParts) (position : �
           let same : k ≡ position = cc in
           (rw same at (is .0), λ p. absurd (clash p no-index), λ p. rw same at (is .1))
 
-  port-has : portOf m nest header roll ≡ T.Port position → Has
+  pub port-has : portOf m nest header roll ≡ T.Port position → Has
   unfolding portOf
   port-has = go (header .index .present) refl
     where

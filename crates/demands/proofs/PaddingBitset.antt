@@ -68,7 +68,7 @@ module _ (s t : List ℕ) (size : length s ≡ length t) (names : List ℕ) (fro
       ∙ sym (by-walk s names from)
 
 -- under the policy of BITS only a BIT is right
-bits-kind : (kind bits : ℕ) (payload : List ℕ) → judged (ruleOf bitsPolicy kind) bits payload ≡ Right → kind ≡ 1
+pub bits-kind : (kind bits : ℕ) (payload : List ℕ) → judged (ruleOf bitsPolicy kind) bits payload ≡ Right → kind ≡ 1
 unfolding judged ruleOf
 bits-kind zero bits x e = absurd (let z : _≡_ {A = ℕ} 0 1 = cc in omega arith)
 bits-kind (suc zero) bits x e = refl
@@ -81,7 +81,7 @@ bits-kind (suc (suc (suc (suc (suc (suc (suc zero))))))) bits x e = absurd (let 
 bits-kind (suc (suc (suc (suc (suc (suc (suc (suc k)))))))) bits x e = absurd (let z : _≡_ {A = ℕ} 0 1 = cc in omega arith)
 
 -- how the payloads of BITS agree
-abbrev bitsPayloads : List ℕ → List ℕ → Payloads
+abbrev pub bitsPayloads : List ℕ → List ℕ → Payloads
 bitsPayloads s t kind start end = NestOf 1 kind (PlainAgrees (partOf s 0 end) (partOf t 0 end) start) (SameBytes s t start end)
 
 -- the BITs of a list from a position on, under NOMASK or not
@@ -90,7 +90,7 @@ listAt names nomask m from = onStop (walked bitsPolicy m from .stop) refused (as
 
 -- a bit list
 module _ (s t : List ℕ) (size : length s ≡ length t) (names : List ℕ) where
-  bits-judged : (kind start end : ℕ) → bitsPayloads s t kind start end → JudgedAlike (ruleOf bitsPolicy kind) (partOf t start end) (partOf s start end)
+  pub bits-judged : (kind start end : ℕ) → bitsPayloads s t kind start end → JudgedAlike (ruleOf bitsPolicy kind) (partOf t start end) (partOf s start end)
   unfolding ruleOf
   bits-judged kind start end q =
       nest-or bitsPolicy 1 kind (partOf t start end) (partOf s start end) (nest-judged (partOf t start end) (partOf s start end))

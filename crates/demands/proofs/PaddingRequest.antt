@@ -27,6 +27,7 @@ use Rattle.request.specs.Top.{nestsOf, topOf}
 use Rattle.request.specs.Header.{flagsJudged, partsOf, dumpPartsOf, judgedParts, headerOf}
 use Rattle.request.specs.Port.{otherName, portByIndex, portByName, portOf}
 use Rattle.request.specs.Target.{withFlags, onHeader, targetOf}
+use Rattle.request.specs.Optional.{givesPort, optionalHeaderOf, optionalTargetOf}
 use Rattle.request.specs.declared.parts.HeaderParts.{HeaderParts}
 use Rattle.request.specs.declared.parts.TopParts.{TopParts}
 use Rattle.request.specs.declared.header.Header.{Header}
@@ -44,6 +45,10 @@ use Rattle.demands.proofs.PaddingBitset.{bitset-same}
 -- the port that the parts of a header name, or in a dump none
 abbrev named : List ℕ → Slot → Bool → List ℕ → HeaderParts → ℕ → TargetRead
 named m header dump roll parts flags = cond dump (Unnamed flags) (withFlags (portOf m header parts roll) flags)
+
+-- the port that they name, if they name one
+abbrev optional : List ℕ → Slot → List ℕ → HeaderParts → ℕ → TargetRead
+optional m header roll parts flags = cond (givesPort parts) (withFlags (portOf m header parts roll) flags) (Unnamed flags)
 
 -- the parts of a header, whose flags and port are read where they stand in the message
 module _ (s t roll : List ℕ) (header : Slot) (p : HeaderParts)
@@ -84,6 +89,16 @@ module _ (s t roll : List ℕ) (header : Slot) (p : HeaderParts)
       by true = all given (ltb 3 number)
       by false = one (not given) (ltb 3 number)
 
+  -- where it may name no port
+  optional-parts-same : onHeader (flagsJudged t p) (optional t header roll) ≡ onHeader (flagsJudged s p) (optional s header roll)
+  unfolding flagsJudged
+  optional-parts-same = rw (plain-number s t (p .flags) flags) (by (ltb 3 number))
+    where
+      by : (b : Bool) → onHeader (cond b (H.Refused (R.HeaderFlag (p .flags .start - 4))) (H.Parts p number)) (optional t header roll)
+          ≡ onHeader (cond b (H.Refused (R.HeaderFlag (p .flags .start - 4))) (H.Parts p number)) (optional s header roll)
+      by true = refl
+      by false = ap (λ (x : PortRead). cond (givesPort p) (withFlags x number) (Unnamed number)) port-same
+
 -- the header nest, from a to e
 module _ (s t : List ℕ) (size : length s ≡ length t) (dump : Bool) (roll : List ℕ) (a e : ℕ) (inside : e ≤ length s)
     (agree : PlainAgrees (partOf s 0 e) (partOf t 0 e) a) where
@@ -115,6 +130,24 @@ module _ (s t : List ℕ) (size : length s ≡ length t) (dump : Bool) (roll : L
     where
       go : (x : Stop) (f g : Header) → (x ≡ Whole → onHeader f (named t (found a e) dump roll) ≡ onHeader g (named s (found a e) dump roll))
           → onHeader (onStop x H.Refused f) (named t (found a e) dump roll) ≡ onHeader (onStop x H.Refused g) (named s (found a e) dump roll)
+      go Whole f g q = q refl
+      go (At fault at) f g q = refl
+
+  pub optional-same : optionalTargetOf t (found a e) roll ≡ optionalTargetOf s (found a e) roll
+  unfolding optionalTargetOf optionalHeaderOf headerParts
+  optional-same =
+      let w = walked headerPolicy c a in
+      ap (λ (x : Walked). onHeader (onWalk x H.Refused (λ slots. flagsJudged t (headerParts slots))) (optional t (found a e) roll))
+      (walked-same c d (cut-long s t size e inside) (plainPayloads c d) headerPolicy
+      (λ kind start end q. same-judged c d (ruleOf headerPolicy kind) start end q) a agree)
+      ∙ go (w .stop) (flagsJudged t (headerParts (w .slots))) (flagsJudged s (headerParts (w .slots)))
+      (λ (whole : w .stop ≡ Whole).
+      let slot = slot-agrees c d (cut-long s t size e inside) (plainPayloads c d) headerPolicy a agree whole in
+      optional-parts-same s t roll (found a e) (headerParts (w .slots))
+      (in-message (slot 1 (omega arith))) (in-message (slot 2 (omega arith))) (in-message (slot 3 (omega arith))))
+    where
+      go : (x : Stop) (f g : Header) → (x ≡ Whole → onHeader f (optional t (found a e) roll) ≡ onHeader g (optional s (found a e) roll))
+          → onHeader (onStop x H.Refused f) (optional t (found a e) roll) ≡ onHeader (onStop x H.Refused g) (optional s (found a e) roll)
       go Whole f g q = q refl
       go (At fault at) f g q = refl
 

@@ -26,7 +26,7 @@ use Rattle.boxes.specs.Box.{Box, State, portsIn}
 use Rattle.boxes.specs.declared.Call.{Call}
 use Rattle.layout.specs.declared.Set.{Set}
 use Rattle.layout.specs.declared.Set.the-variants.{Debug, Flags}
-use Rattle.admission.specs.Admission.{isDump, noDump, notPermitted, permitted, onCommand, admitted}
+use Rattle.admission.specs.Admission.{isDump, noDump, notPermitted, permitted, strsetPermitted, onCommand, admitted}
 use Rattle.request.specs.Target.{withFlags, onHeader, targetOf}
 use Rattle.admission.specs.Commands.{commandRow, commandIn, commandOf}
 use Rattle.request.specs.Header.{flagsJudged, partsOf, dumpPartsOf, judgedParts, headerOf}
@@ -41,7 +41,7 @@ use Rattle.admission.specs.declared.Admission.{Admission}
 use Rattle.admission.specs.declared.Admission.the-variants as A
 use Rattle.admission.specs.declared.commands.Command.{Command}
 use Rattle.admission.specs.declared.commands.CommandRead.{CommandRead}
-use Rattle.admission.specs.declared.commands.CommandRead.the-variants.{Listed, Unlisted}
+use Rattle.admission.specs.declared.commands.CommandRead.the-variants.{Listed, Strset, Unlisted}
 use Rattle.request.specs.declared.header.Header.{Header}
 use Rattle.request.specs.declared.header.Header.the-variants as H
 use Rattle.request.specs.declared.port.PortRead.{PortRead}
@@ -61,9 +61,13 @@ use Rattle.response.specs.declared.Kind.the-variants.{Done, Refused}
 use Rattle.demands.specs.Check.{Check, refuseIf, walkChecks, firstKind}
 use Rattle.demands.specs.Check.Check.{skips}
 use Rattle.demands.specs.Bitset.{bitsetChecks}
-use Rattle.demands.specs.Request.{unlisted, isSet, setIn, noPort, namedOtherwise, skipIf, asksDump, admissionChecks, topChecks, portChecks, headerChecks, levelChecks, commandChecks, messageChecks}
+use Rattle.demands.specs.PortChecks.{noPort, namedOtherwise, namedPortChecks}
+use Rattle.demands.specs.Strset.{strsetChecks}
+use Rattle.demands.specs.Request.{unlisted, isSet, isStrset, setIn, skipIf, asksDump, admissionChecks, topChecks, portChecks, headerChecks, levelChecks, commandChecks, messageChecks}
 use Rattle.demands.proofs.First.{step, stop-step, passed-step, walk-step, pass, fault, skip, no-more}
 use Rattle.demands.proofs.Bitset.{kindOf, bitset-first}
+use Rattle.demands.proofs.PortRows.{target-first}
+use Rattle.demands.proofs.Strset.{strset-first}
 
 abbrev pub kind : Outcome State → Kind
 kind o = o .response .kind
@@ -71,22 +75,31 @@ kind o = o .response .kind
 -- a listed command is a SET exactly where it may not be dumped
 pub listed-dump : (n : ℕ) (command : Command) → commandOf n ≡ Listed command → not (command .dump) ≡ command .change
 unfolding commandOf commandIn
-listed-dump n command = go (eqb 7 n) (eqb 8 n) (eqb 13 n) (eqb 14 n)
+listed-dump n command = go (eqb 1 n) (eqb 7 n) (eqb 8 n) (eqb 13 n) (eqb 14 n)
   where
     by : (x : Command) → not (x .dump) ≡ x .change → Listed x ≡ Listed command → not (command .dump) ≡ command .change
     by x q e = let same : x ≡ command = cc in rw same at q
 
-    go : (a b c d : Bool)
-        → cond a (Listed (commandRow 7 false Debug 7 true))
+    go : (z a b c d : Bool)
+        → cond z Strset (cond a (Listed (commandRow 7 false Debug 7 true))
         (cond b (Listed (commandRow 8 true Debug 7 false))
-        (cond c (Listed (commandRow 13 false Flags 14 true)) (cond d (Listed (commandRow 14 true Flags 14 false)) Unlisted)))
+        (cond c (Listed (commandRow 13 false Flags 14 true)) (cond d (Listed (commandRow 14 true Flags 14 false)) Unlisted))))
         ≡ Listed command
         → not (command .dump) ≡ command .change
-    go true b c d e = by (commandRow 7 false Debug 7 true) refl e
-    go false true c d e = by (commandRow 8 true Debug 7 false) refl e
-    go false false true d e = by (commandRow 13 false Flags 14 true) refl e
-    go false false false true e = by (commandRow 14 true Flags 14 false) refl e
-    go false false false false e = absurd (let z : _≡_ {A = ℕ} 0 1 = cc in omega arith)
+    go true a b c d e = absurd (let z : _≡_ {A = ℕ} 0 1 = cc in omega arith)
+    go false true b c d e = by (commandRow 7 false Debug 7 true) refl e
+    go false false true c d e = by (commandRow 8 true Debug 7 false) refl e
+    go false false false true d e = by (commandRow 13 false Flags 14 true) refl e
+    go false false false false true e = by (commandRow 14 true Flags 14 false) refl e
+    go false false false false false e = absurd (let z : _≡_ {A = ℕ} 0 1 = cc in omega arith)
+
+or-false : (b : Bool) → b || false ≡ b
+or-false true = refl
+or-false false = refl
+
+and-true : (b : Bool) → b && true ≡ b
+and-true true = refl
+and-true false = refl
 
 -- what is not both
 pub not-both : (a b : Bool) → a && b ≡ false → a ≡ true → b ≡ false
@@ -138,49 +151,19 @@ module _ (box : Box) (state : State) (call : Call) (m : List ℕ) (h : MessageHe
 
     -- 16 and 17
     module _ (header : Slot) (parts : HeaderParts) (flags : ℕ) where
-      abbrev targeted : PortRead → Kind
+      targeted : PortRead → Kind
       targeted port = kind (targetOutcome (withFlags port flags) box state m request (portOutcome box state m request bitset))
 
-      port-first : (p : ℕ) → targeted (P.Port p) ≡ firstKind Done rest
-      unfolding withFlags
-      port-first p = port-outcome-first (record { position = p; flags = flags })
-
-      refused-by : (why : Refusal) → targeted (P.Refused why) ≡ Refused why
-      unfolding withFlags
-      refused-by why = refl
-
-      index-first : (found : Found)
-          → targeted
-          (onFound found (P.Refused (R.UnknownPort (parts .index .start - 4)))
-          (λ k. cond (otherName m (parts .name) (box .roll) k) (P.Refused (R.OtherName (header .start - 4))) (P.Port k)))
-          ≡ firstKind Done
-          (refuseIf (noPort found) (R.UnknownPort (parts .index .start - 4))
-          ∷ refuseIf false (R.UnknownPort (parts .name .start - 4))
-          ∷ refuseIf (namedOtherwise m (parts .name) (box .roll) found) (R.OtherName (header .start - 4))
-          ∷ rest)
-      unfolding noPort namedOtherwise otherName
-      index-first F.Nothing = refused-by _ ∙ fault Done _ _
-      index-first (F.At k) =
-          pass Done _ _ _ (pass Done _ _ _ (step targeted Done (otherName m (parts .name) (box .roll) k) _ _ _ _ (refused-by _) (port-first k)))
-
-      name-first : (found : Found)
-          → targeted (onFound found (P.Refused (R.UnknownPort (parts .name .start - 4))) P.Port)
-          ≡ firstKind Done (refuseIf (noPort found) (R.UnknownPort (parts .name .start - 4)) ∷ refuseIf false (R.OtherName (header .start - 4)) ∷ rest)
-      unfolding noPort
-      name-first F.Nothing = refused-by _ ∙ fault Done _ _
-      name-first (F.At k) = pass Done _ _ _ (pass Done _ _ _ (port-first k))
-
-      target-first : (t n : Bool) → t || n ≡ true
-          → targeted (cond t (portByIndex m header parts (box .roll)) (portByName m (parts .name) (box .roll)))
+      port-rows : (t n : Bool) → t || n ≡ true
+          → kind (targetOutcome (withFlags (cond t (portByIndex m header parts (box .roll)) (portByName m (parts .name) (box .roll))) flags) box state m request (portOutcome box state m request bitset))
           ≡ firstKind Done
           (refuseIf (t && noPort (foundByIndex (box .roll) (slotNumber m (parts .index)))) (R.UnknownPort (parts .index .start - 4))
           ∷ refuseIf (not t && (n && noPort (foundByName (box .roll) (partOf m (parts .name .start) (parts .name .end))))) (R.UnknownPort (parts .name .start - 4))
           ∷ refuseIf (t && namedOtherwise m (parts .name) (box .roll) (foundByIndex (box .roll) (slotNumber m (parts .index)))) (R.OtherName (header .start - 4))
           ∷ rest)
-      unfolding portByIndex portByName
-      target-first true n e = index-first (foundByIndex (box .roll) (slotNumber m (parts .index)))
-      target-first false false e = absurd (clash e refl)
-      target-first false true e = pass Done _ _ _ (name-first (foundByName (box .roll) (partOf m (parts .name .start) (parts .name .end))))
+      unfolding targeted withFlags
+      port-rows t n e =
+          target-first m (box .roll) header parts Done targeted rest (λ why. refl) (λ p. port-outcome-first (record { position = p; flags = flags })) t n e
 
   -- the header level of a request that is no dump
   module _ (command : Command) (top : TopParts) where
@@ -191,7 +174,7 @@ module _ (box : Box) (state : State) (call : Call) (m : List ℕ) (h : MessageHe
     below dump = headerChecks m (box .roll) dump (top .header) ++ after (command .change) (command .set) (top .bitset)
 
     one-first : kind (targets (targetOf m (top .header) false (box .roll))) ≡ firstKind Done (below false)
-    unfolding targetOf headerOf partsOf flagsJudged portOf headerChecks portChecks
+    unfolding targetOf headerOf partsOf flagsJudged portOf headerChecks portChecks namedPortChecks
     one-first =
         let nest = walked headerPolicy (partOf m 0 (top .header .end)) (top .header .start) in
         let parts = headerParts (nest .slots) in
@@ -201,7 +184,7 @@ module _ (box : Box) (state : State) (call : Call) (m : List ℕ) (h : MessageHe
         (pass Done _ _ _
         (passed-step headed Done (not given) _ _ _ _ refl
         (λ e. step headed Done _ _ _ _ _ refl
-        (target-first command (top .bitset) (top .header) parts (slotNumber m (parts .flags)) (parts .index .present) (parts .name .present) (not-false given e)))))
+        (port-rows command (top .bitset) (top .header) parts (slotNumber m (parts .flags)) (parts .index .present) (parts .name .present) (not-false given e)))))
       where
         headed : Header → Kind
         headed hd = kind (targets (onHeader hd (λ parts flags. withFlags (portOf m (top .header) parts (box .roll)) flags)))
@@ -215,7 +198,7 @@ module _ (box : Box) (state : State) (call : Call) (m : List ℕ) (h : MessageHe
     no-rows false false false x y z a b c get none = pass Done _ _ _ (pass Done _ _ _ (pass Done _ _ _ (no-more Done)))
 
     dump-first : command .change ≡ false → kind (targets (targetOf m (top .header) true (box .roll))) ≡ firstKind Done (below true)
-    unfolding targetOf headerOf dumpPartsOf flagsJudged headerChecks portChecks
+    unfolding targetOf headerOf dumpPartsOf flagsJudged headerChecks portChecks namedPortChecks
     dump-first get =
         let nest = walked headerPolicy (partOf m 0 (top .header .end)) (top .header .start) in
         let parts = headerParts (nest .slots) in
@@ -241,11 +224,11 @@ module _ (box : Box) (state : State) (call : Call) (m : List ℕ) (h : MessageHe
 
   -- the top level
   abbrev levels : CommandRead → List Check
-  levels command = walkChecks (walked (topPolicy (isSet command)) m 20) (λ slots. levelChecks box m (asksDump h) command (topParts slots))
+  levels command = cond (isStrset command) (strsetChecks box m h) (walkChecks (walked (topPolicy (isSet command)) m 20) (λ slots. levelChecks box m (asksDump h) command (topParts slots)))
 
   level-first : (command : Command) → (isDump h ≡ true → command .change ≡ false)
       → kind (requestOutcome box state m (requestOf call h next command)) ≡ firstKind Done (levels (Listed command))
-  unfolding requestOutcome topOf nestsOf levelChecks topChecks isSet setIn
+  unfolding requestOutcome topOf nestsOf levelChecks topChecks isSet isStrset setIn
   level-first command get =
       let top = walked (topPolicy (command .change)) m 20 in
       walk-step topped Done (top .stop) (λ stop. onStop stop T.Refused (nestsOf (command .change) (topParts (top .slots)))) _
@@ -262,24 +245,32 @@ module _ (box : Box) (state : State) (call : Call) (m : List ℕ) (h : MessageHe
   permitted-first : (command : Command) → not (command .dump) ≡ command .change
       → admission (permitted h (eqb (call .admin) 1) command)
       ≡ firstKind Done
-      (refuseIf (asksDump h && command .change) R.Dump
+      (refuseIf (asksDump h && (command .change || false)) R.Dump
       ∷ refuseIf (command .change && not (eqb (call .admin) 1)) R.Permission
       ∷ levels (Listed command))
   unfolding permitted noDump notPermitted asksDump isDump
   permitted-first command set =
-      rw set
+      rw (set, or-false (command .change))
       (passed-step admission Done (isDump h && command .change) _ _ _ _ refl
       (λ e. step admission Done _ _ _ _ _ refl (level-first command (not-both (isDump h) (command .change) e))))
 
+  -- STRSET_GET
+  strset-kind : admission (strsetPermitted h) ≡ firstKind Done (refuseIf (asksDump h && true) R.Dump ∷ refuseIf false R.Permission ∷ strsetChecks box m h)
+  unfolding strsetPermitted asksDump isDump
+  strset-kind =
+      rw (and-true (eqb (h .flags / 256 % 4) 3))
+      (step admission Done (eqb (h .flags / 256 % 4) 3) R.Dump (A.Refused R.Dump) A.Strset _ refl (pass Done _ _ _ (strset-first box m h next)))
+
   command-first : (c : CommandRead) → commandOf (byteAt m 16) ≡ c
-      → admission (onCommand c (permitted h (eqb (call .admin) 1)))
+      → admission (onCommand c (strsetPermitted h) (permitted h (eqb (call .admin) 1)))
       ≡ firstKind Done
       (refuseIf (unlisted c) R.Command
-      ∷ refuseIf (asksDump h && isSet c) R.Dump
+      ∷ refuseIf (asksDump h && (isSet c || isStrset c)) R.Dump
       ∷ refuseIf (isSet c && not (eqb (call .admin) 1)) R.Permission
       ∷ levels c)
-  unfolding unlisted isSet
+  unfolding unlisted isSet isStrset
   command-first Unlisted listed = fault Done _ _
+  command-first Strset listed = pass Done _ _ _ strset-kind
   command-first (Listed command) listed = pass Done _ _ _ (permitted-first command (listed-dump (byteAt m 16) command listed))
 
   admitted-first : admission (admitted m h (call .family) (eqb (call .admin) 1)) ≡ firstKind Done (commandChecks box call m h (commandOf (byteAt m 16)))
@@ -288,7 +279,7 @@ module _ (box : Box) (state : State) (call : Call) (m : List ℕ) (h : MessageHe
       let skipped = ltb (h .kind) 16 || eqb (h .flags % 2) 0 in
       let other = not (eqb (h .kind) (call .family)) in
       let short = ltb (length m) 20 in
-      let rest = onCommand (commandOf (byteAt m 16)) (permitted h (eqb (call .admin) 1)) in
+      let rest = onCommand (commandOf (byteAt m 16)) (strsetPermitted h) (permitted h (eqb (call .admin) 1)) in
       stop-step admission Done skipped skips A.Skipped (cond other (A.Refused R.Family) (cond short (A.Refused R.Short) rest)) _ (skip Done _)
       (step admission Done other R.Family (A.Refused R.Family) (cond short (A.Refused R.Short) rest) _ refl
       (step admission Done short R.Short (A.Refused R.Short) rest _ refl (command-first (commandOf (byteAt m 16)) refl)))

@@ -11,9 +11,10 @@
 --     run-ends         so a run over a datagram ends, wherever it starts
 --     effect           a done SET: the named set of the named port is what `effect` makes of it, every other byte is as before
 --     read-back        a done GET: every byte of the settings stays, and the reply's bitset makes the stored set of every starting set
+--     strset-done      a done STRSET_GET: every byte of the settings stays, and the reply, read by a client, tells each asked set once and in order, with every entry
 --     box-kept         a right box stays right, whatever is asked
 --     bytes-kept       settings that are bytes stay bytes
---     bytes-counted    what is written is whole messages, each as long as it states, and never more than 24,684 bytes
+--     bytes-counted    what is written is whole messages, each as long as it states, and never more than 24,684 bytes, of a STRSET_GET 32,768
 --     set-alike        a SET that comes to its bitset is done where the normaliser answers 0, and refused by the number by which that refuses
 use Prim.Native.Nat.{ℕ, suc, _+_, _*_, _/_, _%_, _≤_, _<_}
 use mathlib.Core.Path.{_≡_, refl, sym, ap, _∙_}
@@ -44,17 +45,17 @@ use Rattle.response.specs.Answer.{Outcome, Response, noBytes, unchanged}
 use Rattle.response.specs.declared.Kind.the-variants.{End, Skipped, Done, Refused}
 use Rattle.handler.specs.Call.{outcome, endsRun}
 use Rattle.handler.specs.Bytes.{Stored, inWords, asStored, wordsOutcome, areWords, bytesOutcome}
-use Rattle.demands.specs.Answer.{refusalBytes, Counted}
+use Rattle.demands.specs.Answer.{refusalBytes, CountedTo, longestAnswer}
 use Rattle.demands.specs.Check.{Check, refuseIf, firstKind, AllPass, FirstIs}
 use Rattle.demands.specs.Call.{messageOf, nextOf, callChecks, tellsPort, nextAfter, placeAfter}
 use Rattle.demands.specs.Message.{Named}
 use Rattle.demands.specs.Normaliser.{AnsweredAlike}
-use Rattle.demands.specs.Request.{isSet, asksDump}
+use Rattle.demands.specs.Request.{isSet, isStrset, asksDump}
 use Rattle.demands.specs.Run.{MovesOn, endsWithin}
-use Rattle.demands.specs.Done.{DoneSet, DoneGet, DoneDump}
+use Rattle.demands.specs.Done.{DoneSet, DoneGet, DoneDump, DoneStrset}
 use Rattle.demands.specs.Stored.{storedRight, asWords, DoneSetStored}
 use Rattle.demands.proofs.First.{first-done, done-first, first-refused, refused-first}
-use Rattle.demands.proofs.Count.{none-counted}
+use Rattle.demands.proofs.Count.{none-counted, within-longest}
 use Rattle.demands.proofs.Demand1 as D1
 use Rattle.demands.proofs.Demand2 as D2
 use Rattle.demands.proofs.Exact as E
@@ -148,12 +149,12 @@ module _ (box : Box) (stored : Stored) (call : Call) (datagram : List ℕ) (room
   refused-exactly why = (λ e. first-refused why checks (sym exact ∙ e), λ f. exact ∙ refused-first why f)
 
   -- the response alone
-  pub bytes-counted : Counted (o .response .bytes)
+  pub bytes-counted : CountedTo (longestAnswer (isStrset (commandOf (byteAt m 16)))) (o .response .bytes)
   bytes-counted = by stored-case
     where
-      by : Case → Counted (o .response .bytes)
+      by : Case → CountedTo (longestAnswer (isStrset (commandOf (byteAt m 16)))) (o .response .bytes)
       by (whole e right q) = rw (ap (λ (r : Response). r .bytes) (response-is q)) (D2.bytes-counted box (inWords stored) call datagram room)
-      by (broken wrong q) = rw (ap (λ (r : Response). r .bytes) (response-of q)) none-counted
+      by (broken wrong q) = rw (ap (λ (r : Response). r .bytes) (response-of q)) (within-longest _ none-counted)
 
   pub last-in-place : endsRun (o .response .kind) ≡ true → o .response .next ≡ position
   last-in-place = by stored-case
@@ -299,9 +300,14 @@ module _ (box : Box) (stored : Stored) (call : Call) (datagram : List ℕ) (room
       pub effect : isSet (commandOf (byteAt m 16)) ≡ true → DoneSetStored box stored call m h o
       effect request = stored-done (rw as-words (D2.effect box (inWords stored) call datagram room done-words request))
 
-      pub read-back : isSet (commandOf (byteAt m 16)) ≡ false → asksDump h ≡ false → (o .state ≡ stored) × DoneGet box (inWords stored) m h (asWords o)
-      read-back request one =
-          let d = D2.read-back box (inWords stored) call datagram room done-words request one in
+      pub read-back : isSet (commandOf (byteAt m 16)) ≡ false → isStrset (commandOf (byteAt m 16)) ≡ false → asksDump h ≡ false → (o .state ≡ stored) × DoneGet box (inWords stored) m h (asWords o)
+      read-back request other one =
+          let d = D2.read-back box (inWords stored) call datagram room done-words request other one in
+          (kept (right-whole box stored call right) is-words (d .keeps), rw as-words d)
+
+      pub strset-done : isStrset (commandOf (byteAt m 16)) ≡ true → (o .state ≡ stored) × DoneStrset box (inWords stored) m h (asWords o)
+      strset-done request =
+          let d = D2.strset-done box (inWords stored) call datagram room done-words request in
           (kept (right-whole box stored call right) is-words (d .keeps), rw as-words d)
 
       pub dump : asksDump h ≡ true → (o .state ≡ stored) × DoneDump box (inWords stored) call m h (nextOf datagram position) (asWords o)

@@ -1,6 +1,6 @@
 -- The tables as document 01 has them.
 --     refusals-are    number, errno and detail of each refusal
---     commands-are    the four commands, and no other
+--     commands-are    the five commands, and no other
 --     kinds-are       the numbers of the kinds
 use Prim.Native.Nat.{ℕ}
 use mathlib.Core.Path.{refl, sym}
@@ -44,13 +44,14 @@ pub commands-are : CommandTable
 unfolding commandOf commandIn
 commands-are =
     record {
+      strset-get = refl;
       debug-get = refl;
       debug-set = refl;
       privflags-get = refl;
       privflags-set = refl;
       others =
-          λ n a b c d. rw
-          (ne-eqb 7 n (λ e. a (sym e)), ne-eqb 8 n (λ e. b (sym e)), ne-eqb 13 n (λ e. c (sym e)), ne-eqb 14 n (λ e. d (sym e)));
+          λ n z a b c d. rw
+          (ne-eqb 1 n (λ e. z (sym e)), ne-eqb 7 n (λ e. a (sym e)), ne-eqb 8 n (λ e. b (sym e)), ne-eqb 13 n (λ e. c (sym e)), ne-eqb 14 n (λ e. d (sym e)));
     }
 
 pub kinds-are : (why : Refusal) → KindTable why

@@ -2,7 +2,7 @@
 use Prim.Native.Nat.{ℕ, _/_, _%_, _≤_}
 use mathlib.Core.Path.{_≡_}
 use mathlib.Core.List.{List, [], _∷_, _++_}
-use mathlib.Core.Bool.{cond}
+use mathlib.Core.Bool.{Bool, cond}
 use lib.ListN.{length, take, drop}
 use lib.Dec.{eqb, ltb}
 use Rattle.basics.specs.Numbers.{le16, le32, u32At}
@@ -33,8 +33,16 @@ pub data Messages : List ℕ → Type 0 where
   none : Messages []
   next : (message rest : List ℕ) → 16 ≤ length message → u32At message 0 ≡ length message → Messages rest → Messages (message ++ rest)
 
--- "the count being the stated messages' summed lengths": whole messages, whole words, and never more than the longest reply with its ACK
-pub record Counted (bytes : List ℕ) : Type 0 where
+-- "the count being the stated messages' summed lengths": whole messages, whole words, and never more than so many bytes
+pub record CountedTo (limit : ℕ) (bytes : List ℕ) : Type 0 where
   pub messages : Messages bytes
   pub words : length bytes % 4 ≡ 0
-  pub most : length bytes ≤ 24684
+  pub most : length bytes ≤ limit
+
+-- never more than the longest reply of a GET with its ACK
+abbrev pub Counted : List ℕ → Type 0
+Counted bytes = CountedTo 24684 bytes
+
+-- the longest answer: of a STRSET_GET 32,768 bytes (request C-13), else that
+unfoldable pub longestAnswer : Bool → ℕ
+longestAnswer strset = cond strset 32768 24684

@@ -12,7 +12,13 @@ use Rattle.response.specs.Answer.{Outcome, responseOf, noBytes, errorResponse, 
 use Rattle.execute.specs.Execute.{requestOf, withEffect, getBytes, dumpResponse}
 use Rattle.response.specs.declared.Kind.the-variants.{Skipped, Done, End, Refused}
 use lib.ListN.{length}
-use Rattle.basics.specs.Numbers.{u32At}
+use Rattle.basics.specs.Numbers.{u32At, byteAt}
+use Rattle.admission.specs.Commands.{commandOf}
+use Rattle.admission.specs.declared.commands.CommandRead.the-variants.{Strset}
+use Rattle.strset_request.specs.Asked.{askedOf}
+use Rattle.strset_request.specs.declared.asked.Asked.{Asked}
+use Rattle.strset_request.specs.declared.asked.AskedRead.the-variants as A
+use Rattle.strset.specs.Strset.{strsetContentIn, strsetBytes}
 use Rattle.netlink_headers.specs.Headers.{messageHeader}
 use Rattle.refusal.specs.Refusal.{numberOf}
 use Rattle.boxes.specs.declared.Call.{Call}
@@ -22,7 +28,7 @@ use Rattle.demands.specs.Request.{messageChecks}
 use Rattle.demands.specs.Call.{messageOf, nextOf}
 use Rattle.demands.specs.Message.{Named, DumpAsked, Carries}
 
--- what a message comes to: nothing for a skipped one, an error message, a reply, a message of a dump, or a change of one set of one port
+-- what a message comes to: nothing for a skipped one, an error message, a reply, a message of a dump, name lists, or a change of one set of one port
 pub data MessageCase (box : Box) (state : State) (call : Call) (m : List ℕ) (h : MessageHeader) (next : ℕ) (o : Outcome State) : Type 0 where
   messageSkipped : o ≡ unchanged (noBytes Skipped next) state → MessageCase box state call m h next o
   messageRefused : (why : Refusal) → o ≡ unchanged (errorResponse m next why) state → MessageCase box state call m h next o
@@ -31,6 +37,9 @@ pub data MessageCase (box : Box) (state : State) (call : Call) (m : List ℕ) (h
       → MessageCase box state call m h next o
   dumpDone : isDump h ≡ true → (d : DumpAsked m) → o ≡ unchanged (dumpResponse box state (requestOf call h next (d .command)) (d .flags)) state
       → MessageCase box state call m h next o
+  strsetDone : isDump h ≡ false → commandOf (byteAt m 16) ≡ Strset → (asked : Asked) → askedOf m (box .roll) ≡ A.Asked asked
+      → length (strsetBytes m h (strsetContentIn box asked)) ≤ 32768
+      → o ≡ unchanged (responseOf Done next (strsetBytes m h (strsetContentIn box asked))) state → MessageCase box state call m h next o
   setDone : isDump h ≡ false → (n : Named (box .roll) m) → n .command .change ≡ true → (b : Bitset) → Carries box m n b
       → o ≡ record { response = responseOf Done next (ackBytes m h); state = withEffect box state (n .target .position) (n .command .set) b }
       → MessageCase box state call m h next o

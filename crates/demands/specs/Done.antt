@@ -23,8 +23,16 @@ use Rattle.layout.specs.declared.Set.{Set}
 use Rattle.read_back.specs.Claims.{ReadsBack}
 use Rattle.admission.specs.declared.commands.Command.{Command}
 use Rattle.reply.specs.Message.{headingOf, Content, replyBytes}
+use Rattle.read_back.specs.Strset.{ToldName, replyTold}
+use Rattle.read_back.specs.Strset.Told.{told}
+use Rattle.strset_request.specs.Asked.{askedOf}
+use Rattle.strset_request.specs.declared.asked.Asked.{Asked}
+use Rattle.strset_request.specs.declared.asked.AskedRead.the-variants as A
+use Rattle.strset_reply.specs.Message.{strsetReply}
+use Rattle.strset.specs.Strset.{strsetContentIn}
 use Rattle.response.specs.Answer.{Response, Outcome}
 use Rattle.demands.specs.Answer.{ackIfAsked, doneBytes, withMulti}
+use Rattle.demands.specs.Names.{setsOf, PortOf}
 use Rattle.demands.specs.Message.{Named, DumpAsked, Carries}
 
 -- a done SET: the named set of the named port is what the bitset makes of it, every other set and every other word is as before, and the box
@@ -101,3 +109,19 @@ pub record DoneDump (box : Box) (state : State) (call : Call) (m : List ℕ) (h 
   pub counted : call .place ≤ portsIn box
   pub port : call .place < portsIn box → DonePort box state call m h dump (o .response)
   pub last : call .place ≡ portsIn box → DoneLast h next (o .response)
+
+-- the reply to a STRSET_GET with the header h about what it asks for: message flags 0, command 1
+abbrev pub namesReply : Box → MessageHeader → Asked → List ℕ
+namesReply box h asked = strsetReply (headingOf h 0 1) (strsetContentIn box asked)
+
+-- a done STRSET_GET: the settings stay; the reply about what it asks for is written, then the ACK if asked, at most 32,768 bytes together; and the reply, read by a client, tells the port
+-- exactly where one is named, and of the ids that STRINGSETS lists each once, where it first stands, or the default, with its count and, unless COUNTS_ONLY stands, every entry of its list
+pub record DoneStrset (box : Box) (state : State) (m : List ℕ) (h : MessageHeader) (o : Outcome State) : Type 0 where
+  pub asked : Asked
+  pub asks : askedOf m (box .roll) ≡ A.Asked asked
+  pub keeps : o .state ≡ state
+  pub bytes : o .response .bytes ≡ namesReply box h asked ++ ackIfAsked m h
+  pub few : length (o .response .bytes) ≤ 32768
+  pub port : List ToldName
+  pub port-is : PortOf (box .roll) m port
+  pub tells : replyTold (namesReply box h asked) ≡ told (record { port = port; sets = setsOf m (box .names) })

@@ -2,15 +2,19 @@ pub mod Check
 pub mod Tables
 pub mod Bitset
 pub mod NormalChecks
+pub mod PortChecks
+pub mod Strset
 pub mod Request
 pub mod Call
 pub mod Answer
 pub mod Message
+pub mod Names
 pub mod CallCase
 pub mod Run
 pub mod Done
 pub mod Normaliser
 pub mod Parts
+pub mod StrsetParts
 pub mod Says
 pub mod OwnNames
 pub mod Stored
@@ -19,4 +23,5 @@ pub mod BoxRules
 pub mod BoxFault
 pub mod Change
 pub mod Example
+pub mod ExampleNames
 pub mod Padding

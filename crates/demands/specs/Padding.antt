@@ -3,6 +3,7 @@
 -- nest, it agrees again in this way. Nothing is said of the bytes between an attribute's stated end and the next attribute.
 use Prim.Native.Nat.{ℕ, _+_, _-_, min}
 use mathlib.Core.Path.{_≡_}
+use Rattle.basics.specs.Numbers.{byteAt}
 use mathlib.Core.List.{List}
 use lib.ListN.{length}
 use Rattle.netlink_attributes.specs.Attributes.{Attributes, attributes, partOf}
@@ -49,11 +50,25 @@ TopAgrees s t =
     (NestOf 2 kind (BitsetAgrees (partOf s 0 end) (partOf t 0 end) start) (SameBytes s t start end)))
     (attributes s 20)
 
--- two messages agree but for paddings: they are as long, their two headers are the same, and their attributes agree
+-- STRINGSETS: each STRINGSET (1) is a nest
+abbrev pub StringSetsAgree : List ℕ → List ℕ → ℕ → Type 0
+StringSetsAgree s t from =
+    EachAgrees s t (λ kind start end. NestOf 1 kind (PlainAgrees (partOf s 0 end) (partOf t 0 end) start) (SameBytes s t start end)) (attributes s from)
+
+-- the top level of a STRSET_GET: the header (1) and STRINGSETS (2) are nests
+abbrev pub StrsetAgrees : List ℕ → List ℕ → Type 0
+StrsetAgrees s t =
+    EachAgrees s t
+    (λ kind start end. NestOf 1 kind (PlainAgrees (partOf s 0 end) (partOf t 0 end) start)
+    (NestOf 2 kind (StringSetsAgree (partOf s 0 end) (partOf t 0 end) start) (SameBytes s t start end)))
+    (attributes s 20)
+
+-- two messages agree but for paddings: they are as long, their two headers are the same, and their attributes agree, as those of a STRSET_GET (command 1) or of another request
 pub record MessagesAgree (s t : List ℕ) : Type 0 where
   pub size : length s ≡ length t
   pub headers : SameBytes s t 0 (min 20 (length s))
-  pub attributes-agree : TopAgrees s t
+  pub attributes-agree : (byteAt s 16 ≡ 1 → ⊥) → TopAgrees s t
+  pub names-agree : byteAt s 16 ≡ 1 → StrsetAgrees s t
 
 -- two datagrams, at a position: they are as long, have the same message header there, and their messages agree; all other bytes, the padding behind
 -- the message among them, are free

@@ -1,4 +1,4 @@
--- Document 01, "What a call says back", and request C-11: the checks of a message in their order, from skipping to the header level. "Levels: top level is walked
+-- Document 01, "What a call says back", and requests C-11 and C-13: the checks of a message in their order, from skipping to the header level. "Levels: top level is walked
 -- whole .., then header missing (13), then bitset missing in a SET (13). Then the header is walked whole, then 14 to 17. Then the bitset".
 use Prim.Native.Nat.{ℕ, _-_, _/_, _%_}
 use mathlib.Core.List.{List, [], _∷_, _++_}
@@ -11,11 +11,6 @@ use Rattle.netlink.specs.Walk.{walked, slotNumber}
 use Rattle.netlink_headers.specs.declared.headers.MessageHeader.{MessageHeader}
 use Rattle.netlink.specs.declared.walk.Slot.{Slot}
 use Rattle.refusal.specs.declared.Refusal.the-variants as R
-use Rattle.roll.specs.Find.{foundByIndex, foundByName}
-use Rattle.roll.specs.Name.{holdsName}
-use Rattle.roll.specs.Record.{nameOf}
-use Rattle.roll.specs.declared.find.Found.{Found}
-use Rattle.roll.specs.declared.find.Found.the-variants as F
 use Rattle.layout.specs.Layout.{listOf}
 use Rattle.boxes.specs.Box.{Box}
 use Rattle.boxes.specs.declared.Call.{Call}
@@ -28,35 +23,36 @@ use Rattle.request.specs.declared.parts.TopParts.{TopParts}
 use Rattle.request.specs.declared.parts.HeaderParts.{HeaderParts}
 use Rattle.admission.specs.declared.commands.Command.{Command}
 use Rattle.admission.specs.declared.commands.CommandRead.{CommandRead}
-use Rattle.admission.specs.declared.commands.CommandRead.the-variants.{Listed, Unlisted}
+use Rattle.admission.specs.declared.commands.CommandRead.the-variants.{Listed, Strset, Unlisted}
 use Rattle.demands.specs.Check.{Check, refuseIf, walkChecks}
 use Rattle.demands.specs.Check.Check.{skips, passes}
 use Rattle.demands.specs.Bitset.{bitsetChecks}
+use Rattle.demands.specs.PortChecks.{namedPortChecks}
+use Rattle.demands.specs.Strset.{strsetChecks}
 
 -- the command is not listed
 unfoldable pub unlisted : CommandRead → Bool
 unlisted Unlisted = true
+unlisted Strset = false
 unlisted (Listed command) = false
 
 -- it is a SET
 unfoldable pub isSet : CommandRead → Bool
 isSet Unlisted = false
+isSet Strset = false
 isSet (Listed command) = command .change
 
--- the set that it is about; a command that is not listed is refused before this is asked
+-- it is STRSET_GET
+unfoldable pub isStrset : CommandRead → Bool
+isStrset Unlisted = false
+isStrset Strset = true
+isStrset (Listed command) = false
+
+-- the set that it is about; this is asked neither of a command that is not listed nor of STRSET_GET
 unfoldable pub setIn : CommandRead → Set
 setIn Unlisted = Debug
+setIn Strset = Debug
 setIn (Listed command) = command .set
-
--- no port is found
-unfoldable pub noPort : Found → Bool
-noPort F.Nothing = true
-noPort (F.At position) = false
-
--- a port is found, and the name that is given is not its name
-unfoldable pub namedOtherwise : List ℕ → Slot → List ℕ → Found → Bool
-namedOtherwise m name roll F.Nothing = false
-namedOtherwise m name roll (F.At position) = name .present && not (holdsName (nameOf roll position) (partOf m (name .start) (name .end)))
 
 -- "Type below 16 or REQUEST absent: skipped"
 unfoldable pub skipIf : MessageHeader → Check
@@ -66,14 +62,14 @@ skipIf h = cond (ltb (h .kind) 16 || eqb (h .flags % 2) 0) skips passes
 unfoldable pub asksDump : MessageHeader → Bool
 asksDump h = eqb (h .flags / 256 % 4) 3
 
--- 5 to 9; "8 now stands for a SET with both bits, at its old place"
+-- 5 to 9; "8 now stands for a SET with both bits, at its old place", and for STRSET_GET
 unfoldable pub admissionChecks : List ℕ → MessageHeader → ℕ → ℕ → CommandRead → List Check
 admissionChecks m h family admin command =
     skipIf h
     ∷ refuseIf (not (eqb (h .kind) family)) R.Family
     ∷ refuseIf (ltb (length m) 20) R.Short
     ∷ refuseIf (unlisted command) R.Command
-    ∷ refuseIf (asksDump h && isSet command) R.Dump
+    ∷ refuseIf (asksDump h && (isSet command || isStrset command)) R.Dump
     ∷ refuseIf (isSet command && not (eqb admin 1)) R.Permission
     ∷ []
 
@@ -88,10 +84,7 @@ portChecks m roll dump header parts =
     refuseIf (dump && (parts .index .present || parts .name .present)) R.Dump
     ∷ refuseIf (not dump && not (parts .index .present || parts .name .present)) (R.NoPort (header .start - 4))
     ∷ refuseIf (ltb 3 (slotNumber m (parts .flags))) (R.HeaderFlag (parts .flags .start - 4))
-    ∷ refuseIf (parts .index .present && noPort (foundByIndex roll (slotNumber m (parts .index)))) (R.UnknownPort (parts .index .start - 4))
-    ∷ refuseIf (not (parts .index .present) && (parts .name .present && noPort (foundByName roll (partOf m (parts .name .start) (parts .name .end))))) (R.UnknownPort (parts .name .start - 4))
-    ∷ refuseIf (parts .index .present && namedOtherwise m (parts .name) roll (foundByIndex roll (slotNumber m (parts .index)))) (R.OtherName (header .start - 4))
-    ∷ []
+    ∷ namedPortChecks m roll header parts
 
 -- the header level: 10 to 12, then 14 to 17
 unfoldable pub headerChecks : List ℕ → List ℕ → Bool → Slot → List Check
@@ -109,7 +102,8 @@ levelChecks box m dump command parts =
 unfoldable pub commandChecks : Box → Call → List ℕ → MessageHeader → CommandRead → List Check
 commandChecks box call m h command =
     admissionChecks m h (call .family) (call .admin) command
-    ++ walkChecks (walked (topPolicy (isSet command)) m 20) (λ slots. levelChecks box m (asksDump h) command (topParts slots))
+    ++ cond (isStrset command) (strsetChecks box m h)
+    (walkChecks (walked (topPolicy (isSet command)) m 20) (λ slots. levelChecks box m (asksDump h) command (topParts slots)))
 
 -- the message m with its header h
 unfoldable pub messageChecks : Box → Call → List ℕ → MessageHeader → List Check

@@ -51,13 +51,14 @@ pub record RefusalTable (at kind : ℕ) : Type 0 where
 abbrev pub CommandIs : ℕ → Bool → Set → ℕ → Bool → Type 0
 CommandIs number change set reply dump = commandOf number ≡ C.Listed (record { number = number; change = change; set = set; reply = reply; dump = dump })
 
--- "DEBUG_GET 7, DEBUG_SET 8, PRIVFLAGS_GET 13, PRIVFLAGS_SET 14"; replies have "command 7 for DEBUG, 14 for PRIVFLAGS"; a GET may be dumped; no other command is listed
+-- "STRSET_GET (command 1 ..)"; "DEBUG_GET 7, DEBUG_SET 8, PRIVFLAGS_GET 13, PRIVFLAGS_SET 14"; replies have "command 7 for DEBUG, 14 for PRIVFLAGS"; a GET may be dumped; no other command is listed
 pub record CommandTable : Type 0 where
   pub debug-get : CommandIs 7 false Debug 7 true
   pub debug-set : CommandIs 8 true Debug 7 false
   pub privflags-get : CommandIs 13 false Flags 14 true
   pub privflags-set : CommandIs 14 true Flags 14 false
-  pub others : (n : ℕ) → (n ≡ 7 → ⊥) → (n ≡ 8 → ⊥) → (n ≡ 13 → ⊥) → (n ≡ 14 → ⊥) → commandOf n ≡ C.Unlisted
+  pub strset-get : commandOf 1 ≡ C.Strset
+  pub others : (n : ℕ) → (n ≡ 1 → ⊥) → (n ≡ 7 → ⊥) → (n ≡ 8 → ⊥) → (n ≡ 13 → ⊥) → (n ≡ 14 → ⊥) → commandOf n ≡ C.Unlisted
 
 -- "a kind (end, skipped, done, refused), a refusal number (0 if none)"
 pub record KindTable (why : Refusal) : Type 0 where

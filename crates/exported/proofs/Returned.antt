@@ -22,11 +22,11 @@ use Rattle.handler.specs.Call.{endsRun}
 use Rattle.handler.specs.Bytes.{Stored, bytesOutcome}
 use Rattle.demands.specs.Check.{AllPass, FirstIs}
 use Rattle.demands.specs.Call.{nextOf, tellsPort}
-use Rattle.demands.specs.Request.{isSet, asksDump}
+use Rattle.demands.specs.Request.{isSet, isStrset, asksDump}
 use Rattle.demands.specs.Stored.{DoneSetStored}
 use Rattle.demands.proofs.OwnNames.{accepted-own-names}
 use Rattle.demands.proofs.Stored as S
-use Rattle.exported.specs.Returned.{Lent, Left, Leaves, messageIn, headerIn, isPortReply, checksOf, LeftRefused, LeftSet, LeftGet, LeftDump, Returned}
+use Rattle.exported.specs.Returned.{Lent, Left, Leaves, messageIn, headerIn, isPortReply, checksOf, LeftRefused, LeftSet, LeftGet, LeftNames, LeftDump, Returned}
 
 module _ (c : Lent) (r : Left) (h : Leaves c r) where
   abbrev o : Outcome Stored
@@ -122,10 +122,15 @@ module _ (c : Lent) (r : Left) (h : Leaves c r) where
         wrote = wrote _ refl;
       }
 
-  get-left : r .kind ≡ 2 → isSet (commandOf (byteAt (messageIn c) 16)) ≡ false → asksDump (headerIn c) ≡ false → LeftGet c r
-  get-left z get one =
-      let back = S.read-back (c .box) (c .settings) (c .call) (c .datagram) (length (c .page)) (h .bytes) (is-done z) get one in
+  get-left : r .kind ≡ 2 → isSet (commandOf (byteAt (messageIn c) 16)) ≡ false → isStrset (commandOf (byteAt (messageIn c) 16)) ≡ false → asksDump (headerIn c) ≡ false → LeftGet c r
+  get-left z get other one =
+      let back = S.read-back (c .box) (c .settings) (c .call) (c .datagram) (length (c .page)) (h .bytes) (is-done z) get other one in
       record { response = o .response; settings = h .state ∙ back .0; done = rw (h .state) (back .1); wrote = wrote _ refl }
+
+  names-left : r .kind ≡ 2 → isStrset (commandOf (byteAt (messageIn c) 16)) ≡ true → LeftNames c r
+  names-left z asks =
+      let told = S.strset-done (c .box) (c .settings) (c .call) (c .datagram) (length (c .page)) (h .bytes) (is-done z) asks in
+      record { response = o .response; settings = h .state ∙ told .0; done = rw (h .state) (told .1); wrote = wrote _ refl }
 
   dump-left : r .kind ≡ 2 → asksDump (headerIn c) ≡ true → LeftDump c r
   dump-left z all =
@@ -199,6 +204,7 @@ module _ (c : Lent) (r : Left) (h : Leaves c r) where
         quiet = quiet;
         set = set-left;
         get = get-left;
+        names = names-left;
         dump = dump-left;
         stays = (λ z. stays-at (ap endsRun (is-end z)), silent);
         goes-on = goes-on;

@@ -19,8 +19,8 @@ use Rattle.handler.specs.Bytes.{Stored, bytesOutcome, inWords}
 use Rattle.demands.specs.Answer.{refusalBytes}
 use Rattle.demands.specs.Check.{Check, AllPass, FirstIs}
 use Rattle.demands.specs.Call.{messageOf, nextOf, callChecks}
-use Rattle.demands.specs.Request.{isSet, asksDump}
-use Rattle.demands.specs.Done.{DoneGet, DoneDump}
+use Rattle.demands.specs.Request.{isSet, isStrset, asksDump}
+use Rattle.demands.specs.Done.{DoneGet, DoneDump, DoneStrset}
 use Rattle.demands.specs.Stored.{storedRight, asWords, DoneSetStored}
 use Rattle.demands.specs.OwnNames.{RequestOwnNames}
 use Rattle.ethnl.specs.Exported.{Handle}
@@ -92,6 +92,13 @@ pub record LeftGet (c : Lent) (r : Left) : Type 0 where
   pub done : DoneGet (c .box) (inWords (c .settings)) (messageIn c) (headerIn c) (asWords (record { response = response; state = r .settings }))
   pub wrote : Wrote c r (response .bytes)
 
+-- a STRSET_GET that is done: the settings stay, byte for byte, and the reply with the name lists is written, then an ACK if asked
+pub record LeftNames (c : Lent) (r : Left) : Type 0 where
+  pub response : Response
+  pub settings : r .settings ≡ c .settings
+  pub done : DoneStrset (c .box) (inWords (c .settings)) (messageIn c) (headerIn c) (asWords (record { response = response; state = r .settings }))
+  pub wrote : Wrote c r (response .bytes)
+
 -- a call of a dump that is done: the settings stay, byte for byte, and the reply about the port at the place, or DONE, is written, without an ACK
 pub record LeftDump (c : Lent) (r : Left) : Type 0 where
   pub response : Response
@@ -112,7 +119,8 @@ pub record Returned (c : Lent) (r : Left) : Type 0 where
   pub unrefused : r .kind ≤ 2 → r .refusal ≡ 0
   pub quiet : r .kind ≤ 1 → (r .settings ≡ c .settings) × (r .page ≡ c .page) × (r .written ≡ 0)
   pub set : r .kind ≡ 2 → isSet (commandOf (byteAt (messageIn c) 16)) ≡ true → LeftSet c r
-  pub get : r .kind ≡ 2 → isSet (commandOf (byteAt (messageIn c) 16)) ≡ false → asksDump (headerIn c) ≡ false → LeftGet c r
+  pub get : r .kind ≡ 2 → isSet (commandOf (byteAt (messageIn c) 16)) ≡ false → isStrset (commandOf (byteAt (messageIn c) 16)) ≡ false → asksDump (headerIn c) ≡ false → LeftGet c r
+  pub names : r .kind ≡ 2 → isStrset (commandOf (byteAt (messageIn c) 16)) ≡ true → LeftNames c r
   pub dump : r .kind ≡ 2 → asksDump (headerIn c) ≡ true → LeftDump c r
   pub stays : (r .kind ≡ 0 → r .next ≡ c .call .position) × (r .kind ≡ 3 → r .refusal ≤ 4 → r .next ≡ c .call .position)
   pub goes-on : (1 ≤ r .kind) → (r .kind ≡ 3 → 5 ≤ r .refusal) → r .next ≡ cond (isPortReply c r) (c .call .position) (nextOf (c .datagram) (c .call .position))

@@ -19,14 +19,16 @@ use Rattle.admission.specs.Admission.{admitted}
 use Rattle.admission.specs.declared.Admission.{Admission}
 use Rattle.admission.specs.declared.Admission.the-variants as A
 use Rattle.response.specs.Answer.{Outcome, noBytes, errorResponse, unchanged}
+use Rattle.strset.specs.Strset.{strsetResponse}
 use Rattle.execute.specs.Execute.{requestOf, requestOutcome}
 use Rattle.response.specs.declared.Kind.{Kind}
 use Rattle.response.specs.declared.Kind.the-variants.{End, Skipped, Done, Refused}
 
--- skipped, 5 to 9, or the command executed
+-- skipped, 5 to 9, a STRSET_GET answered, or the command executed
 abbrev pub onAdmission : Admission → Box → State → Call → List ℕ → MessageHeader → ℕ → Outcome State
 onAdmission A.Skipped box state call m h next = unchanged (noBytes Skipped next) state
 onAdmission (A.Refused r) box state call m h next = unchanged (errorResponse m next r) state
+onAdmission A.Strset box state call m h next = unchanged (strsetResponse box m h next) state
 onAdmission (A.Admitted command) box state call m h next = requestOutcome box state m (requestOf call h next command)
 
 -- the message m with its header h

@@ -24,6 +24,7 @@ use response::Kind;
 use response::refuse;
 use roll::table::PORTS;
 use roll::table::read_ports;
+use strset::answer_strset;
 
 // The least page and the longest datagram.
 pub const PAGE: usize = 32768;
@@ -49,7 +50,7 @@ pub fn refuse_in_place(why: Refusal, position: usize) -> Answer
     no_bytes(Kind::Refused(why), position)
 }
 
-// Answers the message m, whose header is h: skipped, refused by 5 to 9, or executed.
+// Answers the message m, whose header is h: skipped, refused by 5 to 9, its name lists told, or executed.
 fn answer_message<'a>(
     page: &mut [u8],
     settings: &mut [u32],
@@ -73,6 +74,9 @@ fn answer_message<'a>(
         }
         Admission::Refused(why) => {
             return refuse(page, m, why, next);
+        }
+        Admission::Strset => {
+            return answer_strset(page, roll, ports, debug, flags, m, h, next);
         }
         Admission::Admitted(command) => {
             let request = Request {

@@ -199,3 +199,18 @@ module _ (roll : List ℕ) where
   asked-inside m x asked ex q = rw (sym ex ∙ q) at (asked-in m)
 
 pub ruleset strset-laws = (strset-refused, strset-asked, asked-inside)
+
+-- every answer goes on behind the message, at place 0
+pub strset-behind : (box : Box) (m : List ℕ) (h : MessageHeader) (next : ℕ) → (strsetResponse box m h next .next ≡ next) × (strsetResponse box m h next .place ≡ 0)
+unfolding strsetResponse contentResponse
+strset-behind box m h next = go (askedOf m (box .roll))
+  where
+    by : (t : Bool) (bytes : List ℕ) → (cond t (errorResponse m next LongReply) (responseOf Done next bytes) .next ≡ next)
+        × (cond t (errorResponse m next LongReply) (responseOf Done next bytes) .place ≡ 0)
+    by true bytes = (refl, refl)
+    by false bytes = (refl, refl)
+
+    go : (x : AskedRead) → (askedResponse x box m h next .next ≡ next) × (askedResponse x box m h next .place ≡ 0)
+    go (A.Refused why) = (refl, refl)
+    go (A.Asked asked) =
+        by (ltb 32768 (length (strsetBytes m h (strsetContentIn box asked)))) (strsetBytes m h (strsetContentIn box asked))

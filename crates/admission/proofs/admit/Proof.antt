@@ -30,20 +30,29 @@ returns-4 c = search (needs, admit-laws)
 read-command-requires : tie.Need-read-command-requires
 read-command-requires c κs = search needs
 
-enum-known-command : tie.Need-enum-known-command
-enum-known-command c = search needs
-
 enum-told-2 : tie.Need-enum-told-2
 enum-told-2 c = search needs
 
-returns-5 : tie.Need-returns-5
-returns-5 c = search (needs, admit-laws)
+enum-told-3 : tie.Need-enum-told-3
+enum-told-3 c = search needs
+
+permit-strset-requires : tie.Need-permit-strset-requires
+permit-strset-requires c κs = search needs
+
+enum-known-command : tie.Need-enum-known-command
+enum-known-command c = search needs
 
 permit-requires : tie.Need-permit-requires
 permit-requires c κs = search needs
 
+returns-5 : tie.Need-returns-5
+returns-5 c = search (needs, admit-laws)
+
 returns-6 : tie.Need-returns-6
 returns-6 c = search (needs, admit-laws)
+
+returns-7 : tie.Need-returns-7
+returns-7 c = search (needs, admit-laws)
 
 pub admit-spec : {M : Type 1} → statement M
 admit-spec =
@@ -58,8 +67,11 @@ admit-spec =
     enum-told
     returns-4
     read-command-requires
-    enum-known-command
     enum-told-2
-    returns-5
+    enum-told-3
+    permit-strset-requires
+    enum-known-command
     permit-requires
-    returns-6)
+    returns-5
+    returns-6
+    returns-7)

@@ -20,7 +20,8 @@ use Rattle.netlink_headers.specs.declared.messages.MessageRead.{MessageRead}
 use Rattle.netlink_headers.specs.declared.messages.MessageRead.the-variants.{Message, Misstated, Cut, AtEnd, Outside}
 use Rattle.refusal.specs.declared.Refusal.{Refusal}
 use Rattle.refusal.specs.declared.Refusal.the-variants as R
-use Rattle.boxes.specs.Box.{Box, State, setOf}
+use Rattle.entries.specs.Entry.{count}
+use Rattle.boxes.specs.Box.{Box, State, boxOf, setOf}
 use Rattle.boxes.specs.Rule.{boxRight}
 use Rattle.boxes.specs.declared.Call.{Call}
 use Rattle.boxes.proofs.rule.Meaning.{box-means}
@@ -31,6 +32,7 @@ use Rattle.admission.specs.declared.commands.Command.{Command}
 use Rattle.admission.specs.declared.Admission.{Admission}
 use Rattle.admission.specs.declared.Admission.the-variants as A
 use Rattle.response.specs.Answer.{Outcome, noBytes, errorResponse, unchanged, Responds, Performs}
+use Rattle.strset.specs.Strset.{strsetResponse}
 use Rattle.execute.specs.Execute.{requestOf, requestOutcome}
 use Rattle.execute.specs.Fit.{Fit}
 use Rattle.handler.specs.Call.{messageOutcome, onMessage, positionOutcome, outcome}
@@ -55,12 +57,24 @@ module _ (box : Box) (state : State) (call : Call) (m : List ℕ) (h : MessageHe
     unfolding messageOutcome
     message-refused why q s = rw (← e, q) (unchanged-performs (errorResponse m next why) P Q state r s)
 
+    pub message-strset : a ≡ A.Strset → Responds (strsetResponse box m h next) P Q r → Performs (messageOutcome box state call m h next) P Q state r
+    unfolding messageOutcome
+    message-strset q s = rw (← e, q) (unchanged-performs (strsetResponse box m h next) P Q state r s)
+
     pub message-admitted : (c : Command) (new : State) → a ≡ A.Admitted c → Performs (requestOutcome box state m (requestOf call h next c)) P Q new r
         → Performs (messageOutcome box state call m h next) P Q new r
     unfolding messageOutcome
     message-admitted c new q d = rw (← e, q) d
 
-pub ruleset message-laws = (message-skipped, message-refused, message-admitted)
+-- a right box's lists are short enough
+module _ (roll debug flags : List ℕ) (state : State) (fit : Fit (boxOf roll debug flags) state) where
+  pub fit-debug : count debug ≤ 512
+  fit-debug = fit .few .debug
+
+  pub fit-flags : count flags ≤ 512
+  fit-flags = fit .few .flags
+
+pub ruleset message-laws = (message-skipped, message-refused, message-strset, message-admitted, fit-debug, fit-flags)
 
 -- a right box fits
 pub box-fit : (box : Box) (state : State) (call : Call) (b : Bool) → b ≡ boxRight box state call → not b ≡ false → Fit box state

@@ -38,6 +38,7 @@ use Rattle.request.specs.declared.target.TargetRead.{TargetRead}
 use Rattle.request.specs.declared.target.TargetRead.the-variants as P
 use Rattle.response.specs.Answer.{Response, Outcome, responseOf, unchanged}
 use Rattle.response.specs.declared.Kind.the-variants.{Done}
+use Rattle.strset.proofs.Laws.{strset-behind}
 use Rattle.execute.specs.declared.Request.{Request}
 use Rattle.execute.specs.Execute.{requestOf, getBytes, portResponse, dumpResponse, readingOutcome, setOutcome, portOutcome, targetOutcome, headerOutcome, topOutcome, requestOutcome}
 use Rattle.handler.specs.Call.{onAdmission, messageOutcome, refusedInPlace, onMessage, positionOutcome, outcome, endsRun}
@@ -104,6 +105,7 @@ module _ (box : Box) (state : State) (m : List ℕ) where
       by : (x : Admission) → Onward (portsIn box) (call .position) (call .place) next (onAdmission x box state call m h next .response)
       by A.Skipped = behind refl refl
       by (A.Refused r) = behind refl refl
+      by A.Strset = let s = strset-behind box m h next in behind (s .0) (s .1)
       by (A.Admitted command) = request-onward (requestOf call h next command)
 
 module _ (box : Box) (state : State) (call : Call) (datagram : List ℕ) (room : ℕ) where

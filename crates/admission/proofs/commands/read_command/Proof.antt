@@ -5,10 +5,10 @@ use Rattle.admission.proofs.commands.read_command.Statement.{statement}
 use Rattle.admission.proofs.commands.read_command.Tie as tie
 
 abbrev Inv-loop : tie.InvT-loop
-Inv-loop number rows i₀ i = (i ≤ 4) × RowsFrom number rows i
+Inv-loop number rows i₀ i = (i ≤ 5) × RowsFrom number rows i
 
 abbrev μ-loop : tie.MeasureT-loop
-μ-loop number rows i₀ i = 4 - i
+μ-loop number rows i₀ i = 5 - i
 
 commands-requires : tie.Need-commands-requires Inv-loop μ-loop
 commands-requires c κs = search (needs, rows-laws)
@@ -16,11 +16,11 @@ commands-requires c κs = search (needs, rows-laws)
 loop-holds : tie.Need-loop-holds Inv-loop μ-loop
 loop-holds c = search (needs, rows-laws)
 
-mul-command : tie.Need-mul-command Inv-loop μ-loop
-mul-command c = search (needs, rows-laws)
+mul-row : tie.Need-mul-row Inv-loop μ-loop
+mul-row c = search (needs, rows-laws)
 
-array-copy-out-command : tie.Need-array-copy-out-command Inv-loop μ-loop
-array-copy-out-command c = search (needs, rows-laws)
+array-copy-out-row : tie.Need-array-copy-out-row Inv-loop μ-loop
+array-copy-out-row c = search (needs, rows-laws)
 
 returns : tie.Need-returns Inv-loop μ-loop
 returns c = search (needs, rows-laws)
@@ -45,8 +45,8 @@ read-command-spec =
     μ-loop
     commands-requires
     loop-holds
-    mul-command
-    array-copy-out-command
+    mul-row
+    array-copy-out-row
     returns
     add-i
     loop-less
