@@ -29,9 +29,9 @@ fn kind(rng: &mut Rng, family: u16) -> u16 {
 /// A command that isn't listed, or another that is.
 fn command(rng: &mut Rng, request: &mut Request) {
     let number = match rng.below(3) {
-        0 => rng.pick(&[0, 1, 6, 9, 10, 12, 15, 255]),
+        0 => rng.pick(&[0, 2, 6, 9, 10, 12, 15, 255]),
         1 => rng.next() as u8,
-        _ => rng.pick(&[7, 8, 13, 14]),
+        _ => rng.pick(&[1, 7, 8, 13, 14]),
     };
     if let Some(first) = request.generic.first_mut() {
         *first = number;

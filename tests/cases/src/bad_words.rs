@@ -1,19 +1,23 @@
-//! Damage to what well-formed attributes say: 14 to 23.
+//! Damage to what well-formed attributes say: 14 to 24.
 
+use super::bad_strsets;
 use super::bitsets::{BITS, BIT_INDEX, BIT_NAME, MASK, NOMASK, SIZE, VALUE};
 use super::boxes::Model;
 use super::names;
 use super::requests::{list_of, Request, BITSET, HEADER, PORT_FLAGS, PORT_INDEX, PORT_NAME};
 use super::rng::Rng;
+use super::strsets::STRSET_GET;
 use super::tree::{inside_last, last, Attribute};
 
-/// One damage to the port header or to the bitset of a request.
+/// One damage to the port header, or to the bitset or name lists of a request.
 pub fn damage(rng: &mut Rng, request: &mut Request, model: &Model) {
     let list = &model.lists[list_of(request.command())];
     if rng.per_mille(400) {
         if let Some(header) = inside_last(&mut request.attributes, HEADER) {
             damage_header(rng, header, model);
         }
+    } else if request.command() == STRSET_GET {
+        bad_strsets::damage(rng, &mut request.attributes);
     } else if let Some(bitset) = inside_last(&mut request.attributes, BITSET) {
         damage_bitset(rng, bitset, list);
     }

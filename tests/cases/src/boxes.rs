@@ -1,5 +1,6 @@
 //! Right boxes (document 01, "The box a call is given").
 
+use super::long_lists;
 use super::names;
 use super::rng::Rng;
 
@@ -92,6 +93,13 @@ impl Model {
             _ => rng.within(2, 9),
         };
         Self::of(rng, family, count)
+    }
+
+    /// A box of one port whose reply about both lists is just not too long, or just too long.
+    pub fn of_long_lists(rng: &mut Rng) -> Self {
+        let ports = ports(rng, 1);
+        let lists = long_lists::lists(rng, &ports[0]);
+        Model { family: rng.pick(&[16, 25, 65_535]), ports, lists }
     }
 
     fn of(rng: &mut Rng, family: u16, count: usize) -> Self {

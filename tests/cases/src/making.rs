@@ -52,17 +52,25 @@ const PARTS: [(usize, Part); 7] = [
     (10, Part::Datagram),
 ];
 
+/// A box and a request for it.
+fn with(rng: &mut Rng, box_of: fn(&mut Rng) -> Model, ask: fn(&mut Rng, &Model) -> Request) -> (Model, Request) {
+    let model = box_of(rng);
+    let request = ask(rng, &model);
+    (model, request)
+}
+
 /// A box, a request for it and a place.
 fn asked(rng: &mut Rng) -> (Model, Request, u64) {
-    if rng.per_mille(120) {
-        let model = Model::of_dump(rng);
-        let (request, place) = (Request::dump(rng, &model), places::of_dump(rng, model.ports.len()));
-        (model, request, place)
-    } else {
-        let model = Model::new(rng);
-        let (request, place) = (Request::new(rng, &model), places::of_other(rng, model.ports.len()));
-        (model, request, place)
-    }
+    let share = rng.below(1000);
+    let (model, request) = match share {
+        0..120 => with(rng, Model::of_dump, Request::dump),
+        120..220 => with(rng, Model::new, Request::names),
+        220..236 => with(rng, Model::of_long_lists, Request::both_names),
+        _ => with(rng, Model::new, Request::new),
+    };
+    let place = if share < 120 { places::of_dump } else { places::of_other };
+    let place = place(rng, model.ports.len());
+    (model, request, place)
 }
 
 fn handle(rng: &mut Rng) -> HandleCase {

@@ -1,8 +1,10 @@
-//! Requests of the four commands (document 01, "What the box reads and writes"), and dumps (request C-11).
+//! Requests of the four commands (document 01, "What the box reads and writes"), dumps (request C-11), and requests for
+//! name lists (request C-13).
 
 use super::bitsets;
 use super::boxes::Model;
 use super::rng::Rng;
+use super::strsets::{self, STRSET_GET};
 use super::tree::{write_all, Attribute};
 
 pub const REQUEST: u16 = 1;
@@ -56,6 +58,34 @@ impl Request {
         Self::of(rng, model, command, flags, header)
     }
 
+    /// A request for name lists, with a port or without; now and then a dump, or of no port there can be, which is
+    /// refused.
+    pub fn names(rng: &mut Rng, model: &Model) -> Self {
+        let (header, port_named) = match rng.below(100) {
+            0..55 => (header(rng, model), true),
+            55..58 => (header_of_none(rng), true),
+            _ => (header_of_all(rng), false),
+        };
+        let beside = strsets::beside(rng, port_named);
+        Self::of_names(rng, model, header, beside)
+    }
+
+    /// A request for both lists of a port.
+    pub fn both_names(rng: &mut Rng, model: &Model) -> Self {
+        let header = header(rng, model);
+        let beside = strsets::of_both(rng);
+        Self::of_names(rng, model, header, beside)
+    }
+
+    /// A request for name lists with these attributes, in any order.
+    fn of_names(rng: &mut Rng, model: &Model, header: Attribute, mut attributes: Vec<Attribute>) -> Self {
+        let place = if rng.per_mille(700) { 0 } else { rng.below(attributes.len() + 1) };
+        attributes.insert(place, header);
+        let dump = if rng.per_mille(30) { DUMP } else { 0 };
+        let flags = REQUEST | dump | rng.pick(&[0, 0, ACK, ACK, 0x100, 0x200 | ACK, 0xFCFA, 0xFCFE]);
+        Self::made(rng, model, STRSET_GET, flags, attributes)
+    }
+
     fn of(rng: &mut Rng, model: &Model, command: u8, flags: u16, header: Attribute) -> Self {
         let mut attributes = vec![header];
         if matches!(command, 8 | 14) {
@@ -65,6 +95,11 @@ impl Request {
         if rng.per_mille(100) {
             attributes.reverse();
         }
+        Self::made(rng, model, command, flags, attributes)
+    }
+
+    /// A message of the box's family.
+    fn made(rng: &mut Rng, model: &Model, command: u8, flags: u16, attributes: Vec<Attribute>) -> Self {
         Request {
             stated: None,
             kind: model.family,

@@ -2,13 +2,16 @@
 //! of the page and every byte of the settings; part and offset that the check of a box tells, and that the handler
 //! refuses by 1 exactly where it tells of a part or the place is above the port count.
 
+mod attributes;
 mod implementation;
+mod name_lists;
 mod outcome;
 mod tally;
 
 #[cfg(feature = "normaliser")]
 mod library;
 
+pub use attributes::{attributes, last};
 pub use implementation::{Implementation, Reader};
 #[cfg(feature = "normaliser")]
 pub use library::Library;
@@ -40,7 +43,7 @@ pub fn compare(
         if left != right || !left.agrees_on_the_box(&case) {
             return Some(Box::new(Difference { number, case, left, right }));
         }
-        tally.count(&left);
+        tally.count(&case, &left);
     }
     None
 }

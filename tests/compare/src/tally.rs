@@ -1,10 +1,12 @@
 //! How often each answer was reached.
 
+use super::name_lists::{self, WAYS};
 use super::Outcome;
+use cases::Case;
 use std::fmt::{Display, Formatter, Result};
 
 /// The largest refusal number.
-const LAST: usize = 23;
+const LAST: usize = 25;
 /// The numbers that the normaliser can give.
 const NORMALISER: [usize; 14] = [0, 1, 2, 3, 10, 11, 12, 13, 18, 19, 20, 21, 22, 23];
 
@@ -20,6 +22,8 @@ pub struct Tally {
     checked: [u64; LAST_PART + 1],
     /// Replies of ports in dumps, and DONE behind them.
     dumped: [u64; 2],
+    /// Ways of a done STRSET_GET.
+    listed: [u64; WAYS.len()],
 }
 
 /// The names of what is counted of dumps.
@@ -35,13 +39,17 @@ fn add(counts: &mut [u64], number: u32) {
 }
 
 impl Tally {
-    pub fn count(&mut self, outcome: &Outcome) {
+    /// Counts what a case came to.
+    pub fn count(&mut self, case: &Case, outcome: &Outcome) {
         match outcome {
-            Outcome::Handled { answer, .. } => {
+            Outcome::Handled { answer, page, .. } => {
                 add(&mut self.kinds, answer.kind);
                 add(&mut self.handled, answer.refusal);
                 self.dumped[0] += u64::from(answer.next_place > 0);
                 self.dumped[1] += u64::from(answer.written == DONE_LENGTH);
+                if let Case::Handle(case) = case {
+                    name_lists::way(case, answer, page).into_iter().for_each(|way| self.listed[way] += 1);
+                }
             }
             Outcome::Normalised { number, .. } => add(&mut self.normalised, *number),
             Outcome::Checked { part, .. } => add(&mut self.checked, *part),
@@ -49,14 +57,15 @@ impl Tally {
     }
 
     /// What was reached fewer times than it should: kinds, refusals of the handler, numbers of the normaliser and of the
-    /// check of a box, the two messages of dumps.
+    /// check of a box, the two messages of dumps, the ways of a done STRSET_GET.
     pub fn rare(&self, least: u64) -> Vec<String> {
         let kinds = (0..4).map(|kind| (format!("kind {kind}"), self.kinds[kind]));
         let handled = (0..=LAST).map(|number| (format!("handle {number}"), self.handled[number]));
         let normalised = NORMALISER.map(|number| (format!("normalise {number}"), self.normalised[number]));
         let checked = (0..=LAST_PART).map(|part| (format!("check_box {part}"), self.checked[part]));
         let dumped = (0..2).map(|which| (DUMPED[which].to_string(), self.dumped[which]));
-        let all = kinds.chain(handled).chain(normalised).chain(checked).chain(dumped);
+        let listed = WAYS.iter().zip(self.listed).map(|(way, count)| (format!("STRSET_GET: {way}"), count));
+        let all = kinds.chain(handled).chain(normalised).chain(checked).chain(dumped).chain(listed);
         all.filter(|(_, count)| *count < least).map(|(name, count)| format!("{name}: {count}")).collect()
     }
 }
@@ -66,6 +75,9 @@ impl Display for Tally {
         let [end, skipped, done, refused] = self.kinds;
         writeln!(out, "end {end}, skipped {skipped}, done {done}, refused {refused}")?;
         writeln!(out, "{} {}, {} {}", DUMPED[0], self.dumped[0], DUMPED[1], self.dumped[1])?;
+        for (way, count) in WAYS.iter().zip(self.listed) {
+            writeln!(out, "STRSET_GET: {way} {count}")?;
+        }
         writeln!(out, "number    handle normalise check_box")?;
         for number in 0..=LAST {
             let normalised = match NORMALISER.contains(&number) {

@@ -1,10 +1,8 @@
 //! The cases reach every way in which INDEX and NAME can stand in one BIT (request C-12), and the number told is the one
 //! that the BITs of the list ask for, judged here a third time.
 
-mod common;
 use cases::{Case, HandleCase, NormaliseCase};
-use common::{attributes, last};
-use compare::{Implementation, Reader};
+use compare::{attributes, last, Implementation, Reader};
 use std::collections::BTreeMap;
 
 const SEED: u64 = 1;

@@ -1,9 +1,7 @@
 //! What request C-11 promises of dumps and places, checked on the reader without knowing the answer.
 
-mod common;
 use cases::{Case, HandleCase};
-use common::{attributes, last};
-use compare::{Implementation, Reader};
+use compare::{attributes, last, Implementation, Reader};
 use reader::{Answer, DONE, END};
 
 const SEED: u64 = 2;

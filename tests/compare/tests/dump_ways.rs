@@ -1,10 +1,8 @@
 //! The cases reach every way in which a dump and a place can be answered (request C-11), and the number that a dump gets
 //! is the one that its header asks for, judged here a third time.
 
-mod common;
 use cases::{Case, HandleCase};
-use common::{attributes, last};
-use compare::{Implementation, Reader};
+use compare::{attributes, last, Implementation, Reader};
 use reader::{Answer, DONE, END, SKIPPED};
 use std::collections::BTreeMap;
 
@@ -15,7 +13,7 @@ const CASES: u64 = 200_000;
 const LEAST: u32 = 100;
 const LEAST_OF_PARTS: u32 = 20;
 
-const WAYS: [&str; 34] = [
+const WAYS: [&str; 35] = [
     "a port's reply",
     "a port's reply: DEBUG_GET",
     "a port's reply: PRIVFLAGS_GET",
@@ -39,6 +37,7 @@ const WAYS: [&str; 34] = [
     "DONE: 2 ports",
     "DONE: 64 ports",
     "8 of a SET",
+    "8 of STRSET_GET",
     "8 of a dump: by index",
     "8 of a dump: by name",
     "8 of a dump: by both",
@@ -65,7 +64,7 @@ const PARTS: [&str; 23] = [
     "1 by the place: 3",
     "1 by the place: 4",
     "1 by the place: 5 to 9",
-    "1 by the place: 10 to 23",
+    "1 by the place: 10 to 25",
     "1 by the place: right in its low 32 bits",
     "a place passed over: at the end",
     "a place passed over: skipped",
@@ -75,7 +74,7 @@ const PARTS: [&str; 23] = [
     "a place passed over: 3",
     "a place passed over: 4",
     "a place passed over: 5 to 9",
-    "a place passed over: 10 to 23",
+    "a place passed over: 10 to 25",
 ];
 
 /// What a call leaves behind.
@@ -130,7 +129,7 @@ fn instead(answer: &Answer) -> &'static str {
         (_, 3) => "3",
         (_, 4) => "4",
         (_, 5..=9) => "5 to 9",
-        _ => "10 to 23",
+        _ => "10 to 25",
     }
 }
 
@@ -201,6 +200,10 @@ impl Reached {
                     0 => self.answered(case, message, answer),
                     number => self.refused(case, message, number),
                 }
+            }
+            1 => {
+                assert_eq!(answer.refusal, 8, "{case}");
+                self.count("8 of STRSET_GET", &[]);
             }
             _ => assert_eq!(answer.refusal, 7, "{case}"),
         }

@@ -9,7 +9,8 @@ use std::io::{stdout, Write};
 fn every_number_is_reached_100_times_in_200_000_cases() {
     let mut tally = Tally::default();
     for number in 0..200_000 {
-        tally.count(&outcome(&Reader, &cases::case(1, number)));
+        let case = cases::case(1, number);
+        tally.count(&case, &outcome(&Reader, &case));
     }
     // Written past the harness, so that the counts show in every run.
     let _ = writeln!(stdout(), "seed 1, 200000 cases\n{tally}");

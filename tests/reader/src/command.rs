@@ -1,4 +1,4 @@
-//! The four ethtool commands taken up (document 01, "What the box reads and writes").
+//! The four ethtool commands that have a set (document 01, "What the box reads and writes").
 
 /// Which of a port's two sets.
 #[derive(Clone, Copy, Debug, PartialEq, Eq)]

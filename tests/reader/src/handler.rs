@@ -1,4 +1,4 @@
-//! The handler (document 01, "What a call says back"; request C-11): one message of a datagram, answered.
+//! The handler (document 01, "What a call says back"; requests C-11 and C-13): one message of a datagram, answered.
 
 use super::attribute::{self, Attribute, Payload, Policy, Span};
 use super::bitset::{self, Change};
@@ -8,6 +8,7 @@ use super::framing::{self, Frame};
 use super::page::{Page, ANSWER_PAGE};
 use super::port_header;
 use super::reply::{self, Stored};
+use super::strset::{self, STRSET_GET};
 use super::switch_box::{Lent, SwitchBox, Tables};
 use super::wire::{self, GenericHeader, MessageHeader};
 
@@ -112,7 +113,11 @@ fn answer(state: &SwitchBox, request: Request, settings: &mut [u8], page: &mut [
 
 /// Judges a request whole, then carries it out and writes its reply and ACK; gives the next place.
 fn serve(state: &SwitchBox, request: Request, settings: &mut [u8], page: &mut Page) -> Result<u64, Fault> {
-    let command = judge_headers(state, request)?;
+    let number = command_number(state, request)?;
+    if number == STRSET_GET {
+        return strset::serve(state, request.bytes, &request.header, page).map(|()| 0);
+    }
+    let command = listed_command(state, request, number)?;
     let (header, bitset) = top_level(request.bytes, command.action)?;
     if request.header.is_dump() {
         let compact = port_header::judge_dump(request.bytes, header)?;
@@ -154,13 +159,18 @@ fn stored<'a>(state: &'a SwitchBox, port: usize, set: Set, settings: &'a [u8]) -
     Stored { family: state.family, set, port: state.roll.port(port), names: state.names(set), words }
 }
 
-/// Numbers 5 to 9.
-fn judge_headers(state: &SwitchBox, request: Request) -> Result<Command, Fault> {
+/// Numbers 5 and 6; gives the command's number.
+fn command_number(state: &SwitchBox, request: Request) -> Result<u8, Fault> {
     if request.header.kind != state.family {
         return Err(Fault::plain(5));
     }
     let generic = GenericHeader::read(&request.bytes[MessageHeader::SIZE..]).ok_or(Fault::plain(6))?;
-    let command = Command::from_number(generic.command).ok_or(Fault::plain(7))?;
+    Ok(generic.command)
+}
+
+/// Numbers 7 to 9 of the commands that have a set.
+fn listed_command(state: &SwitchBox, request: Request, number: u8) -> Result<Command, Fault> {
+    let command = Command::from_number(number).ok_or(Fault::plain(7))?;
     if request.header.is_dump() && !command.dumps {
         return Err(Fault::plain(8));
     }

@@ -1,5 +1,5 @@
-//! An independent reader of ethtool netlink requests, written from document 01 and its later requests C-11 and C-12
-//! alone.
+//! An independent reader of ethtool netlink requests, written from document 01 and its later requests C-11 to
+//! C-13 alone.
 //!
 //! It answers the same calls as the proved library: one message at a time ([`handle`]), one bitset at a time
 //! ([`normalise`]), one box at a time ([`check_box`]), or a whole datagram for a fixed box ([`run`]). Inputs are plain
@@ -23,7 +23,7 @@ mod program;
 mod reply;
 mod roll;
 mod slots;
-pub mod strset;
+mod strset;
 mod strset_reply;
 mod switch_box;
 mod text;

@@ -3,11 +3,11 @@
 use super::attribute::{self, Payload, Policy, Span};
 use super::command::Set;
 use super::fault::Fault;
-use super::page::{Page, ANSWER_PAGE};
+use super::page::Page;
 use super::port_header;
 use super::reply;
 use super::strset_reply::{Listed, Reply};
-use super::switch_box::{Lent, SwitchBox, Tables};
+use super::switch_box::SwitchBox;
 use super::wire::{self, GenericHeader, MessageHeader};
 
 /// The command's number, of the request and of its reply.
@@ -42,7 +42,7 @@ struct Asked {
 /// Sets in the order in which their ids first stand, each of them once.
 type Sets = [Option<Set>; 2];
 
-/// Answers a request of command 1 that passed number 7: the reply, then the ACK if asked, or the first fault.
+/// Answers a request of command 1 that passed number 6: the reply, then the ACK if asked, or the first fault.
 pub fn serve(state: &SwitchBox, request: &[u8], header: &MessageHeader, page: &mut Page) -> Result<(), Fault> {
     if header.is_dump() {
         return Err(Fault::plain(8));
@@ -122,37 +122,4 @@ fn prepare<'a>(state: &'a SwitchBox, asked: &Asked) -> Reply<'a> {
         sets: asked.sets.map(|set| set.map(listed)),
         counts_only: asked.counts_only,
     }
-}
-
-/// Answers one message of command 1 for a lent box whose lists are debug and flags, apart from the handler: the refusal
-/// number (0 if none) and the bytes written.
-pub fn answer(
-    family: u32,
-    admin: u32,
-    roll: &[u8],
-    [debug_names, flag_names]: [&[u8]; 2],
-    settings: &[u8],
-    message: &[u8],
-    page: &mut [u8],
-) -> (u32, u64) {
-    let mut tables = Tables::new();
-    let lent = Lent { family, admin, roll, debug_names, flag_names };
-    let Some(state) = SwitchBox::check(lent, settings, &mut tables) else {
-        return (1, 0);
-    };
-    if page.len() < ANSWER_PAGE {
-        return (2, 0);
-    }
-    let Some(header) = MessageHeader::read(message) else {
-        return (3, 0);
-    };
-    let mut page = Page::new(page);
-    let refusal = match serve(&state, message, &header, &mut page) {
-        Ok(()) => 0,
-        Err(fault) => {
-            reply::error(&mut page, message, &header, fault);
-            fault.number
-        }
-    };
-    (refusal, page.written() as u64)
 }

@@ -34,7 +34,7 @@ fn any_bytes_in_any_place() {
         let position = [0, 0, next(state) as u64 % 250, u64::MAX, 1 << 32][next(state) % 5];
         let place = [0, 0, 1, 2, 1 << 32, u64::MAX][next(state) % 6];
         let answer = setup.call_at_place(&datagram, position, place);
-        assert!(answer.kind <= 3 && answer.refusal <= 23 && answer.written <= setup.page.len() as u64);
+        assert!(answer.kind <= 3 && answer.refusal <= 25 && answer.written <= setup.page.len() as u64);
         assert!(answer.next_place <= 1 && (place <= 1 || answer.refusal == 1));
         reader::normalise(&datagram, &setup.flag_names, &mut setup.page);
         reader::run(&datagram);
@@ -94,8 +94,11 @@ fn any_message_and_page_for_name_lists() {
         if next(state).is_multiple_of(4) {
             setup.page = some_bytes(state, 300);
         }
-        let (refusal, written) = strset::answered(&mut setup, &some_bytes(state, 60));
-        assert!(refusal >= 5 || written.is_empty());
+        let flags = REQUEST | [0, ACK, 0x100, 0x300][next(state) % 4];
+        let body = [vec![strset::STRSET_GET, 1, 0, 0], some_bytes(state, 60)].concat();
+        let (refusal, written) = strset::answered(&mut setup, &message_of(25, flags, &body));
+        assert!(matches!(refusal, 0 | 2 | 8 | 10..=13 | 15..=17 | 24));
+        assert_eq!(written.is_empty(), refusal == 2);
     }
 }
 

@@ -76,7 +76,8 @@ fn dump_is_judged_as_a_get_up_to_its_header_at_every_place() {
     let get = |attributes: &[Vec<u8>]| message(DEBUG_GET, REQUEST | DUMP, attributes);
     assert_eq!(offset(&message_of(26, REQUEST | DUMP, &[7, 1, 0, 0])), (5, None));
     assert_eq!(offset(&message_of(25, REQUEST | DUMP, &[7])), (6, None));
-    assert_eq!(offset(&message(1, REQUEST | DUMP, &[nest(1, &[])])), (7, None));
+    assert_eq!(offset(&message(2, REQUEST | DUMP, &[nest(1, &[])])), (7, None));
+    assert_eq!(offset(&message(1, REQUEST | DUMP, &[nest(1, &[])])), (8, None));
     assert_eq!(offset(&get(&[by_index(3), vec![0]])), (10, Some(32)));
     assert_eq!(offset(&get(&[by_index(3), nest(2, &[])])), (11, Some(32)));
     assert_eq!(offset(&get(&[attribute(1, &[]), nest(1, &[])])), (12, Some(20)));

@@ -264,10 +264,3 @@ fn lists_of_every_length_and_names_of_every_length() {
         assert_eq!((refusal, reply), (0, [length, hex(HEADERS), nests].concat()), "{bits}");
     }
 }
-
-#[test]
-fn handler_does_not_list_the_command() {
-    let error = "24 00 00 00 02 00 00 01 07 00 00 00 09 00 00 00 A1 FF FF FF \
-        20 00 00 00 19 00 01 00 07 00 00 00 09 00 00 00";
-    assert_eq!(lists().refusal(&request(&[by_index(3)])), (7, hex(error)));
-}

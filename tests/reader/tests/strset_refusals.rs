@@ -49,6 +49,30 @@ fn both_dump_bits_are_8_with_36_bytes_before_everything_else() {
 }
 
 #[test]
+fn family_and_length_go_before_8_and_admin_is_not_asked_for() {
+    let mut setup = lists();
+    setup.admin = 0;
+    let refusal = |setup: &mut Setup, request: &[u8]| answered(setup, request).0;
+    assert_eq!(refusal(&mut setup, &message_of(26, REQUEST | 0x300, &[STRSET_GET, 1, 0, 0])), 5);
+    assert_eq!(refusal(&mut setup, &message_of(25, REQUEST | 0x300, &[STRSET_GET, 1, 0])), 6);
+    assert_eq!(refusal(&mut setup, &message_of(25, REQUEST | 0x300, &[STRSET_GET, 1, 0, 0])), 8);
+    assert_eq!(refusal(&mut setup, &message_of(25, REQUEST, &[STRSET_GET, 1, 0, 0])), 13);
+}
+
+#[test]
+fn place_is_passed_over_and_0_is_handed_back() {
+    let named = request(&[unpadded(0x8001, &unpadded(2, b"eth1\0"))]);
+    let dump = message(STRSET_GET, REQUEST | 0x300, &[no_port()]);
+    for place in 0..3 {
+        let answer = lists().call_at_place(&[named.clone(), vec![0; 3], dump.clone()].concat(), 0, place);
+        assert_eq!((answer.kind, answer.next, answer.next_place, answer.written), (reader::DONE, 36, 0, 136));
+        let answer = lists().call_at_place(&dump, 0, place);
+        assert_eq!((answer.refusal, answer.next, answer.next_place, answer.written), (8, 24, 0, 36));
+    }
+    assert_eq!(lists().call_at_place(&named, 0, 3).refusal, 1);
+}
+
+#[test]
 fn top_level_is_walked_whole_attribute_by_attribute() {
     assert_eq!(offset(&request(&[by_index(3), vec![0]])), (10, 32));
     assert_eq!(offset(&request(&[by_index(3), counts_only(), vec![3, 0, 1, 0x80]])), (10, 36));

@@ -72,15 +72,16 @@ pub fn no_port() -> Vec<u8> {
     nest(1, &[])
 }
 
-/// The refusal number (0 if none) and what was written; page bytes behind that stay.
+/// The refusal number (0 if none) and what was written; page bytes behind that stay, no setting moves, no place is
+/// handed back.
 pub fn answered(setup: &mut Setup, request: &[u8]) -> (u32, Vec<u8>) {
-    let Setup { family, admin, roll, debug_names, flag_names, settings, page } = setup;
-    page.fill(0xA5);
-    let lists = [&debug_names[..], flag_names];
-    let (refusal, written) = reader::strset::answer(*family, *admin, roll, lists, settings, request, page);
-    let (written, rest) = page.split_at(written as usize);
+    setup.page.fill(0xA5);
+    let before = setup.settings.clone();
+    let answer = setup.call(request);
+    assert_eq!((&setup.settings, answer.next_place), (&before, 0));
+    let (written, rest) = setup.page.split_at(answer.written as usize);
     assert!(rest.iter().all(|byte| *byte == 0xA5));
-    (refusal, written.to_vec())
+    (answer.refusal, written.to_vec())
 }
 
 /// The reply of the box above, which must be done.
