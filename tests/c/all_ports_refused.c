@@ -4,13 +4,6 @@
  */
 #include "all_ports.h"
 
-/* Whether the call was refused by a number that writes nothing, and handed back the position given. */
-static int is_silent(uint32_t refusal, uint64_t position)
-{
-    return answer.kind == ETHNL_REFUSED && answer.refusal == refusal && answer.next == position &&
-           answer.next_place == 0 && wrote("", 0) && kept;
-}
-
 /* Above the count of two ports; the last ones would be right if they were cut to 8, 16, 32 or 63 bits. */
 static const uint64_t above[] = {3, 64, 65, UINT64_MAX, 1 << 8, (1 << 16) + 1, 1ull << 32, (1ull << 32) + 2, 1ull << 63};
 
@@ -53,7 +46,7 @@ static void places_above(void)
     expect_too_high("  a SET", 0);
     ask(PRIVFLAGS_GET, 0, 200);
     expect_too_high("  what would be skipped", 0);
-    ask(1, REQUEST | DUMP, NO_INDEX);
+    ask(2, REQUEST | DUMP, NO_INDEX);
     expect_too_high("  what would be refused by 7", 0);
 }
 
@@ -80,12 +73,12 @@ static int is_passed_over(uint64_t position, uint64_t place)
     box_of(2);
     handle_at(position, 0);
     first = answer;
-    memcpy(first_page, page, sizeof page);
+    memcpy(first_page, page, sizeof first_page);
     memcpy(first_settings, settings, sizeof first_settings);
     box_of(2);
     handle_at(position, place);
     return answer.kind == first.kind && answer.refusal == first.refusal && answer.next == first.next &&
-           answer.next_place == 0 && answer.written == first.written && memcmp(page, first_page, sizeof page) == 0 &&
+           answer.next_place == 0 && answer.written == first.written && memcmp(page, first_page, sizeof first_page) == 0 &&
            memcmp(settings, first_settings, sizeof first_settings) == 0;
 }
 
@@ -117,36 +110,8 @@ static void places_that_mean_nothing(void)
     check(page[6] == 0, "    which has no MULTI");
 }
 
-/* The request as it stands is refused alike at every place up to the count. */
-static void expect_refused(const char *what, uint32_t refusal, int32_t errno_value, uint16_t detail, uint32_t value)
-{
-    struct message error = error_of(request.bytes, errno_value, detail, value);
-    size_t right = 0;
-
-    for (uint64_t place = 0; place <= ports(); place++) {
-        handle_at(0, place);
-        right += answer.kind == ETHNL_REFUSED && answer.refusal == refusal && answer.next == request.length &&
-                 answer.next_place == 0 && wrote(error.bytes, error.length) && kept;
-    }
-    check(right == ports() + 1, what);
-}
-
 /* Where in a request the header nest stands, and its first attribute. */
 enum { AT_HEADER = 20, AT_FIRST = 24 };
-
-/* A header nest with these attributes, each where it is given. */
-static void put_header(int64_t port, const char *port_name, uint32_t header_flags)
-{
-    size_t nest = begin_nest(&request, HEADER);
-
-    if (port != NO_INDEX)
-        number(&request, PORT_INDEX, (uint32_t)port);
-    if (port_name != NULL)
-        name(&request, PORT_NAME, port_name);
-    if (header_flags != 0)
-        number(&request, PORT_FLAGS, header_flags);
-    end_nest(&request, nest);
-}
 
 static const struct named {
     const char *what;
@@ -170,18 +135,18 @@ static void dumps_that_name_a_port(void)
 {
     for (size_t at = 0; at < sizeof named / sizeof *named; at++) {
         begin_message(&request, PRIVFLAGS_GET, REQUEST | ACK | DUMP);
-        put_header(named[at].port, named[at].name, named[at].header_flags);
+        header_nest(&request, named[at].port, named[at].name, named[at].header_flags);
         end_request(&request);
         expect_refused(named[at].what, ETHNL_REFUSAL_DUMP, 95, 0, 0);
     }
     begin_message(&request, DEBUG_GET, REQUEST | DUMP);
-    put_header(NO_INDEX, NULL, 1);
-    put_header(200, NULL, 0);
+    header_nest(&request, NO_INDEX, NULL, 1);
+    header_nest(&request, 200, NULL, 0);
     end_request(&request);
     expect_refused("  in the last of two header nests", ETHNL_REFUSAL_DUMP, 95, 0, 0);
     begin_message(&request, DEBUG_GET, REQUEST | DUMP);
-    put_header(200, NULL, 0);
-    put_header(NO_INDEX, NULL, 0);
+    header_nest(&request, 200, NULL, 0);
+    header_nest(&request, NO_INDEX, NULL, 0);
     end_request(&request);
     handle_at(0, ports());
     check(is_done(done, sizeof done, request.length, 0), "  in the first of two, of which the last counts: done");
@@ -201,7 +166,7 @@ static void sets_with_both_bits(void)
     put(&request, "\1\0\0\0", 4);
     end_request(&request);
     expect_refused("  with a broken attribute", ETHNL_REFUSAL_DUMP, 95, 0, 0);
-    ask(1, REQUEST | DUMP, NO_INDEX);
+    ask(2, REQUEST | DUMP, NO_INDEX);
     expect_refused("a command that is not listed, both DUMP bits: 7", ETHNL_REFUSAL_COMMAND, 95, 0, 0);
 }
 

@@ -77,7 +77,7 @@ static void refusals_with_a_message(void)
     struct message request;
 
     fresh_box();
-    begin_request(&request, 1, REQUEST, 3, 0);
+    begin_request(&request, 2, REQUEST, 3, 0);
     end_request(&request);
     handle(&request);
     check(answer.refusal == ETHNL_REFUSAL_COMMAND && is_error(&request, 95, 0), "refusal 7: EOPNOTSUPP, no detail");

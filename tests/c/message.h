@@ -12,9 +12,13 @@ enum { HEADER = 1, BITSET = 2 };
 enum { PORT_INDEX = 1, PORT_NAME = 2, PORT_FLAGS = 3 };
 enum { NOMASK = 1, SIZE = 2, BITS = 3, VALUE = 4, MASK = 5 };
 enum { BIT = 1, BIT_INDEX = 1, BIT_NAME = 2, BIT_VALUE = 3 };
-enum { DEBUG_GET = 7, DEBUG_SET = 8, PRIVFLAGS_GET = 13, PRIVFLAGS_SET = 14 };
+enum { STRINGSETS = 2, COUNTS_ONLY = 3 };
+enum { STRINGSET = 1, SET_ID = 1, SET_COUNT = 2, STRINGS = 3 };
+enum { STRING = 1, STRING_INDEX = 1, STRING_VALUE = 2 };
+enum { FLAGS_ID = 2, CLASSES_ID = 10 };
+enum { STRSET_GET = 1, DEBUG_GET = 7, DEBUG_SET = 8, PRIVFLAGS_GET = 13, PRIVFLAGS_SET = 14 };
 enum { REQUEST = 1, MULTI = 2, ACK = 4, DUMP = 0x300 };
-enum { CAPPED = 0x100, ACK_TLVS = 0x200, OFFS = 2, MISS_TYPE = 5 };
+enum { CAPPED = 0x100, ACK_TLVS = 0x200, OFFS = 2, MISS_TYPE = 5, MISS_NEST = 6 };
 
 /* A test of long messages asks for more. */
 #ifndef MESSAGE_ROOM
@@ -110,19 +114,26 @@ static inline void begin_message(struct message *message, uint8_t command, uint1
     put(message, (uint8_t[4]){command, 1, 0, 0}, 4);
 }
 
+/* A header nest with these attributes, each where it is given. */
+static inline void header_nest(struct message *message, int64_t port, const char *port_name, uint32_t header_flags)
+{
+    size_t nest = begin_nest(message, HEADER);
+
+    if (port != NO_INDEX)
+        number(message, PORT_INDEX, (uint32_t)port);
+    if (port_name != NULL)
+        name(message, PORT_NAME, port_name);
+    if (header_flags != 0)
+        number(message, PORT_FLAGS, header_flags);
+    end_nest(message, nest);
+}
+
 /* Both headers, and the header nest, with a port's index where it is given. */
 static inline void begin_request(struct message *message, uint8_t command, uint16_t flags, int64_t port,
                                  uint32_t header_flags)
 {
-    size_t nest;
-
     begin_message(message, command, flags);
-    nest = begin_nest(message, HEADER);
-    if (port != NO_INDEX)
-        number(message, PORT_INDEX, (uint32_t)port);
-    if (header_flags != 0)
-        number(message, PORT_FLAGS, header_flags);
-    end_nest(message, nest);
+    header_nest(message, port, NULL, header_flags);
 }
 
 static inline void end_request(struct message *message)

@@ -34,6 +34,8 @@ static const struct row refusals[] = {
     {ETHNL_REFUSAL_UNKNOWN_BIT, "bit's name"},
     {ETHNL_REFUSAL_NO_BIT, "neither index nor name"},
     {ETHNL_REFUSAL_INDEX_NAME, "two bits"},
+    {ETHNL_REFUSAL_STRING_SET, "name list"},
+    {ETHNL_REFUSAL_REPLY_LEN, "too long"},
 };
 
 static const struct row parts[] = {

@@ -136,6 +136,24 @@ static void lists(void)
     set("a SET whose last index and name mean two bits", ETHNL_REFUSAL_INDEX_NAME);
 }
 
+/* A request for name lists, with as many STRINGSETs of one id as stand in a datagram and a last one of its own. */
+static void strset_get(const char *what, uint32_t id, uint32_t last, uint32_t expected)
+{
+    enum { SETS = (ETHNL_DATAGRAM_MAX - 36) / 12 };
+    size_t list, set;
+
+    begin_request(&request, STRSET_GET, REQUEST | ACK, LAST, 0);
+    list = begin_nest(&request, STRINGSETS);
+    for (int at = 0; at < SETS; at++) {
+        set = begin_nest(&request, STRINGSET);
+        number(&request, SET_ID, at == SETS - 1 ? last : id);
+        end_nest(&request, set);
+    }
+    end_nest(&request, list);
+    end_request(&request);
+    measure(what, handle, expected);
+}
+
 static void requests(void)
 {
     get("a verbose GET", 0, 0);
@@ -143,6 +161,9 @@ static void requests(void)
     get("a GET with a wrong header flag", 4, ETHNL_REFUSAL_HEADER_FLAGS);
     dump("the last port of a dump", LAST - 1);
     dump("the DONE of a dump", LAST);
+    strset_get("512 names, asked for 2,727 times", FLAGS_ID, FLAGS_ID, 0);
+    strset_get("both lists, which are too long", FLAGS_ID, CLASSES_ID, ETHNL_REFUSAL_REPLY_LEN);
+    strset_get("a last id that is not offered", CLASSES_ID, 77, ETHNL_REFUSAL_STRING_SET);
     lists();
     bitmap_contents();
     set("a SET of bitmaps", 0);

@@ -30,6 +30,17 @@ static void put_commands(struct message *message)
     end_nest(message, all);
 }
 
+/* The group of the notifications, without which the tool does not listen. */
+static void put_group(struct message *message)
+{
+    size_t all = begin_nest(message, CTRL_ATTR_MCAST_GROUPS), one = begin_nest(message, 1);
+
+    name(message, CTRL_ATTR_MCAST_GRP_NAME, "monitor");
+    number(message, CTRL_ATTR_MCAST_GRP_ID, 1);
+    end_nest(message, one);
+    end_nest(message, all);
+}
+
 static void put_header(struct message *message, uint16_t type, const struct nlmsghdr *request)
 {
     put_u32(message, 0);
@@ -59,6 +70,8 @@ struct message family_answer(const struct nlmsghdr *request, uint16_t family)
     name(&answer, CTRL_ATTR_FAMILY_NAME, "ethtool");
     attribute(&answer, CTRL_ATTR_FAMILY_ID, &family, sizeof family);
     put_commands(&answer);
+    if (getenv("ETHNL_MONITOR") != NULL)
+        put_group(&answer);
     end_request(&answer);
     put(&answer, ack.bytes, ack.length);
     return answer;

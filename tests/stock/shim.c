@@ -10,10 +10,13 @@
  *   ETHNL_SENT      gets each ethtool datagram that is sent, its 32-bit length before it
  *   ETHNL_REFUSALS  gets the number of each refusal, one a line
  *   ETHNL_OUTSIDE   gets a line "ioctl" or "rtnetlink" for each time that the machine's own cards would have been asked
- *   ETHNL_INSTEAD   a request that is sent in the place of the tool's, with the tool's message header but for the length
+ *   ETHNL_INSTEAD   a request that is sent in the place of the tool's, with the tool's message header but for the length;
+ *                   in the place of those with the command ETHNL_INSTEAD_OF alone, where that is set
  *   ETHNL_HOLD      a fifo that holds a dump: before each place but the first it gets a line with the place, and what is
  *                   written to it then lets the dump go on
  *   ETHNL_NO_DUMP   the number of a command whose dump is not announced
+ *   ETHNL_MONITOR   notifications, made by hand, which the tool gets when it has read all answers; the group 'monitor' is
+ *                   announced then, as it is by no daemon over this library, which sends none
  *   ETHNL_LOSE      if set, the answers are lost; the tool, which would wait for ever, gets the error of a time limit
  */
 #define _GNU_SOURCE
@@ -33,8 +36,6 @@
 /* The function of this name that would have been called without the shim. */
 #define NEXT(function) ((__typeof__(&function))dlsym(RTLD_NEXT, #function))
 
-enum { SOCKETS = 64 };
-
 /* What a descriptor is to the tool. */
 static enum { NOT_OURS, TO_THE_BOX, TO_THE_CARDS } ours[SOCKETS];
 
@@ -52,7 +53,7 @@ int socket(int domain, int type, int protocol)
     fd = open("/dev/null", O_RDWR);
     if (fd >= 0 && fd < SOCKETS) {
         ours[fd] = protocol == NETLINK_GENERIC ? TO_THE_BOX : TO_THE_CARDS;
-        open_box();
+        open_end(fd);
     }
     return fd;
 }
@@ -106,9 +107,9 @@ ssize_t sendto(int fd, const void *bytes, size_t length, int flags, const struct
     if (!is_ours(fd))
         return NEXT(sendto)(fd, bytes, length, flags, to, to_len);
     if (ours[fd] == TO_THE_BOX)
-        take_datagram(bytes, length);
+        take_datagram(fd, bytes, length);
     else
-        refuse_datagram(bytes, length);
+        refuse_datagram(fd, bytes, length);
     return (ssize_t)length;
 }
 
@@ -119,7 +120,7 @@ ssize_t recvmsg(int fd, struct msghdr *message, int flags)
 
     if (!is_ours(fd))
         return NEXT(recvmsg)(fd, message, flags);
-    length = next_message(message->msg_iov[0].iov_base, message->msg_iov[0].iov_len);
+    length = next_message(fd, message->msg_iov[0].iov_base, message->msg_iov[0].iov_len);
     if (length < 0) {
         errno = EAGAIN;
         return -1;

@@ -46,11 +46,7 @@ refused 1 --show-tunnels quay1
 refused 1 --show-module quay1
 refused 83 --set-module quay1 power-mode-policy auto
 
-# These ask for the names of a string set first, but for `--groups`.
-expect_refusal "7 7" 92 "netlink error: Operation not supported
-netlink error: Operation not supported" -K quay1 gro on
-expect_refusal "7 7" 1 "netlink error: Operation not supported
-netlink error: Operation not supported" -S quay1 --all-groups
+# -K and -S with --all-groups ask for a name list first: strset.sh.
 refused 1 -S quay1 --groups eth-mac
 
 # Levels beside something that is not served: that goes first, is refused, and the levels stay.

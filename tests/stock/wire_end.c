@@ -14,16 +14,20 @@
 
 static struct box box;
 
-/* The datagram that is being answered, and the position and place of what comes next. */
-static struct {
-    uint8_t bytes[ETHNL_DATAGRAM_MAX];
+/* What belongs to one socket. */
+static struct end {
+    /* The datagram that is being answered, and the position and place of what comes next. */
+    uint8_t datagram[ETHNL_DATAGRAM_MAX];
     size_t length;
     uint64_t position, place;
     int unfinished;
-} under_way;
+    /* Answers that the tool has not read yet. */
+    uint8_t queue[4 * ETHNL_PAGE_MIN];
+    size_t queue_start, queue_end;
+} ends[SOCKETS];
 
-static uint8_t queue[4 * ETHNL_PAGE_MIN];
-static size_t queue_start, queue_end;
+/* Whether the notifications have been handed out. */
+static int notified;
 
 /* Opens the file that an environment variable names; null where there is none. */
 static FILE *open_named(const char *variable, const char *mode)
@@ -44,7 +48,7 @@ static void tell_fault(void)
                 (unsigned long)fault.offset);
 }
 
-void open_box(void)
+void open_end(int fd)
 {
     const char *path = getenv("ETHNL_BOX");
 
@@ -53,6 +57,8 @@ void open_box(void)
         exit(99);
     }
     tell_fault();
+    ends[fd].unfinished = 0;
+    ends[fd].queue_start = ends[fd].queue_end = 0;
 }
 
 /* Reads the settings as they are now, and keeps other tools off them; null where they are in no file. */
@@ -112,24 +118,24 @@ void record_outside(const char *how)
     record_line("ETHNL_OUTSIDE", how);
 }
 
-static void queue_answer(const void *bytes, size_t length)
+static void queue_answer(struct end *end, const void *bytes, size_t length)
 {
-    if (length > sizeof queue - queue_end) {
+    if (length > sizeof end->queue - end->queue_end) {
         fputs("shim: too many answers\n", stderr);
         exit(99);
     }
-    memcpy(queue + queue_end, bytes, length);
-    queue_end += length;
+    memcpy(end->queue + end->queue_end, bytes, length);
+    end->queue_end += length;
 }
 
 /* Where a dump is to be held, tells the fifo which place comes next, and waits for a word from it. */
-static void hold(void)
+static void hold(const struct end *end)
 {
-    FILE *fifo = under_way.place != 0 ? open_named("ETHNL_HOLD", "w") : NULL;
+    FILE *fifo = end->place != 0 ? open_named("ETHNL_HOLD", "w") : NULL;
 
     if (fifo == NULL)
         return;
-    fprintf(fifo, "%lu\n", (unsigned long)under_way.place);
+    fprintf(fifo, "%lu\n", (unsigned long)end->place);
     fclose(fifo);
     fifo = open_named("ETHNL_HOLD", "r");
     getc(fifo);
@@ -137,52 +143,59 @@ static void hold(void)
 }
 
 /* One call of the library, on the settings as they are at this moment. */
-static struct ethnl_answer call(uint8_t *page)
+static struct ethnl_answer call(const struct end *end, uint8_t *page)
 {
     FILE *state = take_settings();
-    struct ethnl_answer answer = box_handle(&box, under_way.bytes, under_way.length, under_way.position,
-                                            under_way.place, page);
+    struct ethnl_answer answer = box_handle(&box, end->datagram, end->length, end->position, end->place, page);
 
     give_back_settings(state);
     return answer;
 }
 
 /* Answers the datagram up to its end, a refusal that nothing can follow, or a message that a dump goes on after. */
-static void serve(void)
+static void serve(struct end *end)
 {
     static uint8_t page[ETHNL_PAGE_MIN];
     struct ethnl_answer answer;
 
     do {
-        hold();
-        answer = call(page);
+        hold(end);
+        answer = call(end, page);
         if (answer.kind == ETHNL_REFUSED)
             record_refusal(answer.refusal);
         if (getenv("ETHNL_LOSE") == NULL)
-            queue_answer(page, answer.written);
-        under_way.position = answer.next;
-        under_way.place = answer.next_place;
-        under_way.unfinished = answer.kind != ETHNL_END &&
-                               !(answer.kind == ETHNL_REFUSED && answer.refusal <= ETHNL_LAST_SILENT);
-    } while (under_way.unfinished && under_way.place == 0);
+            queue_answer(end, page, answer.written);
+        end->position = answer.next;
+        end->place = answer.next_place;
+        end->unfinished = answer.kind != ETHNL_END &&
+                          !(answer.kind == ETHNL_REFUSED && answer.refusal <= ETHNL_LAST_SILENT);
+    } while (end->unfinished && end->place == 0);
 }
 
-static void begin_serving(const void *datagram, size_t length)
+static void begin_serving(struct end *end, const void *datagram, size_t length)
 {
-    if (length > sizeof under_way.bytes || under_way.unfinished) {
+    if (length > sizeof end->datagram || end->unfinished) {
         fputs("shim: a datagram too long, or in the middle of a dump\n", stderr);
         exit(99);
     }
-    memcpy(under_way.bytes, datagram, length);
-    under_way.length = length;
-    under_way.position = under_way.place = 0;
-    serve();
+    memcpy(end->datagram, datagram, length);
+    end->length = length;
+    end->position = end->place = 0;
+    serve(end);
+}
+
+/* Whether another request takes the place of the tool's: of any, or of those with one command. */
+static int is_replaced(const void *of_tool)
+{
+    const char *command = getenv("ETHNL_INSTEAD_OF");
+
+    return command == NULL || atoi(command) == ((const uint8_t *)of_tool)[sizeof(struct nlmsghdr)];
 }
 
 /* Reads the request that takes the place of the tool's; the header's type, flags, sequence and port id stay the tool's. */
 static size_t read_instead(uint8_t *request, size_t room, const void *of_tool)
 {
-    FILE *instead = open_named("ETHNL_INSTEAD", "rb");
+    FILE *instead = is_replaced(of_tool) ? open_named("ETHNL_INSTEAD", "rb") : NULL;
     size_t length;
 
     if (instead == NULL)
@@ -193,7 +206,7 @@ static size_t read_instead(uint8_t *request, size_t room, const void *of_tool)
     return length;
 }
 
-void take_datagram(const void *datagram, size_t length)
+void take_datagram(int fd, const void *datagram, size_t length)
 {
     static uint8_t instead[ETHNL_DATAGRAM_MAX];
     const struct nlmsghdr *header = datagram;
@@ -202,7 +215,7 @@ void take_datagram(const void *datagram, size_t length)
 
     if (length >= sizeof *header && header->nlmsg_type == GENL_ID_CTRL) {
         answer = family_answer(header, (uint16_t)box.family);
-        queue_answer(answer.bytes, answer.length);
+        queue_answer(&ends[fd], answer.bytes, answer.length);
         return;
     }
     instead_length = read_instead(instead, sizeof instead, datagram);
@@ -211,10 +224,10 @@ void take_datagram(const void *datagram, size_t length)
         length = instead_length;
     }
     record(datagram, (uint32_t)length);
-    begin_serving(datagram, length);
+    begin_serving(&ends[fd], datagram, length);
 }
 
-void refuse_datagram(const void *datagram, size_t length)
+void refuse_datagram(int fd, const void *datagram, size_t length)
 {
     struct message error;
 
@@ -222,21 +235,36 @@ void refuse_datagram(const void *datagram, size_t length)
     if (length < sizeof(struct nlmsghdr))
         return;
     error = error_message(datagram, EOPNOTSUPP);
-    queue_answer(error.bytes, error.length);
+    queue_answer(&ends[fd], error.bytes, error.length);
 }
 
-long next_message(void *buffer, size_t room)
+/* Once the tool has read all that it asked for: the notifications, if a test has any. */
+static void notify(struct end *end)
 {
+    FILE *file = notified ? NULL : open_named("ETHNL_MONITOR", "rb");
+
+    if (file == NULL)
+        return;
+    end->queue_end = fread(end->queue, 1, sizeof end->queue, file);
+    notified = 1;
+    fclose(file);
+}
+
+long next_message(int fd, void *buffer, size_t room)
+{
+    struct end *end = &ends[fd];
     uint32_t length;
 
-    while (queue_start == queue_end && under_way.unfinished)
-        serve();
-    if (queue_start == queue_end)
+    while (end->queue_start == end->queue_end && end->unfinished)
+        serve(end);
+    if (end->queue_start == end->queue_end)
+        notify(end);
+    if (end->queue_start == end->queue_end)
         return -1;
-    memcpy(&length, queue + queue_start, sizeof length);
-    memcpy(buffer, queue + queue_start, length < room ? length : room);
-    queue_start += length;
-    if (queue_start == queue_end)
-        queue_start = queue_end = 0;
+    memcpy(&length, end->queue + end->queue_start, sizeof length);
+    memcpy(buffer, end->queue + end->queue_start, length < room ? length : room);
+    end->queue_start += length;
+    if (end->queue_start == end->queue_end)
+        end->queue_start = end->queue_end = 0;
     return (long)length;
 }

@@ -39,6 +39,7 @@ fn errno_text(errno: i32) -> String {
         -2 => "ENOENT",
         -19 => "ENODEV",
         -22 => "EINVAL",
+        -90 => "EMSGSIZE",
         -95 => "EOPNOTSUPP",
         _ => "",
     };

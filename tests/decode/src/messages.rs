@@ -59,7 +59,7 @@ fn body(out: &mut String, message: &[u8], header: &MessageHeader, family: Option
             let title = format!("command {} {command}", generic.command);
             out.push_str(&format!("  {}, version {}\n", title.trim_end(), generic.version));
             let offset = MessageHeader::SIZE + GenericHeader::SIZE;
-            let parent = if named { Parent::Top } else { Parent::Plain };
+            let parent = if named { policy::top(generic.command) } else { Parent::Plain };
             print(out, Place { bytes: &message[offset..], offset, depth: 1 }, parent);
         }
         _ if bytes.is_empty() => {}

@@ -1,4 +1,7 @@
-//! Names and payloads of the attributes of the four commands (document 01, "Sizes on the wire").
+//! Names and payloads of the attributes of the commands (document 01, "Sizes on the wire", and request C-13).
+
+/// The same number in a request and in its reply.
+const STRSET_GET: u8 = 1;
 
 /// What a payload is read as.
 #[derive(Clone, Copy, Debug, PartialEq, Eq)]
@@ -18,6 +21,12 @@ pub enum Parent {
     Bitset,
     Bits,
     Bit,
+    /// The top level of STRSET_GET and of its reply, and what stands in it.
+    StrsetTop,
+    Stringsets,
+    Stringset,
+    Strings,
+    String,
     /// After the quoted header of an error message.
     Error,
     /// Names are unknown here.
@@ -50,6 +59,16 @@ pub fn known(parent: Parent, kind: u16) -> Known {
         (Parent::Bit, 1) => leaf("INDEX", Shape::Number),
         (Parent::Bit, 2) => leaf("NAME", Shape::Name),
         (Parent::Bit, 3) => leaf("VALUE", Shape::Flag),
+        (Parent::StrsetTop, 1) => nest("HEADER", Parent::Header),
+        (Parent::StrsetTop, 2) => nest("STRINGSETS", Parent::Stringsets),
+        (Parent::StrsetTop, 3) => leaf("COUNTS_ONLY", Shape::Flag),
+        (Parent::Stringsets, 1) => nest("STRINGSET", Parent::Stringset),
+        (Parent::Stringset, 1) => leaf("ID", Shape::Number),
+        (Parent::Stringset, 2) => leaf("COUNT", Shape::Number),
+        (Parent::Stringset, 3) => nest("STRINGS", Parent::Strings),
+        (Parent::Strings, 1) => nest("STRING", Parent::String),
+        (Parent::String, 1) => leaf("INDEX", Shape::Number),
+        (Parent::String, 2) => leaf("VALUE", Shape::Name),
         (Parent::Error, 2) => leaf("OFFS", Shape::Number),
         (Parent::Error, 5) => leaf("MISS_TYPE", Shape::Number),
         (Parent::Error, 6) => leaf("MISS_NEST", Shape::Number),
@@ -60,6 +79,8 @@ pub fn known(parent: Parent, kind: u16) -> Known {
 /// A command's name: requests and replies have numbers of their own.
 pub fn command(number: u8, is_request: bool) -> &'static str {
     match (number, is_request) {
+        (STRSET_GET, true) => "STRSET_GET",
+        (STRSET_GET, false) => "STRSET_GET_REPLY",
         (7, true) => "DEBUG_GET",
         (8, true) => "DEBUG_SET",
         (13, true) => "PRIVFLAGS_GET",
@@ -67,5 +88,13 @@ pub fn command(number: u8, is_request: bool) -> &'static str {
         (7, false) => "DEBUG_GET_REPLY",
         (14, false) => "PRIVFLAGS_GET_REPLY",
         _ => "",
+    }
+}
+
+/// What the attributes behind the headers of a message with this command stand in.
+pub fn top(command: u8) -> Parent {
+    match command {
+        STRSET_GET => Parent::StrsetTop,
+        _ => Parent::Top,
     }
 }

@@ -57,6 +57,39 @@ message at 0: length 52, type 2, flags 0x0300, sequence 7, port id 9
 }
 
 #[test]
+fn name_lists_and_the_request_for_them_have_names() {
+    let messages = "\
+        2C 00 00 00 19 00 01 00 07 00 00 00 09 00 00 00 01 01 00 00 04 00 01 80 \
+        10 00 02 80 0C 00 01 80 08 00 01 00 0A 00 00 00 04 00 03 00 \
+        44 00 00 00 19 00 00 00 07 00 00 00 09 00 00 00 01 01 00 00 30 00 02 80 2C 00 01 80 08 00 01 00 0A 00 00 00 \
+        08 00 02 00 01 00 00 00 18 00 03 80 14 00 01 80 08 00 01 00 00 00 00 00 05 00 02 00 00 00 00 00 \
+        24 00 00 00 02 00 00 01 07 00 00 00 09 00 00 00 A6 FF FF FF 2C 00 00 00 19 00 01 00 07 00 00 00 09 00 00 00";
+    let expected = "\
+message at 0: length 44, type 25, flags 0x0001, sequence 7, port id 9
+  command 1 STRSET_GET, version 1
+  @20 1 HEADER, nest of 0 bytes
+  @24 2 STRINGSETS, nest of 12 bytes
+    @28 1 STRINGSET, nest of 8 bytes
+      @32 1 ID: 10
+  @40 3 COUNTS_ONLY: flag
+message at 44: length 68, type 25, flags 0x0000, sequence 7, port id 9
+  command 1 STRSET_GET_REPLY, version 1
+  @20 2 STRINGSETS, nest of 44 bytes
+    @24 1 STRINGSET, nest of 40 bytes
+      @28 1 ID: 10
+      @36 2 COUNT: 1
+      @44 3 STRINGS, nest of 20 bytes
+        @48 1 STRING, nest of 16 bytes
+          @52 1 INDEX: 0
+          @60 2 VALUE: \"\"
+message at 112: length 36, type 2, flags 0x0100, sequence 7, port id 9
+  error -90 EMSGSIZE
+  about: length 44, type 25, flags 0x0001, sequence 7, port id 9
+";
+    assert_eq!(decode(&bytes(messages), Some(25)), expected);
+}
+
+#[test]
 fn dump_is_told_and_done_ends_it() {
     let messages = "\
         18 00 00 00 19 00 05 03 07 00 00 00 09 00 00 00 0D 01 00 00 04 00 01 80 \

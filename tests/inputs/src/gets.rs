@@ -1,7 +1,8 @@
-//! GETs of the port and of all ports in both reply forms, and messages that are skipped.
+//! GETs of the port and of all ports in both reply forms, of the name lists, and messages that are skipped.
 
 use super::making::*;
 use cases::requests::{Request, ACK, PORT_FLAGS, PORT_NAME};
+use cases::strsets::{list, CLASSES, FLAGS, ID, STRINGSET, STRINGSETS};
 use cases::tree::Attribute;
 
 fn compact(command: u8, flags: u16) -> Request {
@@ -48,6 +49,29 @@ pub fn dumps() -> Vec<Message> {
         dumped("all debug sets, compact, an ACK asked for", DEBUG_GET, ACK, Some(3)),
         message("one DUMP bit alone", Outcome::Done, verbose(PRIVFLAGS_GET, 0x100)),
         message("the other DUMP bit alone", Outcome::Done, compact(DEBUG_GET, 0x200)),
+    ]
+}
+
+/// The name lists of the port and of no port, by default and by their ids.
+pub fn name_lists() -> Vec<Message> {
+    let done = |what, flags, attributes| message(what, Outcome::Done, names(flags, attributes));
+    let no_port = || header(vec![]);
+    let by_name = || header(vec![Attribute::name(PORT_NAME, b"sw0")]);
+    let two_ids = Attribute::nest(STRINGSET, vec![Attribute::number(ID, 77), Attribute::number(ID, CLASSES)]);
+    vec![
+        done("message classes by default", 0, vec![no_port()]),
+        done("message classes by their id, with ACK", ACK, vec![no_port(), list(&[CLASSES])]),
+        done("private flags by default", 0, vec![port()]),
+        done("an empty list, compact changes nothing", ACK, vec![port_with(1), list(&[])]),
+        done("an empty list without a port", 0, vec![no_port(), list(&[])]),
+        done("both lists", 0, vec![by_name(), list(&[FLAGS, CLASSES])]),
+        done("both in the other order, with ACK", ACK, vec![list(&[CLASSES, FLAGS]), port()]),
+        done("repeated ids", 0, vec![port(), list(&[CLASSES, FLAGS, FLAGS, CLASSES])]),
+        done("the counts of both, with ACK", ACK, vec![port(), list(&[FLAGS, CLASSES]), counts_only()]),
+        done("the count of the message classes", 0, vec![counts_only(), no_port()]),
+        done("the last list counts", 0, vec![no_port(), list(&[77]), list(&[CLASSES])]),
+        done("the last id of a set counts", 0, vec![port(), Attribute::nest(STRINGSETS, vec![two_ids])]),
+        done("one DUMP bit alone", 0x200, vec![no_port()]),
     ]
 }
 

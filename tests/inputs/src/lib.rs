@@ -1,7 +1,8 @@
 //! Inputs for the program `answer`, for the one box that it has: port 3 "sw0", 40 bits in each set, flag 3 "lldp".
 //!
-//! The stored input (`crates/answer/stdin`) is [`stored`]: one long datagram that meets every refusal from 5 to 23 but
-//! 9, which cannot be met since the program's sender is always admin. The other inputs are the ways in which a run ends.
+//! The stored input (`crates/answer/stdin`) is [`stored`]: one long datagram that meets every refusal from 5 to 24 but
+//! 9, which cannot be met since the program's sender is always admin. 25 cannot be met by a box with so few names. The other
+//! inputs are the ways in which a run ends.
 
 #![forbid(unsafe_code)]
 
@@ -21,11 +22,14 @@ pub fn messages() -> Vec<Message> {
     messages.extend(changes::index_and_name());
     messages.extend(changes::debug());
     messages.extend(gets::dumps());
+    messages.extend(gets::name_lists());
     messages.extend(refusals::of_message());
     messages.extend(refusals::of_header());
     messages.extend(refusals::of_dump());
     messages.extend(refusals::of_bitset());
     messages.extend(refusals::of_index_and_name());
+    messages.extend(refusals::of_names());
+    messages.extend(refusals::of_name_lists());
     messages.extend(gets::after());
     messages
 }

@@ -2,6 +2,7 @@
 
 use cases::bitsets::{BIT, BITS, BIT_INDEX, BIT_NAME, BIT_VALUE, MASK, NOMASK, SIZE, VALUE};
 use cases::requests::{Request, BITSET, DUMP, HEADER, PORT_FLAGS, PORT_INDEX, REQUEST};
+use cases::strsets::{COUNTS_ONLY, STRSET_GET};
 use cases::tree::Attribute;
 
 pub const FAMILY: u16 = 25;
@@ -62,6 +63,15 @@ pub fn port_with(flags: u32) -> Attribute {
 /// A request for all ports with these parts in its header.
 pub fn dump(command: u8, flags: u16, parts: Vec<Attribute>) -> Request {
     request(command, flags | DUMP, vec![header(parts)])
+}
+
+/// A request for name lists.
+pub fn names(flags: u16, attributes: Vec<Attribute>) -> Request {
+    request(STRSET_GET, flags, attributes)
+}
+
+pub fn counts_only() -> Attribute {
+    Attribute::leaf(COUNTS_ONLY, &[])
 }
 
 pub fn set(command: u8, flags: u16, contents: Vec<Attribute>) -> Request {

@@ -1,8 +1,10 @@
-//! Each refusal from 5 to 23 but 9, in the ways in which document 01 and the requests C-11 and C-12 tell them apart.
+//! Each refusal from 5 to 24 but 9, in the ways in which document 01 and the requests C-11 to C-13 tell them apart. 25
+//! cannot be met: the reply about both lists of 40 names is far shorter.
 
 use super::making::*;
 use cases::bitsets::{BIT, BITS, NOMASK, SIZE};
 use cases::requests::{Request, ACK, BITSET, DUMP, HEADER, PORT_FLAGS, PORT_INDEX, PORT_NAME};
+use cases::strsets::{self, CLASSES, FLAGS, ID, STRINGSET, STRINGSETS};
 use cases::tree::{Attribute, Body};
 
 fn refused(number: u32, what: &'static str, request: Request) -> Message {
@@ -22,7 +24,7 @@ pub fn of_message() -> Vec<Message> {
         refused(5, "another family", Request { kind: 26, ..whole() }),
         refused(6, "no generic header", Request { generic: vec![], ..get(vec![]) }),
         refused(6, "half a generic header", Request { generic: vec![13, 1], ..get(vec![]) }),
-        refused(7, "a command that is not listed", request(1, ACK, vec![port()])),
+        refused(7, "a command that is not listed", request(2, ACK, vec![port()])),
         refused(8, "a SET with both DUMP bits", set(PRIVFLAGS_SET, DUMP, vec![bits(vec![])])),
         refused(8, "the same, broken off", Request { stray: vec![4, 0, 1], ..set(DEBUG_SET, DUMP, vec![]) }),
         refused(10, "three bytes at the end", Request { stray: vec![4, 0, 1], ..whole() }),
@@ -118,5 +120,50 @@ pub fn of_index_and_name() -> Vec<Message> {
         refused(23, "index 5 beside the name of bit 3", list(vec![bit_at(6, true), other()])),
         refused(23, "the same under NOMASK", set(PRIVFLAGS_SET, ACK, vec![nomask(), bits(vec![other()])])),
         refused(23, "the same before type 4 in the next BIT", list(vec![other(), odd])),
+    ]
+}
+
+/// What a request for name lists is refused by before its list is opened.
+pub fn of_names() -> Vec<Message> {
+    let number = Attribute::number;
+    let of = |parts| names(ACK, vec![header(parts), strsets::list(&[77])]);
+    let cut = |flags| Request { stray: vec![4, 0, 1], ..names(flags, vec![]) };
+    let payload = number(strsets::COUNTS_ONLY, 1);
+    vec![
+        refused(8, "name lists with both DUMP bits", names(DUMP, vec![header(vec![])])),
+        refused(8, "the same, broken off", cut(DUMP)),
+        refused(8, "the same of the port, id 77", names(DUMP, vec![port(), strsets::list(&[77])])),
+        refused(10, "three bytes at the end, without a header", cut(0)),
+        refused(11, "type 4 beside the list", names(0, vec![port(), Attribute::leaf(4, &[])])),
+        refused(12, "COUNTS_ONLY with a payload", names(0, vec![port(), payload])),
+        refused(13, "name lists without a header", names(0, vec![strsets::list(&[77])])),
+        refused(15, "header flag 4 without a port", of(vec![number(PORT_FLAGS, 4)])),
+        refused(16, "name lists of an unknown port", of(vec![number(PORT_INDEX, 4)])),
+        refused(17, "name lists by another name", of(vec![number(PORT_INDEX, 3), Attribute::name(PORT_NAME, b"sw1")])),
+    ]
+}
+
+/// The list of names' own 10 to 13, and 24.
+pub fn of_name_lists() -> Vec<Message> {
+    let of = |sets| names(0, vec![port(), Attribute::nest(STRINGSETS, sets)]);
+    let ids = |ids: &[u32]| names(ACK, vec![port(), strsets::list(ids)]);
+    let no_port = |ids: &[u32]| names(0, vec![header(vec![]), strsets::list(ids)]);
+    let set = |parts| Attribute::nest(STRINGSET, parts);
+    let id = |id| Attribute::number(ID, id);
+    let cut = || Attribute { body: Body::Nest(vec![], vec![0]), ..set(vec![]) };
+    vec![
+        refused(10, "a byte in a set", of(vec![strsets::set(FLAGS), cut()])),
+        refused(11, "type 2 in the list", of(vec![strsets::set(77), Attribute::nest(2, vec![])])),
+        refused(11, "COUNT in a set", of(vec![set(vec![id(FLAGS), Attribute::number(2, 40)])])),
+        refused(11, "STRINGS in a set", of(vec![set(vec![id(FLAGS), Attribute::nest(3, vec![])])])),
+        refused(12, "an id of two bytes", of(vec![set(vec![Attribute::leaf(ID, &[2, 0])])])),
+        refused(13, "a set without its id", of(vec![strsets::set(CLASSES), set(vec![])])),
+        refused(13, "the same before an id that is not offered", of(vec![set(vec![]), strsets::set(77)])),
+        refused(24, "id 11, Wake-on-LAN", ids(&[11])),
+        refused(24, "id 0 behind one that is offered", ids(&[FLAGS, 0])),
+        refused(24, "private flags without a port", no_port(&[FLAGS])),
+        refused(24, "the same behind message classes", no_port(&[CLASSES, FLAGS])),
+        refused(24, "the last id of a set", of(vec![set(vec![id(CLASSES), id(77)])])),
+        refused(24, "id 77 before a byte in the next set", of(vec![strsets::set(77), cut()])),
     ]
 }

@@ -50,10 +50,11 @@ fn every_message_meets_what_it_is_there_for() {
     assert_eq!(answers.last().unwrap().last().unwrap().0.next, stored("stdin").len() as u64);
 }
 
+/// Nor 25: both lists of 40 names are far from too long.
 #[test]
-fn every_refusal_but_9_is_met() {
+fn every_refusal_from_5_to_24_but_9_is_met() {
     let met: Vec<u32> = reader::answers(&stored("stdin")).iter().map(|(answer, _)| answer.refusal).collect();
-    for number in (5..=23).filter(|number| *number != 9) {
+    for number in (5..=24).filter(|number| *number != 9) {
         assert!(met.contains(&number), "refusal {number}");
     }
 }
@@ -67,9 +68,19 @@ fn a_sender_who_is_not_admin_meets_9() {
     assert!(met(0) > 10);
 }
 
-/// The type of the attribute behind SIZE in a reply: BITS (3) if verbose, VALUE (4) if compact.
+/// The type of the attribute behind SIZE in a reply with a set: BITS (3) if verbose, VALUE (4) if compact.
 fn form(reply: &[u8]) -> Option<u8> {
-    (reply.len() > 58 && reply[4..6] == [25, 0]).then(|| reply[58])
+    (reply.len() > 58 && reply[4..6] == [25, 0] && !tells_names(reply)).then(|| reply[58])
+}
+
+/// Whether it is a reply to STRSET_GET.
+fn tells_names(reply: &[u8]) -> bool {
+    reply.len() > 16 && reply[4..6] == [25, 0] && reply[16] == 1
+}
+
+/// Whether something, which can only be an ACK, stands behind the first message of an answer.
+fn acked(bytes: &[u8]) -> bool {
+    bytes.len() > u32::from_le_bytes(bytes[..4].try_into().unwrap()) as usize
 }
 
 #[test]
@@ -77,7 +88,6 @@ fn both_reply_forms_are_met_with_and_without_ack() {
     let answers = reader::answers(&stored("stdin"));
     for form_number in [3, 4] {
         let replies: Vec<_> = answers.iter().filter(|(_, bytes)| form(bytes) == Some(form_number)).collect();
-        let acked = |bytes: &[u8]| bytes.len() > u32::from_le_bytes(bytes[..4].try_into().unwrap()) as usize;
         assert!(replies.iter().any(|(_, bytes)| acked(bytes)));
         assert!(replies.iter().any(|(_, bytes)| !acked(bytes)));
     }
@@ -87,6 +97,42 @@ fn both_reply_forms_are_met_with_and_without_ack() {
         .map(|(_, bytes)| bytes.len())
         .collect();
     assert!(sets.contains(&0) && sets.contains(&36));
+}
+
+/// The ids of a reply's lists, by the lengths of its nests.
+fn ids_told(reply: &[u8]) -> Vec<u8> {
+    let length = |at: usize| usize::from(u16::from_le_bytes([reply[at], reply[at + 1]]));
+    let list = if reply[22] == 1 { 20 + length(20) } else { 20 };
+    let mut at = list + 4;
+    let mut ids = Vec::new();
+    while at < list + length(list) {
+        ids.push(reply[at + 8]);
+        at += length(at);
+    }
+    ids
+}
+
+/// The counts alone of both lists take 40 bytes, 40 names at least 800.
+#[test]
+fn name_lists_are_met_with_and_without_a_port_strings_and_ack() {
+    let answers = reader::answers(&stored("stdin"));
+    let replies = answers.iter().map(|(_, bytes)| bytes).filter(|bytes| tells_names(bytes));
+    let met: Vec<_> = replies.map(|reply| (ids_told(reply), reply[22] == 1, reply.len() > 800, acked(reply))).collect();
+    let expected: [(&[u8], bool, bool, bool); 10] = [
+        (&[10], false, true, false),
+        (&[10], false, true, true),
+        (&[2], true, true, false),
+        (&[2], true, true, true),
+        (&[2, 10], true, true, false),
+        (&[10, 2], true, true, true),
+        (&[10, 2], true, true, false),
+        (&[2, 10], true, false, true),
+        (&[10], false, false, false),
+        (&[10], true, true, false),
+    ];
+    for (ids, port, strings, ack) in expected {
+        assert!(met.contains(&(ids.to_vec(), port, strings, ack)), "{ids:?} {port} {strings} {ack}");
+    }
 }
 
 /// Each dump's command, whether it asks for an ACK, and its two messages.
