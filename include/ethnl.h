@@ -1,7 +1,7 @@
 /*
  * ethnl: answers ethtool netlink requests for a box of switch ports.
  *
- * Four commands are served: DEBUG_GET (7), DEBUG_SET (8), PRIVFLAGS_GET (13), PRIVFLAGS_SET (14).
+ * Five commands are served: STRSET_GET (1), DEBUG_GET (7), DEBUG_SET (8), PRIVFLAGS_GET (13), PRIVFLAGS_SET (14).
  * The library opens nothing, allocates nothing and keeps nothing between calls: all state is lent by
  * the caller. Every input has an answer; nothing needs to be checked before a call. ethnl_box.h has the same
  * functions over one struct instead of a row of buffers (ethnl_box_handle, ethnl_form_of, ethnl_box_check), and a
@@ -48,8 +48,13 @@
  * anew, so a SET in between, from another socket, is seen by the replies still to come. Keep the roll as it is
  * meanwhile, since places count its ports.
  *
- * Sending. The page may hold no message, one, or two: a GET that asks for an ACK gets its reply and right behind
- * it the ACK. Each begins with its own length as 32 bits, a multiple of 4, and goes out as a datagram of its own,
+ * Name lists. A STRSET_GET is answered by the names of the private flags (id 2, of a port that is named) and of the
+ * message classes (id 10, the debug names), as STRINGSETS lists their ids; without a list by the flags where a port is
+ * named, else by the classes. Its reply may fill ETHNL_PAGE_MIN bytes. With its ACK it never takes more, whatever
+ * page_len: ETHNL_REFUSAL_REPLY_LEN then; asking for one list, or for COUNTS_ONLY, gets an answer.
+ *
+ * Sending. The page may hold no message, one, or two: a GET or a STRSET_GET that asks for an ACK gets its reply and right
+ * behind it the ACK. Each begins with its own length as 32 bits, a multiple of 4, and goes out as a datagram of its own,
  * as the kernel sends them:
  *
  *     for (at = 0; at < written; at += length) {
@@ -72,13 +77,13 @@ extern "C" {
  * behind the position, and hands back next_place behind next. A caller changes its call, as the loop above shows.
  */
 #define ETHNL_VERSION_MAJOR 0
-#define ETHNL_VERSION_MINOR 4
+#define ETHNL_VERSION_MINOR 5
 #define ETHNL_VERSION_PATCH 0
 #define ETHNL_VERSION (10000 * ETHNL_VERSION_MAJOR + 100 * ETHNL_VERSION_MINOR + ETHNL_VERSION_PATCH) /* a number for #if */
 #define ETHNL_VERSION_STRING ETHNL_DOTTED(ETHNL_VERSION_MAJOR, ETHNL_VERSION_MINOR, ETHNL_VERSION_PATCH) /* major.minor.patch */
 #define ETHNL_DOTTED(major, minor, patch) ETHNL_DOTTED_TEXT(major, minor, patch)
 #define ETHNL_DOTTED_TEXT(major, minor, patch) #major "." #minor "." #patch
-#define ETHNL_LEVEL 12 /* the number of the highest change request that the library has; C-11, dumps, is in it since 0.4.0 */
+#define ETHNL_LEVEL 13 /* the number of the highest change request that the library has */
 
 /* Sizes in bytes. */
 #define ETHNL_PAGE_MIN 32768     /* shortest answer page of ethnl_handle */
@@ -116,14 +121,14 @@ extern "C" {
 #define ETHNL_REFUSAL_MESSAGE_LEN 4     /* message length below 16 or more than is left */
 #define ETHNL_REFUSAL_FAMILY 5          /* ENOENT: message type isn't the family */
 #define ETHNL_REFUSAL_GENERIC_HEADER 6  /* EINVAL: message length 16 to 19 */
-#define ETHNL_REFUSAL_COMMAND 7         /* EOPNOTSUPP: command isn't one of the four */
-#define ETHNL_REFUSAL_DUMP 8            /* EOPNOTSUPP: both DUMP flags in a SET, or in a GET that names a port */
+#define ETHNL_REFUSAL_COMMAND 7         /* EOPNOTSUPP: command isn't one of the five */
+#define ETHNL_REFUSAL_DUMP 8            /* EOPNOTSUPP: both DUMP flags in a SET or STRSET_GET, or in a GET that names a port */
 #define ETHNL_REFUSAL_ADMIN 9           /* EPERM: a SET, and the sender isn't admin */
 #define ETHNL_REFUSAL_ATTRIBUTE_LEN 10  /* EINVAL: attribute length below 4 or more than is left, or 1 to 3 bytes left; OFFS there */
 #define ETHNL_REFUSAL_ATTRIBUTE_TYPE 11 /* EINVAL: attribute type not listed here; OFFS attribute */
 #define ETHNL_REFUSAL_PAYLOAD 12        /* EINVAL: attribute's payload or type bits wrong; OFFS attribute */
 #define ETHNL_REFUSAL_MISSING 13        /* EINVAL: required attribute absent; ETHNL_MISS_TYPE, ETHNL_MISS_NEST */
-#define ETHNL_REFUSAL_NO_PORT 14        /* EINVAL: neither index nor name of a port, and no dump; OFFS header nest */
+#define ETHNL_REFUSAL_NO_PORT 14        /* EINVAL: neither index nor name of a port, and neither dump nor STRSET_GET; OFFS header nest */
 #define ETHNL_REFUSAL_HEADER_FLAGS 15   /* EOPNOTSUPP: header flag other than 1 (compact), 2 (omit reply); OFFS flags */
 #define ETHNL_REFUSAL_UNKNOWN_PORT 16   /* ENODEV: no such port; OFFS index or name */
 #define ETHNL_REFUSAL_OTHER_PORT 17     /* ENODEV: index found, but its port has another name; OFFS header nest */
@@ -133,6 +138,8 @@ extern "C" {
 #define ETHNL_REFUSAL_UNKNOWN_BIT 21    /* EOPNOTSUPP: bit name unknown, also beside an index; OFFS NAME */
 #define ETHNL_REFUSAL_NO_BIT 22         /* EINVAL: a BIT with neither index nor name; OFFS BIT */
 #define ETHNL_REFUSAL_INDEX_NAME 23     /* EINVAL: index and name of a BIT mean two bits; OFFS BIT */
+#define ETHNL_REFUSAL_STRING_SET 24     /* EOPNOTSUPP: id of a name list that isn't offered, or 2 without a port; OFFS ID */
+#define ETHNL_REFUSAL_REPLY_LEN 25      /* EMSGSIZE: name lists whose reply, with its ACK, has more than 32,768 bytes */
 #define ETHNL_LAST_SILENT 4             /* the last refusal that writes nothing */
 
 /* Attributes of an error message. linux/netlink.h has them from Linux 6.1 on only (NLMSGERR_ATTR_MISS_). */

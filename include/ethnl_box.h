@@ -104,7 +104,7 @@ ETHNL_INLINE const char *ethnl_strerror(uint32_t refusal)
         "The message's type is not the family's number.",
         "The message ends inside the generic header.",
         "The command is none of those that are served.",
-        "Both DUMP flags stand in a SET, or in a request that names a port.",
+        "Both DUMP flags stand in a SET or STRSET_GET, or in a request that names a port.",
         "The sender is not admin and may not change settings.",
         "An attribute's length is below 4 or more than is left, or 1 to 3 bytes are left.",
         "An attribute's type is not listed at its place.",
@@ -120,6 +120,8 @@ ETHNL_INLINE const char *ethnl_strerror(uint32_t refusal)
         "A bit's name is not in the list.",
         "A bit has neither index nor name.",
         "The index and the name of a bit mean two bits.",
+        "The id of a name list isn't offered, or needs a port.",
+        "The reply with the name lists is too long.",
     };
 
     return refusal < sizeof sentences / sizeof *sentences ? sentences[refusal] : "The number is not that of a refusal.";

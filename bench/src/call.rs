@@ -14,6 +14,8 @@ pub enum Made {
 
 enum Input {
     Message(Vec<u8>),
+    /// A message that is refused.
+    Refused(Vec<u8>),
     /// Several datagrams of one message, one after the other.
     Messages(Vec<Vec<u8>>),
     /// A message that is answered place by place.
@@ -95,6 +97,17 @@ impl Call {
         Self::new(&name, 1, bits, Input::Contents(requests::list(Told::Name, entries, bits)))
     }
 
+    /// Both name lists, of names of 31 bytes, in one reply: written, or refused by 25 where it is too long.
+    pub fn name_lists(bits: usize, refused: bool) -> Self {
+        let told = if refused { "refused by 25" } else { "told" };
+        let input =
+            if refused { Input::Refused(requests::name_lists()) } else { Input::Message(requests::name_lists()) };
+        Call {
+            lent: Lent::of_thirty_one(bits),
+            ..Self::new(&format!("two lists of {bits} names {told}"), 1, bits, input)
+        }
+    }
+
     /// Which part of the largest box is at fault, and where; `spoil` makes it so.
     pub fn parts(name: &str, part: u32, spoil: impl Fn(&mut Lent)) -> Self {
         let mut call = Self::new(name, 64, 512, Input::Parts(part));
@@ -111,7 +124,7 @@ impl Call {
     /// Bytes of the datagram or contents.
     pub fn input_bytes(&self) -> usize {
         match &self.input {
-            Input::Message(bytes) | Input::Dump(bytes) | Input::Contents(bytes) => bytes.len(),
+            Input::Message(bytes) | Input::Refused(bytes) | Input::Dump(bytes) | Input::Contents(bytes) => bytes.len(),
             Input::Messages(datagrams) => datagrams.iter().map(Vec::len).sum(),
             Input::End | Input::Parts(_) => 0,
         }
@@ -121,6 +134,7 @@ impl Call {
     pub fn expected(&self) -> u32 {
         match &self.input {
             Input::Message(_) | Input::Messages(_) | Input::Dump(_) => reader::DONE,
+            Input::Refused(_) => reader::REFUSED,
             Input::End => reader::END,
             Input::Contents(_) => 0,
             Input::Parts(part) => *part,
@@ -134,7 +148,7 @@ impl Call {
         match (black_box(&*input), made) {
             (Input::Contents(contents), Made::Library) => library::normalise(contents, &lent.flag_names, page),
             (Input::Contents(contents), Made::Reader) => reader::normalise(contents, &lent.flag_names, page),
-            (Input::Message(datagram), made) => told(&handle(made, lent, datagram, 0, page)),
+            (Input::Message(datagram) | Input::Refused(datagram), made) => told(&handle(made, lent, datagram, 0, page)),
             (Input::Messages(datagrams), made) => each(made, lent, datagrams, page),
             (Input::Dump(datagram), made) => whole_dump(made, lent, datagram, page),
             (Input::End, made) => told(&handle(made, lent, &[], 0, page)),

@@ -48,6 +48,12 @@ impl Lent {
         Lent { flag_names: list(bits, |bit| format!("storm-queue-{bit:04}")), ..Self::new(1, bits) }
     }
 
+    /// A box of one port, both lists of names as long as can be, 31 bytes.
+    pub fn of_thirty_one(bits: usize) -> Self {
+        let names = |before: &str| list(bits, |bit| format!("{before}-queue-of-the-long-quay-{bit:04}"));
+        Lent { debug_names: names("dbg"), flag_names: names("flg"), ..Self::new(1, bits) }
+    }
+
     pub fn new(ports: usize, bits: usize) -> Self {
         let of_port = full(bits).repeat(2);
         Lent {

@@ -21,8 +21,15 @@ fn main() -> ExitCode {
     }
     let (mut compared, mut growing) = (compared(), growing());
     let mut distinct = [64, 512].map(Call::list_check);
+    let mut lists = [Call::name_lists(340, false), Call::name_lists(512, true)];
     let (mut dumps, mut parts) = (dumps(), parts());
-    let calls = compared.iter_mut().chain(&mut growing).chain(&mut distinct).chain(&mut dumps).chain(&mut parts);
+    let calls = compared
+        .iter_mut()
+        .chain(&mut growing)
+        .chain(&mut distinct)
+        .chain(&mut lists)
+        .chain(&mut dumps)
+        .chain(&mut parts);
     if let Some(name) = calls.into_iter().find_map(differs) {
         eprintln!("bench: library and reader differ: {name}");
         return ExitCode::FAILURE;
@@ -30,6 +37,7 @@ fn main() -> ExitCode {
     println!("Medians of {runs} runs, nanoseconds per call.\n");
     tables::compared(&mut compared, runs);
     tables::distinct(&mut distinct, runs);
+    tables::name_lists(&mut lists, runs);
     tables::dumps(&mut dumps, runs);
     tables::growth(&mut growing, runs);
     tables::parts(&mut parts, runs);

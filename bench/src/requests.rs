@@ -2,6 +2,7 @@
 
 use crate::lent::{flag_name, port_name};
 
+const STRSET_GET: u8 = 1;
 pub const PRIVFLAGS_GET: u8 = 13;
 pub const PRIVFLAGS_SET: u8 = 14;
 
@@ -23,9 +24,19 @@ fn name(kind: u16, text: &str) -> Vec<u8> {
     attribute(kind, &[text.as_bytes(), &[0]].concat())
 }
 
-/// REQUEST and ACK, as the stock tool sends every request, and with both DUMP bits.
+/// REQUEST; REQUEST and ACK, as the stock tool sends every request; and with both DUMP bits.
+const REQUEST: u16 = 0x001;
 const ONE_PORT: u16 = 0x005;
 const ALL_PORTS: u16 = 0x305;
+
+/// STRSET_GET for both name lists, of the first port and without an ACK.
+pub fn name_lists() -> Vec<u8> {
+    let sets: Vec<u8> = [2, 10].into_iter().flat_map(|id| attribute(1 | NESTED, &number(1, id))).collect();
+    let mut body = vec![STRSET_GET, 1, 0, 0];
+    body.extend(attribute(1 | NESTED, &name(2, &port_name(0))));
+    body.extend(attribute(2 | NESTED, &sets));
+    message(REQUEST, &body)
+}
 
 /// A request about the flags of a port, by name, or of all ports where none is given.
 pub fn request(command: u8, port: Option<usize>, compact: bool, bitset: Option<&[u8]>) -> Vec<u8> {
@@ -38,9 +49,14 @@ pub fn request(command: u8, port: Option<usize>, compact: bool, bitset: Option<&
     if let Some(contents) = bitset {
         body.extend(attribute(2 | NESTED, contents));
     }
+    message(if port.is_some() { ONE_PORT } else { ALL_PORTS }, &body)
+}
+
+/// A message of the family with these flags, behind whose header the body stands.
+fn message(flags: u16, body: &[u8]) -> Vec<u8> {
     let mut message = (16 + body.len() as u32).to_le_bytes().to_vec();
     message.extend([25, 0]);
-    message.extend(if port.is_some() { ONE_PORT } else { ALL_PORTS }.to_le_bytes());
+    message.extend(flags.to_le_bytes());
     message.extend(*b"\x07\0\0\0\x09\0\0\0");
     message.extend(body);
     message

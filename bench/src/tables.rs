@@ -50,6 +50,12 @@ pub fn distinct(calls: &mut [Call], runs: usize) {
     }
 }
 
+/// What it costs to tell both name lists, and to find that they are too long.
+pub fn name_lists(calls: &mut [Call], runs: usize) {
+    println!("Name lists over the wire, names of 31 bytes:\n");
+    table(calls, runs);
+}
+
 /// What a whole dump costs against a GET for each port; the calls come in pairs.
 pub fn dumps(calls: &mut [Call], runs: usize) {
     println!("All ports, one by one and at once, nanoseconds for all calls together:\n");
