@@ -21,11 +21,12 @@ fn blocks(page: &str) -> Vec<Vec<u8>> {
 #[test]
 fn blocks_are_requests_and_their_answers() {
     let found = blocks(&page());
-    let [all, ports, named, barred, error, lacking, missing, two_bits, disagreeing, request, reply, two, answers] =
+    let [all, ports, named, barred, error, lacking, missing, two_bits, disagreeing, lists, counts, request, reply, two, answers] =
         &found[..]
     else {
         panic!("{} blocks", found.len())
     };
+    assert_eq!(&reader::run(lists), counts);
     assert_eq!(&reader::run(all), ports);
     assert_eq!(&reader::run(named), barred);
     assert_eq!(&reader::run(lacking), missing);
@@ -36,6 +37,22 @@ fn blocks_are_requests_and_their_answers() {
     faulty[6] = 5;
     faulty[FIRST_ATTRIBUTE + 2] = 9;
     assert_eq!(&reader::run(&faulty), error);
+}
+
+#[test]
+fn entries_of_a_name_list_are_as_told() {
+    let page = page();
+    let told = page
+        .split("Without COUNTS_ONLY each STRINGSET")
+        .nth(1)
+        .and_then(|rest| rest.lines().next())
+        .expect("the sentence");
+    let quoted: Vec<Vec<u8>> = told.split('`').skip(1).step_by(2).map(bytes).collect();
+    let [lists, ..] = &blocks(&page)[9..] else { panic!("no request for name lists") };
+    let mut request = lists[..lists.len() - 4].to_vec();
+    request[0] -= 4;
+    let reply = reader::run(&request);
+    assert!(reply.windows(quoted.concat().len()).any(|part| part == quoted.concat()));
 }
 
 /// A declaration without its line ends and without what blanks are doubled.

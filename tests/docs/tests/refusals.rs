@@ -5,7 +5,7 @@ use cases::{Case, HandleCase};
 use docs::tree;
 use std::collections::{BTreeMap, BTreeSet};
 
-const REQUEST_ERRORS: std::ops::RangeInclusive<u32> = 5..=23;
+const REQUEST_ERRORS: std::ops::RangeInclusive<u32> = 5..=25;
 
 /// The error message of a refused case, with its refusal.
 fn refused(mut case: HandleCase) -> Option<(u32, Vec<u8>)> {
@@ -68,7 +68,8 @@ fn readme_tells_the_errno() {
 
 #[test]
 fn the_header_tells_errno_and_detail() {
-    let names = BTreeMap::from([(1, "EPERM"), (2, "ENOENT"), (19, "ENODEV"), (22, "EINVAL"), (95, "EOPNOTSUPP")]);
+    let names = [(1, "EPERM"), (2, "ENOENT"), (19, "ENODEV"), (22, "EINVAL"), (90, "EMSGSIZE"), (95, "EOPNOTSUPP")];
+    let names = BTreeMap::from(names);
     let header = tree::read("include/ethnl.h");
     for (number, (errno, detail)) in told() {
         let row = header.lines().find(|line| {
