@@ -1,5 +1,6 @@
 pub mod First
 pub mod Tables
+pub mod Types
 pub mod Bitset
 pub mod PortRows
 pub mod Strset

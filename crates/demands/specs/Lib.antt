@@ -1,5 +1,6 @@
 pub mod Check
 pub mod Tables
+pub mod Types
 pub mod Bitset
 pub mod NormalChecks
 pub mod PortChecks
