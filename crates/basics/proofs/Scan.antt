@@ -1,4 +1,4 @@
--- Laws of `all`, `any` and `first`: how a loop that counts up goes on, how it ends, and what they mean.
+-- Laws of `all`, `any`, `first` and `tally`: how a loop that counts up goes on, how it ends, and what they mean.
 use Prim.Native.Nat.{ℕ, zero, suc, _+_, _<_, _≤_}
 use mathlib.Core.Path.{_≡_, refl, sym, _∙_}
 use mathlib.Core.Bool.{Bool, true, false, _&&_, cond, and-false, or-true}
@@ -8,7 +8,7 @@ use native.Mathlib.Omega.{arith}
 use mathlib.Core.Logic.{⊎-elim}
 use lib.Dec.{ltb}
 use borrow.Author.Tests.{lt-ltb, le-ltb, ltb-true}
-use Rattle.basics.specs.Scan.{all, any, first}
+use Rattle.basics.specs.Scan.{all, any, first, tally}
 use Rattle.basics.proofs.Order.{lt-or-ge}
 
 module _ (f : ℕ → Bool) where
@@ -111,3 +111,39 @@ module _ (f : ℕ → Bool) where
       go true u et eu r h = r (ltb-true (first n f) n et)
       go false true et eu r h = eu
       go false false et eu r h = absurd (omega arith)
+
+  -- the count of those below i
+  pub tally-none : tally 0 f ≡ 0
+  unfolding tally
+  tally-none = refl
+
+  pub tally-more : (i : ℕ) → f i ≡ true → tally (i + 1) f ≡ tally i f + 1
+  unfolding tally
+  tally-more i e = rw (add-one i, e)
+
+  pub tally-past : (i : ℕ) → f i ≡ false → tally (i + 1) f ≡ tally i f
+  unfolding tally
+  tally-past i e = rw (add-one i, e) (omega arith)
+
+  pub tally-le : (n : ℕ) → tally n f ≤ n
+  unfolding tally
+  tally-le zero = omega arith
+  tally-le (suc n) = go (f n) (tally-le n)
+    where
+      go : (b : Bool) → tally n f ≤ n → tally n f + cond b 1 0 ≤ suc n
+      go true h = omega arith
+      go false h = omega arith
+
+  -- none of those from a on is counted
+  pub tally-flat : (a n : ℕ) → ((k : ℕ) → a ≤ k → k < a + n → f k ≡ false) → tally (a + n) f ≡ tally a f
+  tally-flat a zero g = let e : a + 0 ≡ a = omega arith in rw e
+  tally-flat a (suc n) g =
+      let e : a + suc n ≡ a + n + 1 = omega arith in
+      rw e (tally-past (a + n) (g (a + n) (omega arith) (omega arith)) ∙ tally-flat a n (λ k l u. g k l (omega arith)))
+
+  -- f holds of none of those from a on, so the search passes them too
+  pub first-on : (a n : ℕ) → first a f ≡ a → ((k : ℕ) → a ≤ k → k < a + n → f k ≡ false) → first (a + n) f ≡ a + n
+  first-on a zero h g = let e : a + 0 ≡ a = omega arith in rw e h
+  first-on a (suc n) h g =
+      let e : a + suc n ≡ a + n + 1 = omega arith in
+      rw e (first-more (a + n) (first-on a n h (λ k l u. g k l (omega arith))) (g (a + n) (omega arith) (omega arith)))

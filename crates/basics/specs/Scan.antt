@@ -1,5 +1,5 @@
 -- Tests over the numbers below a bound.
-use Prim.Native.Nat.{ℕ, zero, suc}
+use Prim.Native.Nat.{ℕ, zero, suc, _+_}
 use mathlib.Core.Bool.{Bool, true, false, _&&_, _||_, cond}
 use lib.Dec.{ltb}
 
@@ -17,3 +17,8 @@ any (suc n) f = any n f || f n
 unfoldable pub first : ℕ → (ℕ → Bool) → ℕ
 first zero f = zero
 first (suc n) f = cond (ltb (first n f) n) (first n f) (cond (f n) n (suc n))
+
+-- how many of the numbers below n f holds of
+unfoldable pub tally : ℕ → (ℕ → Bool) → ℕ
+tally zero f = 0
+tally (suc n) f = tally n f + cond (f n) 1 0

@@ -1,3 +1,5 @@
 pub mod Entry
+pub mod Length
+pub mod Bytes
 pub mod Key
 pub mod Chain
