@@ -3,3 +3,4 @@ pub mod Order
 pub mod Put
 pub mod Scan
 pub mod Truth
+pub mod Those

@@ -5,12 +5,9 @@ ghost use Rattle.bitset_bit.specs.declared.IdentityRead.the-variants.{Re
 ghost use Rattle.netlink.specs.Policy.{ruleOf, judged};
 ghost use Rattle.bitset_form.specs.Policies.{bitPolicy};
 ghost use Rattle.entries.specs.Entry.{count};
-ghost use Rattle.names.specs.Search.{lookup};
-ghost use Rattle.entries.specs.Chain.{IndexedIf};
+ghost use Rattle.name_index.specs.Chain.{LinkedIf};
 use bitset_form::parts::BitParts;
 use name_index::look_up;
-use name_index::look_up_first;
-use names::Lookup;
 use netlink::policy::Fault;
 use netlink::policy::Rule;
 use netlink::policy::Verdict;
@@ -63,42 +60,23 @@ fn bit_by_index(s: &[u8], n: usize, index: Slot) -> IdentityRead
     IdentityRead::Read(Identity::Number(number))
 }
 
-// The entry that equals the name. The one that INDEX means is compared first: as a rule it is the one, and the search is spared.
-fn entry_named(
-    names: &[u8],
-    indexed: bool,
-    head: &[u16],
-    links: &[u16],
-    index: Identity,
-    name: &[u8],
-) -> Lookup
-    requires { ⌜ IndexedIf indexed (now names) (now head) (now links) ⌝ }
-    ensures { λ r. ⌜ r ≡ lookup (now (names .entry)) (now (name .entry)) ⌝ }
-{
-    let Identity::Number(first) = index else {
-        return look_up(names, indexed, head, links, name);
-    };
-    look_up_first(names, indexed, head, links, first, name)
-}
-
-// The bit that NAME means, beside what INDEX means.
+// The bit that NAME means.
 fn bit_by_name(
     s: &[u8],
     names: &[u8],
     indexed: bool,
     head: &[u16],
     links: &[u16],
-    index: Identity,
     name: Slot,
 ) -> IdentityRead
-    requires { ⌜ IndexedIf indexed (now names) (now head) (now links) ⌝ }
+    requires { ⌜ LinkedIf indexed (now names) (now head) (now links) ⌝ }
     ensures { λ r. ⌜ r ≡ bitByName (now (s .entry)) (now (names .entry)) name ⌝ }
 {
     if !name.present {
         return IdentityRead::Read(Identity::Absent);
     }
     let bytes = payload(s, name.start, name.end);
-    let lookup = entry_named(names, indexed, head, links, index, bytes);
+    let lookup = look_up(names, indexed, head, links, bytes);
     if lookup.found {
         return IdentityRead::Read(Identity::Number(lookup.bit));
     }
@@ -136,13 +114,13 @@ fn identify(
     at: usize,
     parts: BitParts,
 ) -> IdentityRead
-    requires { ⌜ IndexedIf indexed (now names) (now head) (now links) ⌝ }
+    requires { ⌜ LinkedIf indexed (now names) (now head) (now links) ⌝ }
     ensures { λ r. ⌜ r ≡ identified (now (s .entry)) (now (names .entry)) at parts ⌝ }
 {
     match bit_by_index(s, names::count(names), parts.index) {
         IdentityRead::Refused(past) => IdentityRead::Refused(past),
         IdentityRead::Read(index) => {
-            let name = bit_by_name(s, names, indexed, head, links, index, parts.name);
+            let name = bit_by_name(s, names, indexed, head, links, parts.name);
             combine(at, index, name)
         }
     }
@@ -158,7 +136,7 @@ fn judge_bit_parts(
     at: usize,
     parts: BitParts,
 ) -> BitRead
-    requires { ⌜ IndexedIf indexed (now names) (now head) (now links) ⌝ }
+    requires { ⌜ LinkedIf indexed (now names) (now head) (now links) ⌝ }
     ensures { λ r. ⌜ r ≡ bitPartsReading (now (s .entry)) (now (names .entry)) at parts ⌝ }
 {
     match identify(s, names, indexed, head, links, at, parts) {
@@ -233,7 +211,7 @@ pub fn judge_bit(
     links: &[u16],
     from: usize,
 ) -> BitRead
-    requires { ⌜ IndexedIf indexed (now names) (now head) (now links) ⌝ }
+    requires { ⌜ LinkedIf indexed (now names) (now head) (now links) ⌝ }
     ensures { λ r. ⌜ r ≡ bitReading (now (s .entry)) (now (names .entry)) from ⌝ }
 {
     match walk_bit(s, from) {

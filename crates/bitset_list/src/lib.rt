@@ -1,12 +1,15 @@
 // A bit list: BITS, and in it any number of BITs.
 ghost use mathlib.Core.Path.{_≡_};
+ghost use Prim.Native.Nat.{_-_};
+ghost use lib.ListN.{length};
+ghost use lib.Dec.{ltb};
 ghost use Rattle.netlink_attributes.specs.Attributes.{attributes};
 ghost use Rattle.bitset_form.specs.Form.{judgedAs};
 ghost use Rattle.bitset_list.specs.BitList.{bitsReading, listReading};
 ghost use Rattle.bitset_list.specs.Judged.{listJudged};
 ghost use Rattle.bitset_form.specs.declared.Judgement.the-variants.{Accepted};
 ghost use Rattle.entries.specs.Entry.{count};
-ghost use Rattle.entries.specs.Chain.{IndexedIf};
+ghost use Rattle.name_index.specs.Chain.{LinkedIf};
 use bitset_bit::BitRead;
 use bitset_bit::judge_bit;
 use bitset_form::Form;
@@ -42,7 +45,7 @@ fn judge_bits(
     links: &[u16],
     from: usize,
 ) -> Judged
-    requires { ⌜ IndexedIf indexed (now names) (now head) (now links) ⌝ }
+    requires { ⌜ LinkedIf indexed (now names) (now head) (now links) ⌝ }
     ensures { λ r. ⌜ r ≡ listJudged (bitsReading (now (s .entry)) (now (names .entry)) (attributes (now (s .entry)) from)) ⌝ }
 {
     let mut mask = [0u32; 16];
@@ -71,6 +74,46 @@ fn judge_bits(
     }
 }
 
+// Judges each BIT in turn, where tables lead to the names.
+fn judge_many(s: &[u8], names: &[u8], from: usize) -> Judged
+    ensures { λ r. ⌜ r ≡ listJudged (bitsReading (now (s .entry)) (now (names .entry)) (attributes (now (s .entry)) from)) ⌝ }
+{
+    let mut head = [0u16; 8192];
+    let mut links = [0u16; 512];
+    let indexed = name_index::index(names, &mut head, &mut links);
+    judge_bits(s, names, indexed, &head, &links, from)
+}
+
+// Judges each BIT in turn, where there are few: tables would cost more than they spare.
+fn judge_few(s: &[u8], names: &[u8], from: usize) -> Judged
+    ensures { λ r. ⌜ r ≡ listJudged (bitsReading (now (s .entry)) (now (names .entry)) (attributes (now (s .entry)) from)) ⌝ }
+{
+    let none = [0u16; 1];
+    judge_bits(s, names, false, &none, &none, from)
+}
+
+// So many bytes of BITs, from where on tables are made (docs/PERFORMANCE.md, "The search for a name").
+const MANY: usize = 224;
+
+fn is_short(s: &[u8], from: usize) -> bool
+    ensures { λ r. ⌜ r ≡ ltb (length (now (s .entry)) - from) 224 ⌝ }
+{
+    if s.len() <= from {
+        return true;
+    }
+    s.len() - from < MANY
+}
+
+// Judges each BIT in turn, with or without tables.
+fn judge_each(s: &[u8], names: &[u8], from: usize) -> Judged
+    ensures { λ r. ⌜ r ≡ listJudged (bitsReading (now (s .entry)) (now (names .entry)) (attributes (now (s .entry)) from)) ⌝ }
+{
+    if is_short(s, from) {
+        return judge_few(s, names, from);
+    }
+    judge_many(s, names, from)
+}
+
 // BITS is walked whole before the first BIT is opened.
 pub fn judge_list(s: &[u8], names: &[u8], parts: BitsetParts) -> Judged
     ensures { λ r. ⌜ r ≡ judgedAs (count (now (names .entry))) (listReading (now (s .entry)) (now (names .entry)) parts) ⌝ }
@@ -82,10 +125,7 @@ pub fn judge_list(s: &[u8], names: &[u8], parts: BitsetParts) -> Judged
     if let Stop::At { fault, at } = stop {
         return refused(of_fault(fault, at));
     }
-    let mut head = [0u16; 1025];
-    let mut links = [0u16; 512];
-    let indexed = name_index::index(names, &mut head, &mut links);
-    let judged = judge_bits(contents, names, indexed, &head, &links, bits.start);
+    let judged = judge_each(contents, names, bits.start);
     let nomask = parts.nomask;
     if nomask.present {
         return under_nomask(judged, names::count(names));

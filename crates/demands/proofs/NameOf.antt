@@ -27,7 +27,7 @@ module _ (names name : List ℕ) where
       }
 
   -- in a list that breaks no rule the name of an entry is found there
-  pub name-found : namesRight names ≡ true → (entry : ℕ) → IsNameOf names entry name → lookup names name ≡ foundAt entry
+  pub name-found : namesRight names ≡ true → (entry : ℕ) → IsNameOf names entry name → lookup names name ≡ foundAt names name entry
   unfolding noName
   name-found right entry is =
       lookup-one names name (right-means names right .apart) can-be entry (is .inside)

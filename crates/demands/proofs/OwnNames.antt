@@ -161,7 +161,7 @@ module _ (s names : List ℕ) (right : namesRight names ≡ true) (index name : 
   abbrev named : List ℕ
   named = payloadIn s name
 
-  found-at : (entry : ℕ) → IsNameOf names entry named → lookup names named ≡ foundAt entry
+  found-at : (entry : ℕ) → IsNameOf names entry named → lookup names named ≡ foundAt names named entry
   found-at entry is = name-found names named right entry is
 
   unknown-exactly : Exactly (unknownName s names name ≡ true) ((entry : ℕ) → IsNameOf names entry named → ⊥)

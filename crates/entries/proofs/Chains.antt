@@ -16,8 +16,8 @@ use Rattle.basics.proofs.Order.{lt-or-ge}
 use Rattle.basics.proofs.Scan.{all-none, all-more, all-fails, all-done, all-of}
 use Rattle.basics.proofs.Truth.{false-of}
 use Rattle.entries.specs.Entry.{count, entryAt, sameEntry, differs, entryNew, entriesDistinct}
-use Rattle.entries.specs.Chain.{folded, spread, hashOf, lastOfHash, HeadRight, LinksRight, Indexed}
-use Rattle.entries.proofs.Entries.{entry-length, entry-first, entry-eight, same-bytes, same-eight, same-equal}
+use Rattle.entries.specs.Chain.{folded, spread, hashOf, lastOfHash, HeadRight, LinksRight}
+use Rattle.entries.proofs.Entries.{entry-length, entry-first, entry-eight, same-equal}
 
 -- the hash as the code computes it
 pub spread-folded : (a b c d x r : ℕ) → x ≡ folded a b c d → r ≡ spread x → r ≡ spread (folded a b c d)
@@ -50,17 +50,6 @@ module _ (list : List ℕ) (i : ℕ) (h : i < count list) where
       (ec ∙ at 16 (i * 32 + 16) (omega arith) refl)
       (ed ∙ at 24 (i * 32 + 24) (omega arith) refl)
       er
-
--- the same names have the same hash
-pub hash-same : (a b : List ℕ) → sameEntry a b ≡ true → hashOf a ≡ hashOf b
-unfolding hashOf
-hash-same a b s =
-    ap₂ (λ (t : Bool) (x : ℕ). cond t 1024 (spread x)) (ap (λ (x : ℕ). eqb x 0) (same-bytes a b 0 s (omega arith)))
-    (ap₂ (λ (f : ℕ → ℕ → ℕ) (y : ℕ). f (u64At a 16) y) (ap₂ folded (word 0 (omega arith)) (word 8 (omega arith))) (word 24 (omega arith))
-    ∙ ap (λ (z : ℕ). folded (u64At b 0) (u64At b 8) z (u64At b 24)) (word 16 (omega arith)))
-  where
-    word : (p : ℕ) → p + 8 ≤ 32 → u64At a p ≡ u64At b p
-    word p l = same-eight a b p s l
 
 -- entries of other hashes differ
 differ-hash : (list : List ℕ) (i k : ℕ) → i < count list → k < count list → (hashOf (entryAt list k) ≡ hashOf (entryAt list i) → ⊥) → differs list i k ≡ true
@@ -226,18 +215,6 @@ linked-more list head links i h b l u e v eb z = record {
   head-length = length-set head h (i + 1) ∙ l .head-length;
   links-length = length-set links i (getD head h 0) ∙ l .links-length;
 }
-
-pub linked-index : (list head links : List ℕ) (i : ℕ) → Linked list head links i → i ≤ count list → count list ≤ i → count list ≤ 512 → Indexed list head links
-unfolding entriesDistinct
-linked-index list head links i l h u r =
-    let k : i ≡ count list = omega arith in
-    record {
-      heads = rw k at l .heads;
-      linked = rw k at l .linked;
-      apart = rw k at l .new;
-      head-length = l .head-length;
-      links-room = let n = l .links-length in omega arith;
-    }
 
 pub linked-done : (list head links : List ℕ) (i : ℕ) → Linked list head links i → i ≤ count list → count list ≤ i → true ≡ entriesDistinct list
 unfolding entriesDistinct

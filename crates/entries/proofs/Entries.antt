@@ -54,15 +54,6 @@ entry-most list i =
     (λ (h : count list ≤ i). omega (arith, ap length (entry-none list i h)))
     (lt-or-ge i (count list))
 
--- past the end every byte is 0
-pub eight-past : (s : List ℕ) (at : ℕ) → length s ≤ at → 0 ≡ u64At s at
-unfolding u32At
-eight-past s at h =
-    let gone : (k : ℕ) → at ≤ k → getD s k 0 ≡ 0 = λ k l. List·getD-eq-default s 0 (omega arith) in
-    sym
-    (rw
-    (gone at (omega arith), gone (at + 1) (omega arith), gone (at + 2) (omega arith), gone (at + 3) (omega arith), gone (at + 4) (omega arith), gone (at + 4 + 1) (omega arith), gone (at + 4 + 2) (omega arith), gone (at + 4 + 3) (omega arith)))
-
 pub same-bytes : (a b : List ℕ) (j : ℕ) → sameEntry a b ≡ true → j < 32 → getD a j 0 ≡ getD b j 0
 unfolding sameEntry sameByte
 same-bytes a b j h l = eqb-true _ _ (all-each (sameByte a b) 32 j h l)

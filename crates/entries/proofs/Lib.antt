@@ -1,5 +1,4 @@
 pub mod Entries
 pub mod Eights
 pub mod Chains
-pub mod Keys
 pub mod NameLength

@@ -1,13 +1,13 @@
 -- No promise rests on this file: how equal entries are found. Each entry leads to the last one before it that has the same hash.
-use Prim.Native.Nat.{ℕ, zero, suc, _+_, _-_, _*_, _/_, _%_, _^_, _<_, _≤_}
+use Prim.Native.Nat.{ℕ, zero, suc, _+_, _-_, _*_, _/_, _%_, _^_, _<_}
 use mathlib.Core.Path.{_≡_}
-use mathlib.Core.Bool.{Bool, true, cond}
+use mathlib.Core.Bool.{cond}
 use mathlib.Core.List.{List}
-use lib.ListN.{length, getD}
+use lib.ListN.{getD}
 use lib.Bits.{bitOr, bitXor}
 use lib.Dec.{eqb}
 use Rattle.basics.specs.Numbers.{u64At}
-use Rattle.entries.specs.Entry.{count, entryAt, isEmpty, entriesDistinct}
+use Rattle.entries.specs.Entry.{entryAt, isEmpty}
 
 -- a number of 64 bits rotated by k bits
 abbrev pub rotated : ℕ → ℕ → ℕ
@@ -37,15 +37,3 @@ HeadRight list head i = (h : ℕ) → h < 1025 → getD head h 0 ≡ lastOfHash 
 -- links holds, for each entry below i, the one before it in its chain
 abbrev pub LinksRight : List ℕ → List ℕ → ℕ → Type 0
 LinksRight list links i = (j : ℕ) → j < i → getD links j 0 ≡ lastOfHash list (hashOf (entryAt list j)) j
-
--- the tables lead to every entry of a list whose entries are distinct
-pub record Indexed (list head links : List ℕ) : Type 0 where
-  pub heads : HeadRight list head (count list)
-  pub linked : LinksRight list links (count list)
-  pub apart : entriesDistinct list ≡ true
-  pub head-length : length head ≡ 1025
-  pub links-room : count list ≤ length links
-
--- so they do if a test says yes
-abbrev pub IndexedIf : Bool → List ℕ → List ℕ → List ℕ → Type 0
-IndexedIf b list head links = b ≡ true → Indexed list head links

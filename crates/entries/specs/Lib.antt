@@ -1,5 +1,4 @@
 pub mod Entry
 pub mod Length
 pub mod Bytes
-pub mod Key
 pub mod Chain

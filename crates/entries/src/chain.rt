@@ -1,14 +1,12 @@
 // Whether the entries are distinct, in time linear in the list where the hash spreads them.
-use crate::byte_at;
 use crate::same::eight;
-use crate::same::eight_or_less;
 use crate::same::same_entry;
 ghost use mathlib.Core.Path.{_≡_};
 ghost use Prim.Native.Nat.{_/_, _≤_, _<_};
 ghost use lib.ListN.{length, getD};
 ghost use Rattle.basics.specs.Scan.{all};
 ghost use Rattle.entries.specs.Entry.{entryAt, differs, entryNew, entriesDistinct};
-ghost use Rattle.entries.specs.Chain.{folded, spread, hashOf, lastOfHash, HeadRight, LinksRight, IndexedIf};
+ghost use Rattle.entries.specs.Chain.{folded, spread, hashOf, lastOfHash, HeadRight, LinksRight};
 
 // A place in a table as an index.
 fn place(x: u16) -> usize
@@ -62,20 +60,6 @@ fn hash(list: &[u8], i: usize) -> usize
     chain_of(a, b, c, d)
 }
 
-// The chain of a name, which may end in NULs.
-pub fn hash_of(name: &[u8]) -> usize
-    ensures { λ r. ⌜ (r ≡ hashOf (now (name .entry))) × (r < 1025) ⌝ }
-{
-    if byte_at(name, 0) == 0 {
-        return 1024;
-    }
-    let a = eight_or_less(name, 0);
-    let b = eight_or_less(name, 8);
-    let c = eight_or_less(name, 16);
-    let d = eight_or_less(name, 24);
-    chain_of(a, b, c, d)
-}
-
 // Whether entry i differs from every entry before it: only those of its chain are looked at.
 fn chain_new(list: &[u8], links: &[u16], i: usize, start: usize) -> bool
     requires { ⌜ (i < length (now list) / 32) × (i ≤ length (now links)) ⌝ }
@@ -109,12 +93,11 @@ fn entry_new(list: &[u8], links: &[u16], i: usize, start: usize) -> bool
     chain_new(list, links, i, start)
 }
 
-// Whether the entries are distinct; if they are, the tables lead to each. Room: `head`, a place for each hash; `links`, one for each entry.
-pub fn distinct_in(list: &[u8], head: &mut [u16], links: &mut [u16]) -> bool
+// Whether the entries are distinct. Room: `head`, a place for each hash; `links`, one for each entry.
+fn distinct_in(list: &[u8], head: &mut [u16], links: &mut [u16]) -> bool
     requires { ⌜ (length (now head) ≡ 1025) × (length (now links) ≡ 512) × (length (now list) / 32 ≤ 512) ⌝ }
     requires { ⌜ HeadRight (now list) (now head) 0 ⌝ }
     ensures { λ r. ⌜ r ≡ entriesDistinct (now (list .entry)) ⌝ }
-    ensures { λ r. ⌜ IndexedIf r (now (list .entry)) (now (head .exit)) (now (links .exit)) ⌝ }
 {
     for i in 0..list.len() / 32 {
         let h = hash(list, i);

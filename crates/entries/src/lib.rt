@@ -1,6 +1,5 @@
 // Lists of 32-byte entries: how many, each of them, and whether they are distinct.
 pub mod chain;
-pub mod key;
 pub mod length;
 pub mod same;
 

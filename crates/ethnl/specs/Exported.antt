@@ -6,6 +6,7 @@ use lib.ListN.{length}
 use Rattle.basics.specs.Put.{put}
 use Rattle.word_bytes.specs.Bytes.{Bytes}
 use Rattle.normal.specs.Normal as N
+use Rattle.bit_name.specs.declared.Found.{Found}
 use Rattle.box_fault.specs.Fault.{partNumber}
 use Rattle.box_fault.specs.declared.Fault.{Fault}
 use Rattle.response.specs.Answer.{Outcome, kindNumber, refusalNumber}
@@ -16,6 +17,12 @@ pub record Normalise (o : N.NormalAnswer) (before after : List ℕ) (written r :
   pub number : r ≡ o .number
   pub count : written ≡ length (o .bytes)
   pub page : after ≡ put before (o .bytes)
+
+-- ethnl_find: the number, and the bit and the count of entries compared behind their pointers
+pub record Find (f : Found) (found compared r : ℕ) : Type 0 where
+  pub number : r ≡ f .number
+  pub bit : found ≡ f .bit
+  pub count : compared ≡ f .compared
 
 -- ethnl_check_box: the number of the part, and the offset in it behind its pointer
 pub record CheckBox (f : Fault) (offset r : ℕ) : Type 0 where

@@ -1,11 +1,12 @@
 // The functions that C calls, as include/ethnl.h declares them: numbers and byte buffers alone.
 ghost use mathlib.Core.Path.{_≡_};
 ghost use lib.ListN.{length};
+ghost use Rattle.bit_name.specs.Find.{nameFound};
 ghost use Rattle.normal.specs.Normal.{normalised};
 ghost use Rattle.boxes.specs.Box.{boxOf};
 ghost use Rattle.box_fault.specs.Fault.{boxFault};
 ghost use Rattle.handler.specs.Bytes.{storedOf, bytesOutcome};
-ghost use Rattle.ethnl.specs.Exported.{Normalise, CheckBox, Handle};
+ghost use Rattle.ethnl.specs.Exported.{Normalise, Find, CheckBox, Handle};
 use box_fault::box_fault;
 use boxes::Call;
 use handler::bytes::handle_bytes;
@@ -23,6 +24,23 @@ pub extern "C" fn ethnl_normalise(
     let normal = normal::normalise(contents, names, page);
     *written = normal.written as u64;
     normal.number
+}
+
+// Looks for a bit name, which stands without its NUL: leaves the bit, 2^32 - 1 where no entry equals it, and how many entries were compared.
+// Returns document 01's number, 0 where the list breaks no rule.
+#[no_mangle]
+pub extern "C" fn ethnl_find(
+    names: &[u8],
+    name: &[u8],
+    found: &mut u32,
+    compared: &mut u64,
+) -> u32
+    ensures { λ r. ⌜ Find (nameFound (now (names .entry)) (now (name .entry))) (now (found .exit)) (now (compared .exit)) r ⌝ }
+{
+    let told = bit_name::find(names, name);
+    *found = told.bit;
+    *compared = told.compared as u64;
+    told.number
 }
 
 // Tells which part of a box breaks a rule first, and where: returns the part's number, 0 if none does, and leaves the offset in it.

@@ -1,90 +1,100 @@
--- Laws of the search along a chain: every entry from p on is another name, and p is in the name's chain.
+-- Laws of the search along a chain: the entries before a place are passed, and the next one is the first of the name's chain from there on.
 use Prim.Native.Nat.{ℕ, zero, suc, _+_, _-_, _*_, _≤_, _<_}
-use mathlib.Core.Path.{_≡_, refl, ap, _∙_}
-use mathlib.Core.Bool.{Bool, false}
-use mathlib.Core.Logic.{⊎-elim}
+use mathlib.Core.Path.{_≡_, refl, sym, ap, subst, _∙_}
+use mathlib.Core.Bool.{Bool, true, false}
 use mathlib.Core.List.{List}
 use native.Mathlib.Omega.{arith}
-use lib.ListN.{getD}
-use Rattle.basics.proofs.Order.{lt-or-ge}
+use lib.ListN.{length, getD}
+use Rattle.basics.proofs.Scan.{first-on, tally-flat}
 use Rattle.basics.proofs.Truth.{false-of}
-use Rattle.entries.specs.Entry.{count, entryAt, sameEntry}
-use Rattle.entries.specs.Key.{KeyStarts}
-use Rattle.entries.specs.Chain.{hashOf, lastOfHash, Indexed}
-use Rattle.entries.proofs.Chains.{hash-same, last-none, last-le, last-fix, last-hash}
-use Rattle.entries.proofs.Keys.{key-same}
-use Rattle.names.specs.Search.{isEntry, noName, notFound, foundAt, lookup}
-use Rattle.names.proofs.Search.{SameBefore, same-more, name-other, name-alone, name-gone}
+use Rattle.entries.specs.Entry.{count, entryAt}
+use Rattle.entries.specs.Length.{nameLength, lastByte}
+use Rattle.names.specs.Search.{isEntry, agrees, comparedIn, lookup}
+use Rattle.names.proofs.Search.{Sought, Passed, Comparing, other-agrees, passed-agrees, passed-start, passed-all}
+use Rattle.name_index.specs.Chain.{keyIn, keyOf, Next, Linked}
+use Rattle.name_index.specs.Chain.Next.{nowhere, entry}
+use Rattle.name_index.proofs.Keys.{agrees-key, key-agrees}
 
-pub record Along (names name : List ℕ) (p : ℕ) : Type 0 where
-  pub inside : p ≤ count names
-  pub own : lastOfHash names (hashOf name) p ≡ p
-  pub others : (k : ℕ) → p ≤ k → k < count names → isEntry names name k ≡ false
+-- the search stands before the entry p, counted from 1, and has compared c
+pub record Along (names name : List ℕ) (p c : ℕ) : Type 0 where
+  pub from : ℕ
+  pub within : from ≤ count names
+  pub passed : Passed names name from c
+  pub next : Next names (keyOf name) from p
 
--- the entry at i is looked at, and then the one before p
-pub record Looking (names name : List ℕ) (i p : ℕ) : Type 0 where
+-- entry i is compared, and then the search stands before p
+pub record Looking (names name : List ℕ) (i p c : ℕ) : Type 0 where
   pub here : i < count names
-  pub less : p ≤ i
-  pub then : isEntry names name i ≡ false → Along names name p
+  pub agreed : agrees names name i ≡ true
+  pub comparing : Comparing names name i c
+  pub next : Next names (keyOf name) (suc i) p
 
-module _ (names name : List ℕ) where
-  -- a name of another hash is another name
-  other-hash : (k : ℕ) → (hashOf (entryAt names k) ≡ hashOf name → ⊥) → isEntry names name k ≡ false
-  unfolding isEntry
-  other-hash k n = false-of (sameEntry (entryAt names k) name) (λ e. n (hash-same (entryAt names k) name e))
+module _ (names name : List ℕ) (n end last : ℕ) (w : Sought name n end last) where
+  -- entries of other chains are passed
+  passed-on : (from m c : ℕ) → Passed names name from c → from + m ≤ count names → ((j : ℕ) → from ≤ j → j < from + m → keyOf (entryAt names j) ≡ keyOf name → ⊥)
+      → Passed names name (from + m) c
+  unfolding comparedIn
+  passed-on from m c p l none = record {
+    none = first-on (isEntry names name) from m (p .none) (λ j a b. other-agrees names name j (omega arith) (w .short) (differs j a b));
+    counted = p .counted ∙ sym (tally-flat (agrees names name) from m differs);
+    most = let x = p .most in omega arith;
+  }
+    where
+      differs : (j : ℕ) → from ≤ j → j < from + m → agrees names name j ≡ false
+      differs j a b = false-of (agrees names name j) (λ q. none j a b (agrees-key names name j (omega arith) q))
 
-  module _ (head links : List ℕ) (x : Indexed names head links) where
-    pub along-start : (key : List ℕ) (h p : ℕ) → KeyStarts name key 32 → h ≡ hashOf key → h < 1025 → p ≡ getD head h 0 → Along names name p
-    along-start key h p s eh l ep =
-        let e : p ≡ lastOfHash names (hashOf name) (count names) =
-        ep ∙ x .heads h l ∙ ap (λ (y : ℕ). lastOfHash names y (count names)) (eh ∙ hash-same key name (key-same name key s)) in
+  name-chain : keyIn n last ≡ keyOf name
+  unfolding keyOf lastByte
+  name-chain = let q : end ≡ nameLength name - 1 = let a = w .is in let b = w .end-is in omega arith in rw (w .byte, q, w .is)
+
+  module _ (head links : List ℕ) (t : Linked names head links 0) where
+    pub along-start : (key p : ℕ) → key ≡ keyIn n last → key < 8192 → p ≡ getD head key 0 → Along names name p 0
+    along-start key p ek u ep =
+        let chain : key ≡ keyOf name = ek ∙ name-chain in
         record {
-          inside = omega (arith, e, last-le names (hashOf name) (count names));
-          own = rw e (last-fix names (hashOf name) (count names));
-          others = λ k u v. other-hash k (last-none names (hashOf name) (count names) k (omega (arith, e)) v);
+          from = 0;
+          within = omega arith;
+          passed = passed-start names name;
+          next = rw (ep ∙ ap (λ (k : ℕ). getD head k 0) chain) (t .heads (keyOf name) (omega (arith, chain)));
         }
 
-    pub along-look : (p i q : ℕ) → Along names name p → (p ≡ 0 → ⊥) → i ≡ p - 1 → q ≡ getD links i 0 → Looking names name i q
-    along-look zero i q a n ei eq = absurd (n refl)
-    along-look (suc p) i q a n ei eq =
-        record { here = let l = a .inside in omega (arith, is); less = omega (arith, before, last-le names (hashOf name) i); then = on }
+    pub along-look : (p i q c : ℕ) → Along names name p c → (p ≡ 0 → ⊥) → i ≡ p - 1 → q ≡ getD links i 0 → Looking names name i q (c + 1)
+    along-look p i q c a d ei eq = go p (a .next) d ei
       where
-        is : i ≡ p
-        is = omega arith
+        go : (p : ℕ) → Next names (keyOf name) (a .from) p → (p ≡ 0 → ⊥) → i ≡ p - 1 → Looking names name i q (c + 1)
+        go _ (nowhere none) d ei = absurd (d refl)
+        go _ (entry k l u key none) d ei =
+            let is : i ≡ k = omega arith in
+            let at : a .from + (k - a .from) ≡ k = omega arith in
+            let on : Passed names name k c = rw at at (passed-on (a .from) (k - a .from) c (a .passed) (omega arith) (λ j x y. none j x (omega arith))) in
+            let agreed : agrees names name k ≡ true = key-agrees names name k u n (w .is) (let e = w .end-is in omega arith) (let s = w .short in let m = w .inside in omega arith) key in
+            rw is
+            (record {
+              here = u;
+              agreed = agreed;
+              comparing = passed-agrees names name k c on agreed;
+              next = rw (eq ∙ ap (λ (x : ℕ). getD links x 0) is) (subst (λ (x : ℕ). Next names x (suc k) (getD links k 0)) key (t .linked k (omega arith) u));
+            })
 
-        chain : hashOf (entryAt names i) ≡ hashOf name
-        chain = rw is (last-hash names (hashOf name) p (a .own))
+  pub along-end : (p c : ℕ) → Along names name p c → p ≡ 0 → record { found = false; bit = 0; compared = c } ≡ lookup names name
+  along-end p c a z = go p (a .next) z
+    where
+      go : (p : ℕ) → Next names (keyOf name) (a .from) p → p ≡ 0 → record { found = false; bit = 0; compared = c } ≡ lookup names name
+      go _ (entry k l u key none) z = absurd (omega arith)
+      go _ (nowhere none) z =
+          let at : a .from + (count names - a .from) ≡ count names = let x = a .within in omega arith in
+          let all : Passed names name (count names) c = rw at at (passed-on (a .from) (count names - a .from) c (a .passed) (omega arith) (λ j x y. none j x (omega arith))) in
+          passed-all names name n end last (count names) c w all (omega arith) (omega arith)
 
-        before : q ≡ lastOfHash names (hashOf name) i
-        before = eq ∙ x .linked i (let l = a .inside in omega (arith, is)) ∙ ap (λ (y : ℕ). lastOfHash names y i) chain
+  pub along-next : (i p c : ℕ) → Looking names name i p c → Passed names name (i + 1) c → Along names name p c
+  along-next i p c k passed = record { from = suc i; within = k .here; passed = (let e : i + 1 ≡ suc i = omega arith in rw e at passed); next = k .next }
 
-        on : isEntry names name i ≡ false → Along names name q
-        on f = record {
-          inside = let l = a .inside in omega (arith, is, before, last-le names (hashOf name) i);
-          own = rw before (last-fix names (hashOf name) i);
-          others = λ k u v. ⊎-elim (λ (l : k < i). low k u l) (λ (l : i ≤ k). high k v l) (lt-or-ge k i);
-        }
-          where
-            low : (k : ℕ) → q ≤ k → k < i → isEntry names name k ≡ false
-            low k u l = other-hash k (last-none names (hashOf name) i k (omega (arith, before)) l)
+pub along-inside : (names name : List ℕ) (p c : ℕ) → Along names name p c → p ≤ count names
+along-inside names name p c a = go p (a .next)
+  where
+    go : (p : ℕ) → Next names (keyOf name) (a .from) p → p ≤ count names
+    go _ (nowhere none) = omega arith
+    go _ (entry k l u key none) = u
 
-            high : (k : ℕ) → k < count names → i ≤ k → isEntry names name k ≡ false
-            high k v l =
-                ⊎-elim
-                (λ (g : i < k). a .others k (omega (arith, is)) v)
-                (λ (g : k ≤ i). let e : k ≡ i = omega arith in rw e f)
-                (lt-or-ge i k)
-
-    pub along-found : (t : Bool) (i j q : ℕ) → t ≡ noName name → t ≡ false → Looking names name i q → SameBefore names name i j → j ≤ 32 → 32 ≤ j
-        → foundAt i ≡ lookup names name
-    along-found t i j q e z w s u v = name-alone names name t e z (x .apart) i j (w .here) s u v
-
-  pub along-on : (key : List ℕ) (i j q : ℕ) → KeyStarts name key 32 → Looking names name i q → j < 32 → (getD names (i * 32 + j) 0 ≡ getD key j 0 → ⊥) → Along names name q
-  along-on key i j q s w l n = w .then (name-other names name i j (getD key j 0) (w .here) l (s .each j l) n)
-
-  pub along-more : (key : List ℕ) (i j q : ℕ) → KeyStarts name key 32 → Looking names name i q → j < 32 → SameBefore names name i j → getD names (i * 32 + j) 0 ≡ getD key j 0
-      → SameBefore names name i (j + 1)
-  along-more key i j q s w l h e = same-more names name i j (getD key j 0) (w .here) l h (s .each j l) e
-
-  pub along-end : (t : Bool) (p : ℕ) → t ≡ noName name → t ≡ false → Along names name p → p ≡ 0 → notFound ≡ lookup names name
-  along-end t p e z a q = name-gone names name t e z (λ k u. a .others k (omega (arith, q)) u)
+pub along-most : (names name : List ℕ) (p c : ℕ) → Along names name p c → c ≤ count names
+along-most names name p c a = let l = a .within in let m = a .passed .most in omega arith

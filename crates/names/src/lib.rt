@@ -4,14 +4,18 @@ pub mod rule;
 use entries::byte_at;
 pub use entries::count;
 pub use entries::entry;
+use entries::length::entry_length;
+use entries::length::name_length;
 pub use rule::names_right;
 ghost use mathlib.Core.Path.{_≡_};
 ghost use Rattle.names.specs.Search.{noName, lookup};
 
-// What a search found: whether there is such an entry, and which bit it names (0 where there is none).
+// What a search found: whether there is such an entry, which bit it names (0 where there is none), and how many entries were compared with the
+// name byte by byte.
 pub struct Lookup {
     pub found: bool,
     pub bit: usize,
+    pub compared: usize,
 }
 
 // Whether a name can stand in no list: it is empty, or longer than an entry.
@@ -24,7 +28,8 @@ pub fn no_name(name: &[u8]) -> bool
     32 < name.len()
 }
 
-// The entry that equals the name, which may end in NULs. The search passes to the next entry at the first byte that differs.
+// The entry that equals the name, which may end in NULs. Last byte and length are compared ahead of the rest, which is compared from the end
+// on; the search passes to the next entry at the first byte that differs.
 pub fn find_name(names: &[u8], name: &[u8]) -> Lookup
     ensures { λ r. ⌜ r ≡ lookup (now (names .entry)) (now (name .entry)) ⌝ }
 {
@@ -32,22 +37,36 @@ pub fn find_name(names: &[u8], name: &[u8]) -> Lookup
         return Lookup {
             found: false,
             bit: 0,
+            compared: 0,
         };
     }
-    let n = names.len() / 32;
-    'entries: for i in 0..n {
-        for j in 0..32 {
-            if names[i * 32 + j] != byte_at(name, j) {
+    let n = name_length(name);
+    let end = n - 1;
+    let last = name[end];
+    let mut compared = 0;
+    'entries: for i in 0..names.len() / 32 {
+        if names[i * 32 + end] != last {
+            continue 'entries;
+        }
+        if entry_length(names, i) != n {
+            continue 'entries;
+        }
+        compared += 1;
+        for back in 0..end {
+            let j = end - 1 - back;
+            if names[i * 32 + j] != name[j] {
                 continue 'entries;
             }
         }
         return Lookup {
             found: true,
             bit: i,
+            compared,
         };
     }
     Lookup {
         found: false,
         bit: 0,
+        compared,
     }
 }

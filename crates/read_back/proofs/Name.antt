@@ -41,7 +41,7 @@ module _ (names : List ℕ) (right : namesRight names ≡ true) (i : ℕ) (l : i
       ap (λ (x : ℕ). getD entry x 0) (sym k)
       ∙ nul-after entry (right-means names right .each i l) (nulAt entry) (j - nulAt entry) (nul-there entry) (omega arith)
 
-  pub own-name-found : eqb (nulAt entry) 0 ≡ false → lookup names (nameBytes entry) ≡ foundAt i
+  pub own-name-found : eqb (nulAt entry) 0 ≡ false → lookup names (nameBytes entry) ≡ foundAt names (nameBytes entry) i
   own-name-found some =
-      ap (lookup names) name-taken
-      ∙ lookup-name names right i (suc (nulAt entry)) l (name-first entry ∙ some) (omega arith) nuls-behind
+      rw name-taken
+      (lookup-name names right i (suc (nulAt entry)) l (name-first entry ∙ some) (omega arith) nuls-behind)

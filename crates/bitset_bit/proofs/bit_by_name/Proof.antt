@@ -9,8 +9,8 @@ returns c = search (needs, name-laws)
 payload-requires : tie.Need-payload-requires
 payload-requires c κs = search needs
 
-entry-named-requires : tie.Need-entry-named-requires
-entry-named-requires c κs = search needs
+look-up-requires : tie.Need-look-up-requires
+look-up-requires c κs = search needs
 
 returns-2 : tie.Need-returns-2
 returns-2 c = search (needs, name-laws)
@@ -27,7 +27,7 @@ bit-by-name-spec =
     (tie.spec
     returns
     payload-requires
-    entry-named-requires
+    look-up-requires
     returns-2
     place-requires
     returns-3)

@@ -1,5 +1,4 @@
 use Rattle.bitset_list.proofs.Laws.{list-fault, list-nomask, list-masked}
-use Rattle.entries.proofs.Chains.{head-zero}
 use borrow.Author.Needs.{needs}
 use Rattle.bitset_list.proofs.judge_list.Statement.{statement}
 use Rattle.bitset_list.proofs.judge_list.Tie as tie
@@ -28,23 +27,8 @@ returns c = search (needs, list-fault)
 enum-told : tie.Need-enum-told
 enum-told c = search needs
 
-slice-aggregate-index : tie.Need-slice-aggregate-index
-slice-aggregate-index c = search needs
-
-slice-aggregate-index-2 : tie.Need-slice-aggregate-index-2
-slice-aggregate-index-2 c = search needs
-
-index-requires : tie.Need-index-requires
-index-requires c κs = ((search needs, search needs), head-zero _)
-
-slice-aggregate-judge-bits : tie.Need-slice-aggregate-judge-bits
-slice-aggregate-judge-bits c = search needs
-
-slice-aggregate-judge-bits-2 : tie.Need-slice-aggregate-judge-bits-2
-slice-aggregate-judge-bits-2 c = search needs
-
-judge-bits-requires : tie.Need-judge-bits-requires
-judge-bits-requires c κs = search needs
+judge-each-requires : tie.Need-judge-each-requires
+judge-each-requires c κs = search needs
 
 count-requires : tie.Need-count-requires
 count-requires c κs = search needs
@@ -70,12 +54,7 @@ judge-list-spec =
     refused-requires
     returns
     enum-told
-    slice-aggregate-index
-    slice-aggregate-index-2
-    index-requires
-    slice-aggregate-judge-bits
-    slice-aggregate-judge-bits-2
-    judge-bits-requires
+    judge-each-requires
     count-requires
     under-nomask-requires
     returns-2

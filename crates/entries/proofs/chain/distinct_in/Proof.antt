@@ -1,11 +1,10 @@
 -- The tables hold the chains of the entries below i, all of which are new.
 use Prim.Native.Nat.{_≤_, _-_, _/_}
-use mathlib.Core.Path.{refl, _∙_}
+use mathlib.Core.Path.{_∙_}
 use native.Mathlib.Omega.{arith}
 use lib.ListN.{length}
 use borrow.Author.Needs.{needs}
-use Rattle.basics.proofs.Truth.{clash}
-use Rattle.entries.proofs.Chains.{Linked, linked-start, linked-place, linked-more, linked-done, linked-index, distinct-not}
+use Rattle.entries.proofs.Chains.{Linked, linked-start, linked-place, linked-more, linked-done, distinct-not}
 use Rattle.entries.proofs.chain.distinct_in.Statement.{statement}
 use Rattle.entries.proofs.chain.distinct_in.Tie as tie
 
@@ -40,7 +39,7 @@ same-length-2 : tie.Need-same-length-2 Inv-loop μ-loop
 same-length-2 c = search needs
 
 returns : tie.Need-returns Inv-loop μ-loop
-returns c = (distinct-not _ _ (omega arith) _ (c .before .entry-new .ensures) (c .if1 .taken), λ q. absurd (clash q refl))
+returns c = distinct-not _ _ (omega arith) _ (c .before .entry-new .ensures) (c .if1 .taken)
 
 mul-links : tie.Need-mul-links Inv-loop μ-loop
 mul-links c = search needs
@@ -76,9 +75,7 @@ same-length-4 : tie.Need-same-length-4 Inv-loop μ-loop
 same-length-4 c = search needs
 
 returns-2 : tie.Need-returns-2 Inv-loop μ-loop
-returns-2 c =
-    let l = c .before .loop in
-    (linked-done _ _ _ _ (l .inv .1) (l .inv .0) (c .loop-test .left), λ q. linked-index _ _ _ _ (l .inv .1) (l .inv .0) (c .loop-test .left) (search needs))
+returns-2 c = let l = c .before .loop in linked-done _ _ _ _ (l .inv .1) (l .inv .0) (c .loop-test .left)
 
 pub distinct-in-spec : {M : Type 1} → statement M
 distinct-in-spec =
