@@ -82,6 +82,11 @@ fn right_entries(list: &[u8]) -> usize {
     right.count()
 }
 
+/// Whether a list of bit names keeps the rules.
+pub fn is_list(list: &[u8]) -> bool {
+    whole(list, ENTRY, right_entries(list)).is_ok()
+}
+
 /// From 1 to 2,147,483,647.
 fn is_index(bytes: &[u8]) -> bool {
     (1..=0x7FFF_FFFF).contains(&number(bytes))

@@ -1,9 +1,10 @@
 //! An independent reader of ethtool netlink requests, written from document 01 and its later requests C-11 to
-//! C-13 alone.
+//! C-14 alone.
 //!
 //! It answers the same calls as the proved library: one message at a time ([`handle`]), one bitset at a time
-//! ([`normalise`]), one box at a time ([`check_box`]), or a whole datagram for a fixed box ([`run`]). Inputs are plain
-//! numbers and byte slices; every input has an answer. [`handle`] and [`normalise`] allocate nothing.
+//! ([`normalise`]), one box at a time ([`check_box`]), one bit name at a time ([`find`]), or a whole datagram for a fixed
+//! box ([`run`]). Inputs are plain numbers and byte slices; every input has an answer. [`handle`] and [`normalise`]
+//! allocate nothing.
 
 #![forbid(unsafe_code)]
 
@@ -13,6 +14,7 @@ mod bitset;
 mod box_check;
 mod command;
 mod fault;
+mod find;
 mod framing;
 mod handler;
 mod name_list;
@@ -30,6 +32,7 @@ mod text;
 pub mod wire;
 
 pub use box_check::check_box;
+pub use find::{find, NOT_FOUND};
 pub use handler::{handle, Answer, DONE, END, REFUSED, SKIPPED};
 pub use normaliser::normalise;
 pub use program::{answers, answers_to, run};

@@ -37,6 +37,8 @@ fn any_bytes_in_any_place() {
         assert!(answer.kind <= 3 && answer.refusal <= 25 && answer.written <= setup.page.len() as u64);
         assert!(answer.next_place <= 1 && (place <= 1 || answer.refusal == 1));
         reader::normalise(&datagram, &setup.flag_names, &mut setup.page);
+        let (number, found, compared) = reader::find(&setup.flag_names, &datagram[..datagram.len() % 40]);
+        assert!(number <= 1 && (found < 40 || found == reader::NOT_FOUND) && compared <= 40);
         reader::run(&datagram);
     }
 }
