@@ -8,6 +8,7 @@ use super::requests::{list_of, Request, BITSET, HEADER, PORT_FLAGS, PORT_INDEX, 
 use super::rng::Rng;
 use super::strsets::STRSET_GET;
 use super::tree::{inside_last, last, Attribute};
+use super::wanted;
 
 /// One damage to the port header, or to the bitset or name lists of a request.
 pub fn damage(rng: &mut Rng, request: &mut Request, model: &Model) {
@@ -160,7 +161,7 @@ fn damage_list(rng: &mut Rng, bitset: &mut [Attribute], list: &[Vec<u8>]) {
         1 => parts.retain(|part| !matches!(part.plain_kind(), BIT_INDEX | BIT_NAME)),
         2 | 3 => {
             parts.retain(|part| part.plain_kind() != BIT_INDEX);
-            let name = if rng.per_mille(300) { Vec::new() } else { names::any(rng, list, 31) };
+            let name = if rng.per_mille(300) { Vec::new() } else { wanted::unknown(rng, list) };
             put(rng, parts, Attribute::name(BIT_NAME, &name));
         }
         _ => index_beside_name(rng, parts, list),
@@ -178,7 +179,7 @@ fn index_beside_name(rng: &mut Rng, parts: &mut Vec<Attribute>, list: &[Vec<u8>]
     let name = match rng.below(5) {
         0 => Vec::new(),
         1..4 if !named.is_empty() => rng.pick(&named).clone(),
-        _ => names::any(rng, list, 31),
+        _ => wanted::unknown(rng, list),
     };
     let index = if rng.per_mille(330) { index_past_n(rng, list.len()) } else { rng.below(list.len()) as u32 };
     put(rng, parts, Attribute::number(BIT_INDEX, index));

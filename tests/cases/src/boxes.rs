@@ -1,5 +1,6 @@
 //! Right boxes (document 01, "The box a call is given").
 
+use super::alike;
 use super::long_lists;
 use super::names;
 use super::rng::Rng;
@@ -39,10 +40,13 @@ pub fn bits(rng: &mut Rng) -> usize {
     }
 }
 
-/// A list of names; many lists have no name at all, or one.
+/// A list of names; many lists have no name at all, or one, and in some many names have one length and one last byte.
 pub fn list(rng: &mut Rng, bits: usize) -> Vec<Vec<u8>> {
     let empty = rng.pick(&[0, 0, 500, 900, 1000]);
-    names::distinct(rng, bits, 31, empty)
+    match rng.per_mille(250) {
+        true => alike::list(rng, bits, empty),
+        false => names::distinct(rng, bits, 31, empty),
+    }
 }
 
 impl Model {

@@ -40,12 +40,20 @@ pub struct CheckBoxCase {
     pub settings: Vec<u8>,
 }
 
+/// Inputs of the search for a bit name.
+#[derive(Clone, Debug, PartialEq, Eq)]
+pub struct FindCase {
+    pub names: Vec<u8>,
+    pub name: Vec<u8>,
+}
+
 /// One call.
 #[derive(Clone, Debug, PartialEq, Eq)]
 pub enum Case {
     Handle(HandleCase),
     Normalise(NormaliseCase),
     CheckBox(CheckBoxCase),
+    Find(FindCase),
 }
 
 /// The box of a case.
@@ -100,12 +108,20 @@ impl Display for NormaliseCase {
     }
 }
 
+impl Display for FindCase {
+    fn fmt(&self, out: &mut Formatter) -> Result {
+        writeln!(out, "find\nnames {}", hex(&self.names))?;
+        writeln!(out, "name {}", hex(&self.name))
+    }
+}
+
 impl Display for Case {
     fn fmt(&self, out: &mut Formatter) -> Result {
         match self {
             Case::Handle(case) => case.fmt(out),
             Case::Normalise(case) => case.fmt(out),
             Case::CheckBox(case) => write!(out, "check_box\n{}", GivenBox::from(case)),
+            Case::Find(case) => case.fmt(out),
         }
     }
 }

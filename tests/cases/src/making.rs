@@ -1,12 +1,12 @@
 //! One case from a seed and a number.
 
 use super::boxes::{self, BoxBytes, Model};
-use super::case::{Case, CheckBoxCase, HandleCase, NormaliseCase};
+use super::case::{Case, CheckBoxCase, FindCase, HandleCase, NormaliseCase};
 use super::datagrams;
 use super::requests::Request;
 use super::rng::Rng;
 use super::tree::write_all;
-use super::{bad_box, bad_message, bad_parts, bad_tree, bad_words, bitsets, places};
+use super::{alike, bad_box, bad_message, bad_parts, bad_tree, bad_words, bitsets, places, wanted};
 
 /// Shortest answer page of the handler.
 const ANSWER_PAGE: usize = 32_768;
@@ -21,6 +21,7 @@ pub fn case(seed: u64, number: u64) -> Case {
     match rng.below(1000) {
         0..150 => Case::Normalise(normalise(&mut rng)),
         150..250 => Case::CheckBox(check_box(&mut rng)),
+        250..310 => Case::Find(find(&mut rng)),
         _ => Case::Handle(handle(&mut rng)),
     }
 }
@@ -64,8 +65,8 @@ fn asked(rng: &mut Rng) -> (Model, Request, u64) {
     let share = rng.below(1000);
     let (model, request) = match share {
         0..120 => with(rng, Model::of_dump, Request::dump),
-        120..220 => with(rng, Model::new, Request::names),
-        220..236 => with(rng, Model::of_long_lists, Request::both_names),
+        120..232 => with(rng, Model::new, Request::names),
+        232..249 => with(rng, Model::of_long_lists, Request::both_names),
         _ => with(rng, Model::new, Request::new),
     };
     let place = if share < 120 { places::of_dump } else { places::of_other };
@@ -162,6 +163,28 @@ fn check_box(rng: &mut Rng) -> CheckBoxCase {
     }
     let BoxBytes { family, admin, roll, lists: [debug_names, flag_names], settings } = given;
     CheckBoxCase { family, admin, roll, debug_names, flag_names, settings }
+}
+
+fn find(rng: &mut Rng) -> FindCase {
+    let bits = if rng.per_mille(50) { rng.pick(&[300, 511, 512]) } else { boxes::bits(rng) };
+    let empty = rng.pick(&[0, 0, 100, 500]);
+    let list = if rng.per_mille(700) { alike::list(rng, bits, empty) } else { boxes::list(rng, bits) };
+    let name = wanted::name(rng, &list);
+    let mut names = boxes::list_bytes(&list);
+    match rng.below(1000) {
+        0..150 => bad_list(rng, &mut names),
+        150..200 => put_entry(&mut names, rng.below(bits), &name),
+        _ => {}
+    }
+    FindCase { names, name }
+}
+
+/// Writes a name into an entry, if it has room: it may then stand in the list twice, or be no name.
+fn put_entry(names: &mut [u8], bit: usize, name: &[u8]) {
+    if name.len() <= 32 {
+        names[32 * bit..32 * (bit + 1)].fill(0);
+        names[32 * bit..32 * bit + name.len()].copy_from_slice(name);
+    }
 }
 
 /// A list with too many entries, or broken in another way.

@@ -4,7 +4,7 @@ use super::rng::Rng;
 use std::collections::HashSet;
 
 /// A run of lower-case letters.
-fn letters(rng: &mut Rng, length: usize) -> Vec<u8> {
+pub fn letters(rng: &mut Rng, length: usize) -> Vec<u8> {
     (0..length).map(|_| b'a' + rng.below(26) as u8).collect()
 }
 
@@ -44,10 +44,20 @@ fn letters_within(rng: &mut Rng, low: usize, high: usize) -> Vec<u8> {
 
 /// So many names, all different; an entry is empty in so many of a thousand places.
 pub fn distinct(rng: &mut Rng, count: usize, longest: usize, empty: usize) -> Vec<Vec<u8>> {
+    distinct_by(rng, count, empty, |rng, earlier| any(rng, earlier, longest))
+}
+
+/// The same of names that are made one by one from those before them.
+pub fn distinct_by(
+    rng: &mut Rng,
+    count: usize,
+    empty: usize,
+    make: impl Fn(&mut Rng, &[Vec<u8>]) -> Vec<u8>,
+) -> Vec<Vec<u8>> {
     let mut taken = HashSet::new();
     let mut names: Vec<Vec<u8>> = Vec::with_capacity(count);
     while names.len() < count {
-        let name = if rng.per_mille(empty) { Vec::new() } else { any(rng, &names, longest) };
+        let name = if rng.per_mille(empty) { Vec::new() } else { make(rng, &names) };
         if name.is_empty() || taken.insert(name.clone()) {
             names.push(name);
         }

@@ -1,6 +1,7 @@
-//! What is compared: anything that answers the calls of the handler, of the normaliser and of the check of a box.
+//! What is compared: anything that answers the calls of the handler, of the normaliser, of the check of a box and of the
+//! search for a bit name.
 
-use cases::{GivenBox, HandleCase, NormaliseCase};
+use cases::{FindCase, GivenBox, HandleCase, NormaliseCase};
 use reader::Answer;
 
 /// An implementation of document 01 and its later requests.
@@ -13,6 +14,9 @@ pub trait Implementation {
 
     /// Gives the number of the part at fault (0 if none) and the offset.
     fn check_box(&self, given: GivenBox) -> (u32, u64);
+
+    /// Gives the number (0 if the list is right), the bit found and how many entries were compared further.
+    fn find(&self, case: &FindCase) -> (u32, u32, u64);
 }
 
 /// The reader of this workspace.
@@ -41,5 +45,9 @@ impl Implementation for Reader {
     fn check_box(&self, given: GivenBox) -> (u32, u64) {
         let GivenBox { family, admin, roll, debug_names, flag_names, settings } = given;
         reader::check_box(family, admin, roll, debug_names, flag_names, settings)
+    }
+
+    fn find(&self, case: &FindCase) -> (u32, u32, u64) {
+        reader::find(&case.names, &case.name)
     }
 }

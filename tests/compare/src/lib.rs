@@ -1,8 +1,10 @@
 //! Two implementations of document 01 over the same cases: kind, number, next position, next place, count, every byte
 //! of the page and every byte of the settings; part and offset that the check of a box tells, and that the handler
-//! refuses by 1 exactly where it tells of a part or the place is above the port count.
+//! refuses by 1 exactly where it tells of a part or the place is above the port count; number, bit and count of a search
+//! for a bit name.
 
 mod attributes;
+mod finds;
 mod implementation;
 mod name_lists;
 mod outcome;

@@ -1,7 +1,7 @@
-//! The proved library behind its C boundary (`ethnl_handle`, `ethnl_normalise`, `ethnl_check_box`).
+//! The proved library behind its C boundary (`ethnl_handle`, `ethnl_normalise`, `ethnl_check_box`, `ethnl_find`).
 
 use super::Implementation;
-use cases::{GivenBox, HandleCase, NormaliseCase};
+use cases::{FindCase, GivenBox, HandleCase, NormaliseCase};
 use reader::Answer;
 
 #[cfg(feature = "library")]
@@ -42,6 +42,15 @@ extern "C" {
         settings: *const u8,
         settings_len: usize,
         offset: *mut u64,
+    ) -> u32;
+
+    fn ethnl_find(
+        names: *const u8,
+        names_len: usize,
+        name: *const u8,
+        name_len: usize,
+        found: *mut u32,
+        compared: *mut u64,
     ) -> u32;
 }
 
@@ -143,5 +152,28 @@ impl Implementation for Library {
             )
         };
         (part, offset)
+    }
+
+    #[cfg(not(feature = "library"))]
+    fn find(&self, case: &FindCase) -> (u32, u32, u64) {
+        super::Reader.find(case)
+    }
+
+    #[cfg(feature = "library")]
+    fn find(&self, case: &FindCase) -> (u32, u32, u64) {
+        // No list has a bit or a count of this size, and the bit isn't the one that means none.
+        let (mut found, mut compared) = (u32::MAX - 1, u64::MAX);
+        // SAFETY: each pointer comes from a live slice or place and is followed by that slice's length.
+        let number = unsafe {
+            ethnl_find(
+                case.names.as_ptr(),
+                case.names.len(),
+                case.name.as_ptr(),
+                case.name.len(),
+                &mut found,
+                &mut compared,
+            )
+        };
+        (number, found, compared)
     }
 }

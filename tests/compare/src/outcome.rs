@@ -26,6 +26,11 @@ pub enum Outcome {
         offset: u64,
         answer: Answer,
     },
+    Found {
+        number: u32,
+        found: u32,
+        compared: u64,
+    },
 }
 
 impl Outcome {
@@ -36,7 +41,7 @@ impl Outcome {
             Outcome::Handled { answer, part, .. } | Outcome::Checked { answer, part, .. } => {
                 (answer.refusal == 1) == (*part != 0 || !has_place(case))
             }
-            Outcome::Normalised { .. } => true,
+            Outcome::Normalised { .. } | Outcome::Found { .. } => true,
         }
     }
 }
@@ -45,7 +50,7 @@ impl Outcome {
 fn has_place(case: &Case) -> bool {
     match case {
         Case::Handle(HandleCase { roll, place, .. }) => *place <= roll.len() as u64 / 21,
-        Case::Normalise(_) | Case::CheckBox(_) => true,
+        Case::Normalise(_) | Case::CheckBox(_) | Case::Find(_) => true,
     }
 }
 
@@ -66,6 +71,10 @@ pub fn outcome(implementation: &dyn Implementation, case: &Case) -> Outcome {
         Case::CheckBox(case) => {
             let (part, offset) = implementation.check_box(case.into());
             Outcome::Checked { part, offset, answer: answer_to_nothing(implementation, case) }
+        }
+        Case::Find(case) => {
+            let (number, found, compared) = implementation.find(case);
+            Outcome::Found { number, found, compared }
         }
     }
 }
@@ -110,6 +119,9 @@ impl Display for Outcome {
             Outcome::Checked { part, offset, answer } => {
                 let refusal = answer.refusal;
                 writeln!(out, "part at fault {part}, offset {offset}; an empty datagram: refusal {refusal}")
+            }
+            Outcome::Found { number, found, compared } => {
+                writeln!(out, "number {number}, found {found}, compared {compared}")
             }
         }
     }

@@ -1,7 +1,6 @@
 //! How often each answer was reached.
 
-use super::name_lists::{self, WAYS};
-use super::Outcome;
+use super::{finds, name_lists, Outcome};
 use cases::Case;
 use std::fmt::{Display, Formatter, Result};
 
@@ -12,6 +11,8 @@ const NORMALISER: [usize; 14] = [0, 1, 2, 3, 10, 11, 12, 13, 18, 19, 20, 21, 22,
 
 /// The largest number of a box's part.
 const LAST_PART: usize = 6;
+/// The largest number of a search for a name.
+const LAST_OF_FIND: usize = 1;
 
 /// Counts of kinds and numbers.
 #[derive(Default)]
@@ -22,8 +23,11 @@ pub struct Tally {
     checked: [u64; LAST_PART + 1],
     /// Replies of ports in dumps, and DONE behind them.
     dumped: [u64; 2],
+    found: [u64; LAST_OF_FIND + 1],
     /// Ways of a done STRSET_GET.
-    listed: [u64; WAYS.len()],
+    listed: [u64; name_lists::WAYS.len()],
+    /// Ways of a search for a name.
+    searched: [u64; finds::WAYS.len()],
 }
 
 /// The names of what is counted of dumps.
@@ -53,19 +57,34 @@ impl Tally {
             }
             Outcome::Normalised { number, .. } => add(&mut self.normalised, *number),
             Outcome::Checked { part, .. } => add(&mut self.checked, *part),
+            Outcome::Found { number, found, compared } => {
+                add(&mut self.found, *number);
+                if let (Case::Find(case), 0) = (case, number) {
+                    let ways = finds::ways(case, *found, *compared);
+                    self.searched.iter_mut().zip(ways).for_each(|(count, way)| *count += u64::from(way));
+                }
+            }
         }
     }
 
-    /// What was reached fewer times than it should: kinds, refusals of the handler, numbers of the normaliser and of the
-    /// check of a box, the two messages of dumps, the ways of a done STRSET_GET.
+    /// Ways of a done STRSET_GET and of a search for a name, with their counts.
+    fn ways(&self) -> impl Iterator<Item = (String, u64)> + '_ {
+        let listed = name_lists::WAYS.iter().zip(self.listed).map(|(way, count)| (format!("STRSET_GET: {way}"), count));
+        let searched = finds::WAYS.iter().zip(self.searched).map(|(way, count)| (format!("find: {way}"), count));
+        listed.chain(searched)
+    }
+
+    /// What was reached fewer times than it should: kinds, refusals of the handler, numbers of the normaliser, of the
+    /// check of a box and of a search for a name, the two messages of dumps, the ways of a done STRSET_GET and of a
+    /// search.
     pub fn rare(&self, least: u64) -> Vec<String> {
         let kinds = (0..4).map(|kind| (format!("kind {kind}"), self.kinds[kind]));
         let handled = (0..=LAST).map(|number| (format!("handle {number}"), self.handled[number]));
         let normalised = NORMALISER.map(|number| (format!("normalise {number}"), self.normalised[number]));
         let checked = (0..=LAST_PART).map(|part| (format!("check_box {part}"), self.checked[part]));
+        let found = (0..=LAST_OF_FIND).map(|number| (format!("find {number}"), self.found[number]));
         let dumped = (0..2).map(|which| (DUMPED[which].to_string(), self.dumped[which]));
-        let listed = WAYS.iter().zip(self.listed).map(|(way, count)| (format!("STRSET_GET: {way}"), count));
-        let all = kinds.chain(handled).chain(normalised).chain(checked).chain(dumped).chain(listed);
+        let all = kinds.chain(handled).chain(normalised).chain(checked).chain(found).chain(dumped).chain(self.ways());
         all.filter(|(_, count)| *count < least).map(|(name, count)| format!("{name}: {count}")).collect()
     }
 }
@@ -75,17 +94,18 @@ impl Display for Tally {
         let [end, skipped, done, refused] = self.kinds;
         writeln!(out, "end {end}, skipped {skipped}, done {done}, refused {refused}")?;
         writeln!(out, "{} {}, {} {}", DUMPED[0], self.dumped[0], DUMPED[1], self.dumped[1])?;
-        for (way, count) in WAYS.iter().zip(self.listed) {
-            writeln!(out, "STRSET_GET: {way} {count}")?;
+        for (way, count) in self.ways() {
+            writeln!(out, "{way} {count}")?;
         }
-        writeln!(out, "number    handle normalise check_box")?;
+        writeln!(out, "number    handle normalise check_box      find")?;
         for number in 0..=LAST {
             let normalised = match NORMALISER.contains(&number) {
                 true => self.normalised[number].to_string(),
                 false => "-".to_string(),
             };
-            let checked = self.checked.get(number).map_or("-".to_string(), u64::to_string);
-            writeln!(out, "{number:6} {:9} {normalised:>9} {checked:>9}", self.handled[number])?;
+            let told = |counts: &[u64]| counts.get(number).map_or("-".to_string(), u64::to_string);
+            let (checked, found) = (told(&self.checked), told(&self.found));
+            writeln!(out, "{number:6} {:9} {normalised:>9} {checked:>9} {found:>9}", self.handled[number])?;
         }
         Ok(())
     }

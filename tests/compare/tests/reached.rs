@@ -1,6 +1,6 @@
 //! The cases reach every answer, are the same on every run, and a difference is seen wherever it is.
 
-use cases::{Case, GivenBox, HandleCase, NormaliseCase};
+use cases::{Case, FindCase, GivenBox, HandleCase, NormaliseCase};
 use compare::{compare, outcome, Implementation, Reader, Tally};
 use reader::Answer;
 use std::io::{stdout, Write};
@@ -61,6 +61,10 @@ impl Implementation for Altered {
     fn check_box(&self, given: GivenBox) -> (u32, u64) {
         Reader.check_box(given)
     }
+
+    fn find(&self, case: &FindCase) -> (u32, u32, u64) {
+        Reader.find(case)
+    }
 }
 
 /// The reader with another check of a box.
@@ -77,6 +81,31 @@ impl Implementation for OtherCheck {
 
     fn check_box(&self, given: GivenBox) -> (u32, u64) {
         (self.0)(given)
+    }
+
+    fn find(&self, case: &FindCase) -> (u32, u32, u64) {
+        Reader.find(case)
+    }
+}
+
+/// The reader with another search for a name.
+struct OtherFind(fn((u32, u32, u64)) -> (u32, u32, u64));
+
+impl Implementation for OtherFind {
+    fn handle(&self, case: &HandleCase, settings: &mut [u8], page: &mut [u8]) -> Answer {
+        Reader.handle(case, settings, page)
+    }
+
+    fn normalise(&self, case: &NormaliseCase, page: &mut [u8]) -> (u32, u64) {
+        Reader.normalise(case, page)
+    }
+
+    fn check_box(&self, given: GivenBox) -> (u32, u64) {
+        Reader.check_box(given)
+    }
+
+    fn find(&self, case: &FindCase) -> (u32, u32, u64) {
+        (self.0)(Reader.find(case))
     }
 }
 
@@ -101,6 +130,18 @@ fn part_and_offset_of_a_checked_box_are_compared() {
     let other_part = OtherCheck(|given| (Reader.check_box(given).0 ^ 8, Reader.check_box(given).1));
     let other_offset = OtherCheck(|given| (Reader.check_box(given).0, Reader.check_box(given).1 ^ 1 << 40));
     for other in [other_part, other_offset] {
+        assert!(compare(&other, &Reader, 1, 200, &mut Tally::default()).is_some());
+    }
+}
+
+#[test]
+fn number_bit_and_count_of_a_search_are_compared() {
+    let others = [
+        OtherFind(|(number, found, compared)| (number ^ 1, found, compared)),
+        OtherFind(|(number, found, compared)| (number, found ^ 1 << 20, compared)),
+        OtherFind(|(number, found, compared)| (number, found, compared ^ 1 << 40)),
+    ];
+    for other in others {
         assert!(compare(&other, &Reader, 1, 200, &mut Tally::default()).is_some());
     }
 }

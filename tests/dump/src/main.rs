@@ -7,9 +7,10 @@
 //! 2 normalise: contents, names (bytes); length of the page (u32); then the number (u32) and the form (bytes).
 //! 3 check_box: family, admin (u32); roll, debug names, flag names, settings (bytes); then the part at fault (u32) and the
 //!   offset (u64).
+//! 4 find: names, name (bytes); then the number, the bit found (u32) and the count of entries compared further (u64).
 //! 0 no more cases.
 
-use cases::{Case, CheckBoxCase, HandleCase, NormaliseCase};
+use cases::{Case, CheckBoxCase, FindCase, HandleCase, NormaliseCase};
 use std::env;
 use std::io::{self, BufWriter, Write};
 use std::process::ExitCode;
@@ -49,6 +50,7 @@ fn dump(out: &mut impl Write, cases: u64, seed: u64) -> io::Result<()> {
             Case::Handle(case) => handled(out, case)?,
             Case::Normalise(case) => normalised(out, case)?,
             Case::CheckBox(case) => checked(out, &case)?,
+            Case::Find(case) => searched(out, &case)?,
         }
     }
     put_u32(out, 0)?;
@@ -115,4 +117,14 @@ fn checked(out: &mut impl Write, case: &CheckBoxCase) -> io::Result<()> {
     let (part, offset) = reader::check_box(*family, *admin, roll, debug_names, flag_names, settings);
     put_u32(out, part)?;
     out.write_all(&offset.to_le_bytes())
+}
+
+fn searched(out: &mut impl Write, case: &FindCase) -> io::Result<()> {
+    put_u32(out, 4)?;
+    put_bytes(out, &case.names)?;
+    put_bytes(out, &case.name)?;
+    let (number, found, compared) = reader::find(&case.names, &case.name);
+    put_u32(out, number)?;
+    put_u32(out, found)?;
+    out.write_all(&compared.to_le_bytes())
 }

@@ -1,6 +1,6 @@
 //! Altered readers: each is the reader with one usual mistake or other reading put in (`edits/`).
 
-use cases::{GivenBox, HandleCase, NormaliseCase};
+use cases::{FindCase, GivenBox, HandleCase, NormaliseCase};
 use compare::Implementation;
 use reader::Answer;
 
@@ -12,6 +12,7 @@ pub struct Slip {
     handle: fn(&HandleCase, &mut [u8], &mut [u8]) -> Answer,
     normalise: fn(&NormaliseCase, &mut [u8]) -> (u32, u64),
     check_box: fn(GivenBox) -> (u32, u64),
+    find: fn(&FindCase) -> (u32, u32, u64),
 }
 
 impl Implementation for Slip {
@@ -25,6 +26,10 @@ impl Implementation for Slip {
 
     fn check_box(&self, given: GivenBox) -> (u32, u64) {
         (self.check_box)(given)
+    }
+
+    fn find(&self, case: &FindCase) -> (u32, u32, u64) {
+        (self.find)(case)
     }
 }
 
@@ -56,6 +61,7 @@ macro_rules! slip {
                 let GivenBox { family, admin, roll, debug_names, flag_names, settings } = given;
                 $module::check_box(family, admin, roll, debug_names, flag_names, settings)
             },
+            find: |case| $module::find(&case.names, &case.name),
         }
     };
 }

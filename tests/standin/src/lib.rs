@@ -74,6 +74,25 @@ pub unsafe extern "C" fn ethnl_normalise(
     number
 }
 
+/// As `ethnl_find` of `include/ethnl.h`.
+///
+/// # Safety
+/// Each pointer is valid for the length after it; what is written overlaps nothing else.
+#[no_mangle]
+pub unsafe extern "C" fn ethnl_find(
+    names: *const u8,
+    names_len: usize,
+    name: *const u8,
+    name_len: usize,
+    found: *mut u32,
+    compared: *mut u64,
+) -> u32 {
+    let (number, bit, count) = reader::find(from_raw_parts(names, names_len), from_raw_parts(name, name_len));
+    *found = bit;
+    *compared = count;
+    number
+}
+
 /// As `ethnl_check_box` of `include/ethnl.h`.
 ///
 /// # Safety
