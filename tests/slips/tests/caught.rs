@@ -15,8 +15,8 @@ fn say(line: &str) {
 #[test]
 fn there_are_slips_of_every_kind() {
     let named = |word: &str| SLIPS.iter().filter(|slip| slip.name.contains(word)).count();
-    let of_parts = [named("check_box"), named("disagreement"), named("dump"), named("place"), named("strset")];
-    let least = [6, 6, 30, 15, 60];
+    let of_parts = ["check_box", "disagreement", "dump", "place", "strset", "find"].map(named);
+    let least = [6, 6, 30, 15, 60, 40];
     assert!(of_parts.iter().zip(least).all(|(count, least)| *count >= least), "{of_parts:?}");
     assert!(SLIPS.len() >= 60 + of_parts.iter().sum::<usize>());
 }
