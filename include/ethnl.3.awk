@@ -82,14 +82,16 @@ function heading(at, first) {
     say_comment(comment[1] == "" ? 2 : 1)
 }
 
-# "#define NAME VALUE /* MEANING */"; a value that is no number is left out, and so is a name with neither.
+# "#define NAME VALUE /* MEANING */"; a value that is no number is left out, and so is a name with neither. A number may end in u.
 function number_line(line, name, value, meaning) {
     meaning = line
     if (!sub(/^.*\/\* /, "", meaning))
         meaning = ""
     sub(/ \*\/$/, "", meaning)
     name = $2
-    value = $3 ~ /^[0-9]+$/ ? " " $3 : ""
+    value = $3
+    sub(/u$/, "", value)
+    value = value ~ /^[0-9]+$/ ? " " value : ""
     if (meaning != "")
         body = body ".TP\n.B " name value "\n" text(meaning)
     else if (value != "")

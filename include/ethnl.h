@@ -4,8 +4,8 @@
  * Five commands are served: STRSET_GET (1), DEBUG_GET (7), DEBUG_SET (8), PRIVFLAGS_GET (13), PRIVFLAGS_SET (14).
  * The library opens nothing, allocates nothing and keeps nothing between calls: all state is lent by
  * the caller. Every input has an answer; nothing needs to be checked before a call. ethnl_box.h has the same
- * functions over one struct instead of a row of buffers (ethnl_box_handle, ethnl_form_of, ethnl_box_check), and a
- * sentence for each refusal and each part of a box (ethnl_strerror, ethnl_strpart).
+ * functions over structs instead of a row of buffers (ethnl_box_handle, ethnl_form_of, ethnl_find_name,
+ * ethnl_box_check), and a sentence for each refusal and each part of a box (ethnl_strerror, ethnl_strpart).
  *
  * Pointers. Each is followed by its length in bytes and must be valid for that many bytes. It must not be
  * null, not even where the length is 0. Buffers that are written (settings, page, results) must not overlap
@@ -77,13 +77,13 @@ extern "C" {
  * behind the position, and hands back next_place behind next. A caller changes its call, as the loop above shows.
  */
 #define ETHNL_VERSION_MAJOR 0
-#define ETHNL_VERSION_MINOR 5
+#define ETHNL_VERSION_MINOR 6
 #define ETHNL_VERSION_PATCH 0
 #define ETHNL_VERSION (10000 * ETHNL_VERSION_MAJOR + 100 * ETHNL_VERSION_MINOR + ETHNL_VERSION_PATCH) /* a number for #if */
 #define ETHNL_VERSION_STRING ETHNL_DOTTED(ETHNL_VERSION_MAJOR, ETHNL_VERSION_MINOR, ETHNL_VERSION_PATCH) /* major.minor.patch */
 #define ETHNL_DOTTED(major, minor, patch) ETHNL_DOTTED_TEXT(major, minor, patch)
 #define ETHNL_DOTTED_TEXT(major, minor, patch) #major "." #minor "." #patch
-#define ETHNL_LEVEL 13 /* the number of the highest change request that the library has */
+#define ETHNL_LEVEL 14 /* the number of the highest change request that the library has */
 
 /* Sizes in bytes. */
 #define ETHNL_PAGE_MIN 32768     /* shortest answer page of ethnl_handle */
@@ -155,6 +155,9 @@ extern "C" {
 #define ETHNL_PART_FLAG_NAMES 5  /* the list of flag names */
 #define ETHNL_PART_SETTINGS 6    /* the settings */
 
+/* What ethnl_find tells beside the number of a bit. */
+#define ETHNL_NOT_FOUND 4294967295u /* no entry of the list has the name */
+
 /*
  * Answers the one message at a position of a datagram; of a dump, which has several answers, the one at a place.
  *
@@ -212,6 +215,26 @@ void ethnl_handle(uint32_t family, uint32_t admin,
 uint32_t ethnl_normalise(const uint8_t *contents, size_t contents_len,
                          const uint8_t *names, size_t names_len,
                          uint8_t *page, size_t page_len, uint64_t *written);
+
+/*
+ * Finds the bit that has a name. The length and the last byte of an entry are compared ahead of the rest, and the entries
+ * that agree in both are counted, up to the one that has the name.
+ *
+ *   names        the list that is searched, as in ethnl_handle
+ *   name         the bytes of the name, without a NUL behind them; any number of any bytes, may be empty
+ *   found        set to the bit that has the name, ETHNL_NOT_FOUND if none has it; 0 if refused
+ *   compared     set to the number of entries, up to and with the one found, or in the whole list, that have the name's
+ *                length and its last byte; 0 if refused
+ *
+ * An entry's length and last byte are those of its name, before the NULs; an empty entry agrees with nothing. An empty
+ * name is found nowhere and compared with nothing, and so is one of more than 31 bytes, one that begins with a NUL, which
+ * is an empty one, and one that ends in a NUL, as no entry does. A name with a NUL in between is found nowhere and
+ * compared like any other. Returns 0, also where the name isn't found, or 1 if the list breaks a rule. Nothing but
+ * `*found` and `*compared` is written.
+ */
+uint32_t ethnl_find(const uint8_t *names, size_t names_len,
+                    const uint8_t *name, size_t name_len,
+                    uint32_t *found, uint64_t *compared);
 
 /*
  * Tells which part of a box breaks a rule (those by which ethnl_handle refuses by 1), and where. Returns the first

@@ -17,6 +17,8 @@
 
 #include "ethnl.h"
 
+#include <string.h>
+
 /* C89 has no inline; without it a compiler may warn of functions that are not called. */
 #if defined(__cplusplus) || (defined(__STDC_VERSION__) && __STDC_VERSION__ >= 199901L)
 #define ETHNL_INLINE static inline
@@ -57,6 +59,12 @@ struct ethnl_form {
     uint8_t bytes[ETHNL_FORM_MAX];
 };
 
+/* The bit that has a name, or ETHNL_NOT_FOUND, and how many entries were compared further; or the refusal, 0 and 0. */
+struct ethnl_found {
+    uint32_t refusal, bit;
+    uint64_t compared;
+};
+
 /* Position and place are 0 at first, then next and next_place of the answer before. */
 ETHNL_INLINE struct ethnl_answer ethnl_box_handle(const struct ethnl_box *box, const uint8_t *datagram,
                                                   size_t datagram_len, uint64_t position, uint64_t place,
@@ -90,6 +98,15 @@ ETHNL_INLINE struct ethnl_form ethnl_form_of(const uint8_t *contents, size_t con
     form.refusal = ethnl_normalise(contents, contents_len, names, names_len, form.bytes, sizeof form.bytes,
                                    &form.written);
     return form;
+}
+
+/* The bit that has a name, which ends in a NUL; names is the list of its set, as box.flag_names. */
+ETHNL_INLINE struct ethnl_found ethnl_find_name(const uint8_t *names, size_t names_len, const char *name)
+{
+    struct ethnl_found found;
+
+    found.refusal = ethnl_find(names, names_len, (const uint8_t *)name, strlen(name), &found.bit, &found.compared);
+    return found;
 }
 
 /* A sentence for a refusal; for 0 and for every other number too. */

@@ -20,8 +20,8 @@ check "make install into DESTDIR" $?
 check_same "  its files" "$(files "$stage/usr/local")" "./include/ethnl.h ./include/ethnl_box.h ./lib/libethnl.a \
 ./lib/pkgconfig/ethnl.pc ./share/doc/ethnl/LICENSE ./share/doc/ethnl/examples/box.c ./share/doc/ethnl/examples/box.h \
 ./share/doc/ethnl/examples/daemon.c ./share/doc/ethnl/examples/quay.box ./share/doc/ethnl/examples/same.c \
-./share/man/man3/ethnl.3 ./share/man/man3/ethnl_check_box.3 ./share/man/man3/ethnl_handle.3 \
-./share/man/man3/ethnl_normalise.3 "
+./share/man/man3/ethnl.3 ./share/man/man3/ethnl_check_box.3 ./share/man/man3/ethnl_find.3 \
+./share/man/man3/ethnl_handle.3 ./share/man/man3/ethnl_normalise.3 "
 installs uninstall DESTDIR="$stage"
 check_same "make uninstall leaves none of them" "$(files "$stage")" ""
 
