@@ -160,6 +160,22 @@ static void check_box_case(void)
     free(roll.at), free(debug_names.at), free(flag_names.at), free(settings.at);
 }
 
+static void find_case(void)
+{
+    struct bytes names = read_bytes(), name = read_bytes();
+    uint32_t expected = read_u32(), expected_found = read_u32();
+    uint64_t expected_compared = read_u64();
+    uint8_t *lent_names = lend_bytes(FLAG_NAMES, names), *lent_name = lend_bytes(SOUGHT, name);
+    uint32_t *found = lend(FOUND, NULL, sizeof *found);
+    uint64_t *compared = lend(COMPARED, NULL, sizeof *compared);
+    uint32_t number = ethnl_find(lent_names, names.length, lent_name, name.length, found, compared);
+
+    judge(number == expected && *found == expected_found && *compared == expected_compared && same(lent_names, names) &&
+              same(lent_name, name),
+          "find");
+    free(names.at), free(name.at);
+}
+
 /* Takes up a case of the given sort; 0 if there is none such. */
 static int take_case(uint32_t sort)
 {
@@ -169,6 +185,8 @@ static int take_case(uint32_t sort)
         normalise_case();
     else if (sort == 3)
         check_box_case();
+    else if (sort == 4)
+        find_case();
     else
         return 0;
     return 1;

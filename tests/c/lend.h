@@ -6,7 +6,10 @@
 #include <stdint.h>
 
 /* What each buffer of a call is for; a slot is lent once in a case. */
-enum slot { ROLL, DEBUG_NAMES, FLAG_NAMES, SETTINGS, DATAGRAM, PAGE, KIND, REFUSAL, NEXT, NEXT_PLACE, WRITTEN, OFFSET, SLOTS };
+enum slot {
+    ROLL, DEBUG_NAMES, FLAG_NAMES, SETTINGS, DATAGRAM, PAGE, KIND, REFUSAL, NEXT, NEXT_PLACE, WRITTEN, OFFSET,
+    SOUGHT, FOUND, COMPARED, SLOTS
+};
 
 /*
  * Lends in one of three ways; returns 0 if the word is none of them.

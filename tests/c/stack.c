@@ -75,6 +75,11 @@ static void check_box(void)
     number_back = ethnl_box_check(&box).part;
 }
 
+static void find(void)
+{
+    number_back = ethnl_find_name(box.flag_names, box.flag_names_len, "the-name-of-the-bit-number-x511").refusal;
+}
+
 /* Bytes below the caller's frame that a call writes. */
 static __attribute__((noinline)) size_t depth_of(void (*call)(void))
 {
@@ -176,11 +181,13 @@ static void requests(void)
 static void boxes(void)
 {
     measure("a right box", check_box, ETHNL_PART_NONE);
+    measure("a name that is not in its list", find, 0);
     box.flag_names_len -= ETHNL_NAME_LEN;
     measure("a bit past the end of each set", check_box, ETHNL_PART_SETTINGS);
     measure("a request to this box", handle, ETHNL_REFUSAL_BOX);
     box.flag_names_len += ETHNL_NAME_LEN + 1;
     measure("a list that is one byte too long", check_box, ETHNL_PART_FLAG_NAMES);
+    measure("a name that is not in this list", find, ETHNL_REFUSAL_BOX);
     measure("a request to this box", handle, ETHNL_REFUSAL_BOX);
     box.roll_len++;
     measure("a roll that is one byte too long", check_box, ETHNL_PART_ROLL);

@@ -1,6 +1,6 @@
 /*
- * A library that touches one byte too far, to show that `exact` and `faults` tell: past the end of a buffer, or before its
- * start (-DPAST_END=1, 0).
+ * A library that touches one byte too far, to show that `exact`, `faults` and `find` tell: past the end of a buffer, or
+ * before its start (-DPAST_END=1, 0).
  */
 #include "ethnl.h"
 
@@ -28,6 +28,15 @@ uint32_t ethnl_normalise(const uint8_t *contents, size_t contents_len, const uin
 {
     (void)contents, (void)contents_len, (void)names, (void)names_len, (void)page, (void)page_len;
     *written = 0;
+    return 0;
+}
+
+uint32_t ethnl_find(const uint8_t *names, size_t names_len, const uint8_t *name, size_t name_len, uint32_t *found,
+                    uint64_t *compared)
+{
+    (void)names, (void)names_len;
+    *found = too_far(name, name_len);
+    *compared = 0;
     return 0;
 }
 
