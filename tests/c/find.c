@@ -23,9 +23,9 @@ static void put_name(size_t bit, const char *name)
 }
 
 static const char *const known[] = {"lldp", "",     "link",                            "trip", "lamp", "p", "pump", "ump",
-                                    "",     "lldq", "the-first-of-two-long-names-end", "the-other-of-two-long-names-end"};
+                                    "",     "lldq", "a-name-of-31-bytes-number-1-end", "a-name-of-31-bytes-number-2-end"};
 
-/* Twelve entries: four names of four bytes end in p, and two of 31 bytes end alike. */
+/* Twelve entries: four names of four bytes end in p, and two of 31 bytes begin and end alike. */
 static void right_list(void)
 {
     for (size_t bit = 0; bit < sizeof known / sizeof *known; bit++)
@@ -78,22 +78,22 @@ static void hits(void)
     expect_text("three that agree before it", "pump", 6, 4);
     expect_text("one byte", "p", 5, 1);
     expect_text("the end of another name", "ump", 7, 1);
-    expect_text("31 bytes", "the-first-of-two-long-names-end", 10, 1);
-    expect_text("31 bytes, one that agrees before it", "the-other-of-two-long-names-end", 11, 2);
+    expect_text("31 bytes", "a-name-of-31-bytes-number-1-end", 10, 1);
+    expect_text("31 bytes, one that agrees before it", "a-name-of-31-bytes-number-2-end", 11, 2);
 }
 
 static void misses(void)
 {
     right_list();
     expect_text("an unknown name that agrees with four", "bump", ETHNL_NOT_FOUND, 4);
-    expect_text("an unknown name that agrees with two of 31 bytes", "the-third-of-two-long-names-end", ETHNL_NOT_FOUND, 2);
+    expect_text("an unknown name that agrees with two of 31 bytes", "a-name-of-31-bytes-number-3-end", ETHNL_NOT_FOUND, 2);
     expect_text("as long as six, another last byte", "lldx", ETHNL_NOT_FOUND, 0);
     expect_text("the last byte of six, another length", "stamp", ETHNL_NOT_FOUND, 0);
     expect_text("the beginning of a name", "lld", ETHNL_NOT_FOUND, 0);
     expect_text("a name and one byte more", "lldpp", ETHNL_NOT_FOUND, 0);
     expect_text("an empty name", "", ETHNL_NOT_FOUND, 0);
-    expect_text("a name of 31 bytes and its last byte again", "the-first-of-two-long-names-endd", ETHNL_NOT_FOUND, 0);
-    expect_text("32 bytes", "the-fourth-of-two-long-names-end", ETHNL_NOT_FOUND, 0);
+    expect_text("a name of 31 bytes and its last byte again", "a-name-of-31-bytes-number-1-endd", ETHNL_NOT_FOUND, 0);
+    expect_text("32 bytes", "a-name-of-32-bytes-number-10-end", ETHNL_NOT_FOUND, 0);
 }
 
 static const struct bytes_row {
@@ -154,7 +154,7 @@ static void expect_refused(const char *what)
 
     expect(what, "lldp", 4, refused);
     expect("  for an empty name", "", 0, refused);
-    expect("  for a name of 32 bytes", "the-first-of-two-long-names-endd", NAME, refused);
+    expect("  for a name of 32 bytes", "a-name-of-31-bytes-number-1-endd", NAME, refused);
     right_list();
 }
 
