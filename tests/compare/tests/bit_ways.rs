@@ -1,5 +1,5 @@
-//! The cases reach every way in which INDEX and NAME can stand in one BIT (request C-12), and the number told is the one
-//! that the BITs of the list ask for, judged here a third time.
+//! The cases reach every way in which INDEX and NAME can stand in one BIT (request C-12) and in which the search for its
+//! NAME can go (request C-14), and the number told is the one that the BITs of the list ask for, judged here a third time.
 
 use cases::{Case, HandleCase, NormaliseCase};
 use compare::{attributes, last, Implementation, Reader};
@@ -21,6 +21,25 @@ const WAYS: [&str; 8] = [
     AGREEING,
 ];
 const AGREEING: &str = "index and its name";
+
+/// Ways of the search for the NAME of a BIT, by how many entries have its length and last byte.
+const SEARCHES: [&str; 5] =
+    ["found, one agrees", "found, two to nine", "found, ten and more", "unknown, none agrees", "unknown, some"];
+
+/// How the search for a NAME, which isn't empty, goes; all entries that agree are counted, also those behind the hit.
+fn search(name: &[u8], names: &[u8]) -> &'static str {
+    let text = &name[..name.len() - 1];
+    let (_, found, compared) = reader::find(names, text);
+    let behind = names.chunks(32).skip((found as usize).saturating_add(1));
+    let agreeing = behind.filter(|entry| entry[text.len()] == 0 && entry[text.len() - 1] == text[text.len() - 1]);
+    match (found, compared as usize + agreeing.count()) {
+        (reader::NOT_FOUND, 0) => SEARCHES[3],
+        (reader::NOT_FOUND, _) => SEARCHES[4],
+        (_, 1) => SEARCHES[0],
+        (_, 2..10) => SEARCHES[1],
+        _ => SEARCHES[2],
+    }
+}
 
 /// How INDEX and NAME stand in a BIT that carries both, and the number that any BIT gets.
 fn way(bit: &[u8], names: &[u8]) -> (Option<&'static str>, u32) {
@@ -73,6 +92,8 @@ struct Reached {
     ways: BTreeMap<(&'static str, &'static str, bool), u32>,
     /// By the BIT's number, NOMASK and whether the list has one BIT.
     lists: BTreeMap<(u32, bool, bool), u32>,
+    /// By call and how the search for a NAME goes.
+    searches: BTreeMap<(&'static str, &'static str), u32>,
 }
 
 impl Reached {
@@ -83,6 +104,9 @@ impl Reached {
         let mut first = 0;
         for (_, bit) in &entries {
             let (way, number) = way(bit, names);
+            if let Some(name @ [_, _, ..]) = last(&attributes(bit), 2) {
+                *self.searches.entry((call, search(name, names))).or_default() += 1;
+            }
             if let Some(way) = way {
                 *self.ways.entry((call, way, told == 0)).or_default() += 1;
                 *self.lists.entry((number, nomask, entries.len() == 1)).or_default() += 1;
@@ -103,7 +127,10 @@ impl Reached {
         let forms = [(false, false), (false, true), (true, false), (true, true)];
         let lists = [0, 20, 21, 23].into_iter().flat_map(|number| forms.map(|(nomask, one)| (number, nomask, one)));
         let lists = lists.filter(|list| self.lists.get(list).is_none_or(|count| *count < LEAST));
-        ways.map(|way| format!("{way:?}")).chain(lists.map(|list| format!("{list:?}"))).collect()
+        let searches = calls.into_iter().flat_map(|call| SEARCHES.map(|way| (call, way)));
+        let searches = searches.filter(|way| self.searches.get(way).is_none_or(|count| *count < LEAST));
+        let rare = ways.map(|way| format!("{way:?}")).chain(lists.map(|list| format!("{list:?}")));
+        rare.chain(searches.map(|way| format!("{way:?}"))).collect()
     }
 }
 
@@ -121,6 +148,7 @@ fn every_way_is_met_100_times_in_200_000_cases() {
             reached.count(call, contents, names, told);
         }
     }
-    let Reached { ways, lists } = &reached;
-    assert!(reached.rare().is_empty(), "too rare: {:?} of {ways:?} {lists:?}", reached.rare());
+    let Reached { ways, lists, searches } = &reached;
+    println!("{searches:#?}");
+    assert!(reached.rare().is_empty(), "too rare: {:?} of {ways:?} {lists:?} {searches:?}", reached.rare());
 }
