@@ -88,8 +88,11 @@ impl Implementation for OtherCheck {
     }
 }
 
+/// Number, bit and count of a search.
+type Found = (u32, u32, u64);
+
 /// The reader with another search for a name.
-struct OtherFind(fn((u32, u32, u64)) -> (u32, u32, u64));
+struct OtherFind(fn(Found) -> Found);
 
 impl Implementation for OtherFind {
     fn handle(&self, case: &HandleCase, settings: &mut [u8], page: &mut [u8]) -> Answer {
