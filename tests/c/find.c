@@ -217,11 +217,13 @@ static uint32_t masked(const char *name)
 
 static void same_bits(void)
 {
-    static const char *const sought[] = {"port-000-on", "port-001-on", "port-256-on", "port-511-on", "port-512-on", "port-51-on"};
+    static const char *const sought[] = {"port-000-on", "port-001-on", "port-256-on",
+                                         "port-511-on", "port-512-on", "port-51-on"};
 
     long_list();
     for (size_t at = 0; at < sizeof sought / sizeof *sought; at++)
-        check(masked(sought[at]) == ethnl_find_name(names, names_len, sought[at]).bit, "a BIT by a name means the bit that is found");
+        check(masked(sought[at]) == ethnl_find_name(names, names_len, sought[at]).bit,
+              "a BIT by a name means the bit that is found");
 }
 
 int main(int argc, char **argv)
