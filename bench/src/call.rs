@@ -1,14 +1,15 @@
 //! One call that is measured, made by the library or by the reader on the same buffers.
 
 use crate::lent::Lent;
-use crate::library;
+use crate::library::{self, Archive};
+use crate::names;
 use crate::requests::{self, Told, PRIVFLAGS_GET, PRIVFLAGS_SET};
 use reader::Answer;
 use std::hint::black_box;
 
 #[derive(Clone, Copy, PartialEq, Eq)]
 pub enum Made {
-    Library,
+    Library(Archive),
     Reader,
 }
 
@@ -32,18 +33,25 @@ pub struct Call {
     pub lent: Lent,
     input: Input,
     pub page: Vec<u8>,
+    /// Whether the archive of before is linked and answers this call as that of now does.
+    pub before: bool,
 }
 
 impl Call {
     fn new(name: &str, ports: usize, bits: usize, input: Input) -> Self {
-        Call { name: name.to_string(), lent: Lent::new(ports, bits), input, page: vec![0; 32_768] }
+        Call { name: name.to_string(), lent: Lent::new(ports, bits), input, page: vec![0; 32_768], before: false }
     }
 
     pub fn box_check(ports: usize, bits: usize) -> Self {
         Self::new("box check alone", ports, bits, Input::End)
     }
 
-    fn set(name: &str, ports: usize, bits: usize, contents: &[u8]) -> Self {
+    /// The same call over another box of as many bits.
+    pub fn over(self, lent: Lent) -> Self {
+        Call { lent, ..self }
+    }
+
+    pub fn set(name: &str, ports: usize, bits: usize, contents: &[u8]) -> Self {
         let message = requests::request(PRIVFLAGS_SET, Some(ports - 1), false, Some(contents));
         Self::new(name, ports, bits, Input::Message(message))
     }
@@ -53,13 +61,18 @@ impl Call {
     }
 
     pub fn list_set(entries: usize, ports: usize, bits: usize) -> Self {
-        Self::set(&format!("SET by {entries} names"), ports, bits, &requests::list(Told::Name, entries, bits))
+        Self::set(
+            &format!("SET by {entries} names"),
+            ports,
+            bits,
+            &requests::list(Told::Name, entries, &names::queues(bits)),
+        )
     }
 
     /// The same list, each BIT with the index of its name before it.
     pub fn indexed_set(entries: usize, ports: usize, bits: usize) -> Self {
         let name = format!("SET by {entries} BITs with index and name");
-        Self::set(&name, ports, bits, &requests::list(Told::IndexAndName, entries, bits))
+        Self::set(&name, ports, bits, &requests::list(Told::IndexAndName, entries, &names::queues(bits)))
     }
 
     pub fn compact_get(ports: usize, bits: usize) -> Self {
@@ -87,14 +100,17 @@ impl Call {
 
     /// The check of one list of names of 16 bytes, and next to nothing else: the normal form of a bitset of no bits.
     pub fn list_check(bits: usize) -> Self {
-        let name = format!("check {bits} names");
-        let lent = Lent::of_sixteen(bits);
-        Call { lent, ..Self::new(&name, 1, bits, Input::Contents(requests::compact(0))) }
+        Self::contents(&format!("check {bits} names"), bits, requests::compact(0)).over(Lent::of_sixteen(bits))
     }
 
     pub fn normalise(entries: usize, bits: usize) -> Self {
-        let name = format!("normalise {entries} names");
-        Self::new(&name, 1, bits, Input::Contents(requests::list(Told::Name, entries, bits)))
+        let list = requests::list(Told::Name, entries, &names::queues(bits));
+        Self::contents(&format!("normalise {entries} names"), bits, list)
+    }
+
+    /// The normal form of a bitset.
+    pub fn contents(name: &str, bits: usize, contents: Vec<u8>) -> Self {
+        Self::new(name, 1, bits, Input::Contents(contents))
     }
 
     /// Both name lists, of names of 31 bytes, in one reply: written, or refused by 25 where it is too long.
@@ -102,10 +118,7 @@ impl Call {
         let told = if refused { "refused by 25" } else { "told" };
         let input =
             if refused { Input::Refused(requests::name_lists()) } else { Input::Message(requests::name_lists()) };
-        Call {
-            lent: Lent::of_thirty_one(bits),
-            ..Self::new(&format!("two lists of {bits} names {told}"), 1, bits, input)
-        }
+        Self::new(&format!("two lists of {bits} names {told}"), 1, bits, input).over(Lent::of_thirty_one(bits))
     }
 
     /// Which part of the largest box is at fault, and where; `spoil` makes it so.
@@ -146,13 +159,15 @@ impl Call {
     pub fn make(&mut self, made: Made) -> (u32, u64) {
         let Call { lent, input, page, .. } = self;
         match (black_box(&*input), made) {
-            (Input::Contents(contents), Made::Library) => library::normalise(contents, &lent.flag_names, page),
+            (Input::Contents(contents), Made::Library(archive)) => {
+                library::normalise(archive, contents, &lent.flag_names, page)
+            }
             (Input::Contents(contents), Made::Reader) => reader::normalise(contents, &lent.flag_names, page),
             (Input::Message(datagram) | Input::Refused(datagram), made) => told(&handle(made, lent, datagram, 0, page)),
             (Input::Messages(datagrams), made) => each(made, lent, datagrams, page),
             (Input::Dump(datagram), made) => whole_dump(made, lent, datagram, page),
             (Input::End, made) => told(&handle(made, lent, &[], 0, page)),
-            (Input::Parts(_), Made::Library) => library::check_box(lent),
+            (Input::Parts(_), Made::Library(archive)) => library::check_box(archive, lent),
             (Input::Parts(_), Made::Reader) => {
                 reader::check_box(25, 1, &lent.roll, &lent.debug_names, &lent.flag_names, &lent.settings)
             }
@@ -176,7 +191,7 @@ fn told(answer: &Answer) -> (u32, u64) {
 fn handle(made: Made, lent: &mut Lent, datagram: &[u8], place: u64, page: &mut [u8]) -> Answer {
     let Lent { roll, debug_names, flag_names, settings } = lent;
     match made {
-        Made::Library => library::handle(lent, datagram, place, page),
+        Made::Library(archive) => library::handle(archive, lent, datagram, place, page),
         Made::Reader => reader::handle(25, 1, roll, debug_names, flag_names, settings, datagram, 0, place, page),
     }
 }

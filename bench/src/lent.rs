@@ -1,5 +1,7 @@
 //! What is lent to a call: a box of so many ports and names.
 
+use crate::names;
+
 /// A right box, all of its bits named and on.
 pub struct Lent {
     pub roll: Vec<u8>,
@@ -8,20 +10,19 @@ pub struct Lent {
     pub settings: Vec<u8>,
 }
 
-/// The name of a flag: names differ only near their ends, so that comparing them is not over at the first byte.
-pub fn flag_name(bit: usize) -> String {
-    format!("storm-guard-queue-{bit:03}")
-}
-
 /// The name of a port.
 pub fn port_name(port: usize) -> String {
     format!("quay-port{}", port + 1)
 }
 
 fn list(bits: usize, name: impl Fn(usize) -> String) -> Vec<u8> {
-    let mut list = vec![0; 32 * bits];
-    for (bit, entry) in list.chunks_mut(32).enumerate() {
-        let name = name(bit);
+    entries(&(0..bits).map(name).collect::<Vec<String>>())
+}
+
+/// The names as entries of 32 bytes.
+fn entries(names: &[String]) -> Vec<u8> {
+    let mut list = vec![0; 32 * names.len()];
+    for (name, entry) in names.iter().zip(list.chunks_mut(32)) {
         entry[..name.len()].copy_from_slice(name.as_bytes());
     }
     list
@@ -54,12 +55,17 @@ impl Lent {
         Lent { debug_names: names("dbg"), flag_names: names("flg"), ..Self::new(1, bits) }
     }
 
+    /// A box of one port, both lists made of these names.
+    pub fn of_names(names: &[String]) -> Self {
+        Lent { debug_names: entries(names), flag_names: entries(names), ..Self::new(1, names.len()) }
+    }
+
     pub fn new(ports: usize, bits: usize) -> Self {
         let of_port = full(bits).repeat(2);
         Lent {
             roll: (0..ports).flat_map(record).collect(),
             debug_names: list(bits, |bit| format!("debug-level-{bit:03}")),
-            flag_names: list(bits, flag_name),
+            flag_names: entries(&names::queues(bits)),
             settings: of_port.repeat(ports),
         }
     }

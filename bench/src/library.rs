@@ -1,64 +1,26 @@
 //! The linked library behind its C interface (`include/ethnl.h`).
 
+use crate::exported::{before, now};
 use crate::lent::Lent;
 use reader::Answer;
 
-extern "C" {
-    fn ethnl_handle(
-        family: u32,
-        admin: u32,
-        roll: *const u8,
-        roll_len: usize,
-        debug_names: *const u8,
-        debug_names_len: usize,
-        flag_names: *const u8,
-        flag_names_len: usize,
-        settings: *mut u8,
-        settings_len: usize,
-        datagram: *const u8,
-        datagram_len: usize,
-        position: u64,
-        place: u64,
-        page: *mut u8,
-        page_len: usize,
-        kind: *mut u32,
-        refusal: *mut u32,
-        next: *mut u64,
-        next_place: *mut u64,
-        written: *mut u64,
-    );
-
-    fn ethnl_normalise(
-        contents: *const u8,
-        contents_len: usize,
-        names: *const u8,
-        names_len: usize,
-        page: *mut u8,
-        page_len: usize,
-        written: *mut u64,
-    ) -> u32;
-
-    fn ethnl_check_box(
-        family: u32,
-        admin: u32,
-        roll: *const u8,
-        roll_len: usize,
-        debug_names: *const u8,
-        debug_names_len: usize,
-        flag_names: *const u8,
-        flag_names_len: usize,
-        settings: *const u8,
-        settings_len: usize,
-        offset: *mut u64,
-    ) -> u32;
+/// Which of the linked archives: that of ETHNL_LIB, or that of ETHNL_BEFORE.
+#[derive(Clone, Copy, PartialEq, Eq)]
+pub enum Archive {
+    Now,
+    Before,
 }
 
 /// The answer to a datagram's first message.
-pub fn handle(lent: &mut Lent, datagram: &[u8], place: u64, page: &mut [u8]) -> Answer {
+pub fn handle(archive: Archive, lent: &mut Lent, datagram: &[u8], place: u64, page: &mut [u8]) -> Answer {
     let mut answer = Answer { kind: 0, refusal: 0, next: 0, next_place: 0, written: 0 };
+    let function = match archive {
+        Archive::Now => now::ethnl_handle,
+        Archive::Before => before::ethnl_handle,
+    };
     // SAFETY: each pointer comes from a live slice or place and is followed by that slice's length.
     unsafe {
-        ethnl_handle(
+        function(
             25,
             1,
             lent.roll.as_ptr(),
@@ -86,11 +48,15 @@ pub fn handle(lent: &mut Lent, datagram: &[u8], place: u64, page: &mut [u8]) -> 
 }
 
 /// The number and the bytes written.
-pub fn normalise(contents: &[u8], names: &[u8], page: &mut [u8]) -> (u32, u64) {
+pub fn normalise(archive: Archive, contents: &[u8], names: &[u8], page: &mut [u8]) -> (u32, u64) {
     let mut written = 0;
+    let function = match archive {
+        Archive::Now => now::ethnl_normalise,
+        Archive::Before => before::ethnl_normalise,
+    };
     // SAFETY: each pointer comes from a live slice or place and is followed by that slice's length.
     let number = unsafe {
-        ethnl_normalise(
+        function(
             contents.as_ptr(),
             contents.len(),
             names.as_ptr(),
@@ -104,11 +70,15 @@ pub fn normalise(contents: &[u8], names: &[u8], page: &mut [u8]) -> (u32, u64) {
 }
 
 /// The part at fault and the offset.
-pub fn check_box(lent: &Lent) -> (u32, u64) {
+pub fn check_box(archive: Archive, lent: &Lent) -> (u32, u64) {
     let mut offset = 0;
+    let function = match archive {
+        Archive::Now => now::ethnl_check_box,
+        Archive::Before => before::ethnl_check_box,
+    };
     // SAFETY: each pointer comes from a live slice or place and is followed by that slice's length.
     let part = unsafe {
-        ethnl_check_box(
+        function(
             25,
             1,
             lent.roll.as_ptr(),

@@ -1,13 +1,17 @@
 //! `bench [RUNS]`: tables of the time per call, library and reader over the same inputs in the same run.
 
 mod call;
+mod exported;
 mod lent;
 mod library;
 mod measure;
+mod names;
 mod requests;
+mod search;
 mod tables;
 
 use call::{Call, Made};
+use library::Archive;
 use std::process::ExitCode;
 
 /// Fewer runs than this give no median worth the name.
@@ -19,13 +23,14 @@ fn main() -> ExitCode {
         eprintln!("bench: at least {LEAST_RUNS} runs");
         return ExitCode::from(2);
     }
-    let (mut compared, mut growing) = (compared(), growing());
+    let (mut compared, mut growing, mut search) = (compared(), growing(), search::calls());
     let mut distinct = [64, 512].map(Call::list_check);
     let mut lists = [Call::name_lists(340, false), Call::name_lists(512, true)];
     let (mut dumps, mut parts) = (dumps(), parts());
     let calls = compared
         .iter_mut()
         .chain(&mut growing)
+        .chain(&mut search)
         .chain(&mut distinct)
         .chain(&mut lists)
         .chain(&mut dumps)
@@ -36,6 +41,7 @@ fn main() -> ExitCode {
     }
     println!("Medians of {runs} runs, nanoseconds per call.\n");
     tables::compared(&mut compared, runs);
+    tables::search(&mut search, runs);
     tables::distinct(&mut distinct, runs);
     tables::name_lists(&mut lists, runs);
     tables::dumps(&mut dumps, runs);
@@ -94,10 +100,18 @@ fn growing() -> Vec<Call> {
     by_names.chain(by_ports).chain(by_length).collect()
 }
 
-/// The call's name, unless both implementations answer it, and alike.
+/// The call's name, unless library and reader answer it, and alike. Another archive may answer otherwise, but then its time
+/// says nothing.
 fn differs(call: &mut Call) -> Option<String> {
-    let (library, page) = (call.make(Made::Library), call.page.clone());
-    let reader = call.make(Made::Reader);
-    let alike = library == reader && page == call.page && reader.0 == call.expected();
+    let library = answer(call, Made::Library(Archive::Now));
+    let alike = library == answer(call, Made::Reader) && library.0 == call.expected();
+    call.before = cfg!(feature = "before") && library == answer(call, Made::Library(Archive::Before));
     (!alike).then(|| call.name.clone())
+}
+
+/// The kind (or number, or part), the bytes written (or the offset), and the page, which was clear before.
+fn answer(call: &mut Call, made: Made) -> (u32, u64, Vec<u8>) {
+    call.page.fill(0);
+    let (kind, written) = call.make(made);
+    (kind, written, call.page.clone())
 }

@@ -1,6 +1,6 @@
 //! Requests that leave a box with all its bits on as it is, so that they can be sent over and over.
 
-use crate::lent::{flag_name, port_name};
+use crate::lent::port_name;
 
 const STRSET_GET: u8 = 1;
 pub const PRIVFLAGS_GET: u8 = 13;
@@ -75,12 +75,13 @@ pub enum Told {
     IndexAndName,
 }
 
-/// Contents of a bit list that switches so many bits on, spread over all bits.
-pub fn list(told: Told, entries: usize, bits: usize) -> Vec<u8> {
+/// Contents of a bit list that switches so many of the bits with these names on, spread over all of them.
+pub fn list(told: Told, entries: usize, names: &[String]) -> Vec<u8> {
+    let bits = names.len();
     let entry = |at: usize| {
         let bit = if entries <= bits { at * bits / entries } else { at % bits };
         let index = if told == Told::IndexAndName { number(1, bit as u32) } else { Vec::new() };
-        attribute(1 | NESTED, &[index, name(2, &flag_name(bit)), attribute(3, &[])].concat())
+        attribute(1 | NESTED, &[index, name(2, &names[bit]), attribute(3, &[])].concat())
     };
     attribute(3 | NESTED, &(0..entries).flat_map(entry).collect::<Vec<u8>>())
 }

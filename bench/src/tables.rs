@@ -1,7 +1,11 @@
 //! The figures as tables in markdown.
 
 use crate::call::{Call, Made};
-use crate::measure::{against, measure, Times};
+use crate::library::Archive;
+use crate::measure::{against, measure, Before, Times};
+
+const COLUMNS: &str = "| call | ports | names a list | bytes of input | library | reader | ratio |";
+const RULE: &str = "|---|---:|---:|---:|---:|---:|---:|";
 
 fn row(call: &Call, times: &Times) -> String {
     let ports = call.lent.roll.len() / 21;
@@ -13,13 +17,26 @@ fn row(call: &Call, times: &Times) -> String {
 /// Measures the calls and prints a row for each.
 fn table(calls: &mut [Call], runs: usize) -> Vec<Times> {
     let times = measure(calls, runs);
-    println!("| call | ports | names a list | bytes of input | library | reader | ratio |");
-    println!("|---|---:|---:|---:|---:|---:|---:|");
-    for (call, times) in calls.iter().zip(&times) {
-        println!("{}", row(call, times));
+    let rows: Vec<String> = calls.iter().zip(&times).map(|(call, times)| row(call, times)).collect();
+    if cfg!(feature = "before") {
+        beside_before(&rows, &times);
+    } else {
+        println!("{COLUMNS}\n{RULE}\n{}\n", rows.join("\n"));
     }
-    println!();
     times
+}
+
+/// The rows with what the archive of before takes, and the largest ratio to it.
+fn beside_before(rows: &[String], times: &[Times]) {
+    println!("{COLUMNS} before | to before |\n{RULE}---:|---:|");
+    for (row, times) in rows.iter().zip(times) {
+        match &times.before {
+            Some(Before { time, ratio }) => println!("{row} {time:.0} | {ratio:.2} |"),
+            None => println!("{row} | |"),
+        }
+    }
+    let ratios = times.iter().filter_map(|times| times.before.as_ref()).map(|before| before.ratio);
+    println!("\nLargest ratio to before: {:.2}.\n", ratios.fold(0.0, f64::max));
 }
 
 /// Each call over a small and a large box; then the largest ratio, and what box checks cost per byte.
@@ -39,6 +56,12 @@ fn per_byte(calls: &[Call], times: &[Times]) {
         print!("Box check of the library, nanoseconds per byte of box: ");
         println!("smallest box {smallest:.3}, largest {largest:.3}, {ratio:.2} times.\n");
     }
+}
+
+/// What it costs to find bits by their names.
+pub fn search(calls: &mut [Call], runs: usize) {
+    println!("Search for names:\n");
+    table(calls, runs);
 }
 
 /// What 512 names cost against 64 of them.
@@ -63,7 +86,7 @@ pub fn dumps(calls: &mut [Call], runs: usize) {
     for pair in calls.chunks_mut(2) {
         if let [gets, dump] = pair {
             let mut times = |made| against(dump, gets, made, runs);
-            let (library, reader) = (times(Made::Library), times(Made::Reader));
+            let (library, reader) = (times(Made::Library(Archive::Now)), times(Made::Reader));
             println!("A {} against the GETs: library {library:.4} times, reader {reader:.4}.", dump.name);
         }
     }
