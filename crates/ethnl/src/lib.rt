@@ -29,12 +29,7 @@ pub extern "C" fn ethnl_normalise(
 // Looks for a bit name, which stands without its NUL: leaves the bit, 2^32 - 1 where no entry equals it, and how many entries were compared.
 // Returns document 01's number, 0 where the list breaks no rule.
 #[no_mangle]
-pub extern "C" fn ethnl_find(
-    names: &[u8],
-    name: &[u8],
-    found: &mut u32,
-    compared: &mut u64,
-) -> u32
+pub extern "C" fn ethnl_find(names: &[u8], name: &[u8], found: &mut u32, compared: &mut u64) -> u32
     ensures { λ r. ⌜ Find (nameFound (now (names .entry)) (now (name .entry))) (now (found .exit)) (now (compared .exit)) r ⌝ }
 {
     let told = bit_name::find(names, name);

@@ -66,7 +66,7 @@ fn prototypes_are_those_of_the_header() {
     let page = page();
     let block = page.split("```c\n").nth(1).and_then(|rest| rest.split("```").next()).expect("a block of C");
     let prototypes: Vec<String> = block.split_inclusive(';').map(in_one_line).filter(|text| !text.is_empty()).collect();
-    assert_eq!(prototypes.len(), 3);
+    assert_eq!(prototypes.len(), 4);
     for prototype in prototypes {
         assert!(header.contains(&prototype), "not in the header: {prototype}");
     }
