@@ -1,14 +1,13 @@
 -- Laws of the search for a name without its NUL.
-use Prim.Native.Nat.{ℕ, zero, suc, _-_, _≤_, _<_}
+use Prim.Native.Nat.{ℕ, _-_, _≤_, _<_}
 use mathlib.Core.Path.{_≡_, refl, sym, ap, _∙_}
-use mathlib.Core.Bool.{Bool, true, false, _&&_, not, cond, and-false}
+use mathlib.Core.Bool.{Bool, true, false, _&&_, not, cond}
 use mathlib.Core.List.{List, [], _∷_}
 use native.Mathlib.Omega.{arith}
 use lib.Dec.{eqb, leb, ltb}
 use lib.ListN.{length, getD}
 use borrow.Author.Tests.{le-leb, lt-leb, ltb-true, not-true, not-false}
 use Rattle.basics.specs.Scan.{first}
-use Rattle.basics.proofs.Truth.{clash}
 use Rattle.entries.specs.Entry.{count}
 use Rattle.names.specs.Rule.{namesRight}
 use Rattle.names.specs.Search.{isEntry, noName, notSought, notFound, foundAt, lookup}
@@ -16,7 +15,7 @@ use Rattle.names.specs.declared.Lookup.{Lookup}
 use Rattle.names.proofs.Rules.{right-means}
 use Rattle.refusal.specs.Refusal.{numberOf}
 use Rattle.refusal.specs.declared.Refusal.the-variants.{Box}
-use Rattle.bit_name.specs.Find.{bare, toldOf, refusedList, nameFound}
+use Rattle.bit_name.specs.Find.{bare, toldOf, nameFound}
 use Rattle.bit_name.specs.declared.Found.{Found}
 
 -- which names stand without their NUL

@@ -1,6 +1,6 @@
 -- What is told of a name means what the bytes of list and name say.
 --     name-told    number, bit and count are as `Told` says, for every list and every name
-use Prim.Native.Nat.{ℕ, zero, suc, _+_, _-_, _*_, _≤_, _<_}
+use Prim.Native.Nat.{ℕ, zero, suc, _-_, _≤_, _<_}
 use mathlib.Core.Path.{_≡_, refl, sym, ap, _∙_}
 use mathlib.Core.Bool.{Bool, true, false, not, cond}
 use mathlib.Core.Logic.{⊎-elim}
@@ -11,7 +11,7 @@ use native.Mathlib.Omega.{arith}
 use borrow.Author.Tests.{eq-eqb, ne-eqb, eqb-true, eqb-false, le-leb, leb-true, le-ltb, not-true}
 use Rattle.basics.specs.Those.{CountOf}
 use Rattle.basics.proofs.Order.{lt-or-ge}
-use Rattle.basics.proofs.Those.{tally-counts, count-as}
+use Rattle.basics.proofs.Those.{count-as}
 use Rattle.basics.proofs.Truth.{clash, both-true, false-of}
 use Rattle.entries.specs.Entry.{count, entryAt, isEmpty}
 use Rattle.entries.specs.Length.{nameLength, lastByte}
@@ -21,8 +21,8 @@ use Rattle.names.specs.Rule.{namesRight}
 use Rattle.names.specs.Search.{noName, agrees, comparedIn, notSought, foundAt, lookup}
 use Rattle.names.specs.declared.Lookup.{Lookup}
 use Rattle.names.proofs.Rules.{right-means}
-use Rattle.names.proofs.Search.{lookup-found, lookup-named, lookup-one, lookup-hit, lookup-miss, lookup-none}
-use Rattle.bit_name.specs.Find.{bare, toldOf, refusedList, nameFound}
+use Rattle.names.proofs.Search.{lookup-found, lookup-named, lookup-one, compared-each, lookup-hit, lookup-miss, lookup-none}
+use Rattle.bit_name.specs.Find.{bare, toldOf, nameFound}
 use Rattle.bit_name.specs.declared.Found.{Found}
 use Rattle.bit_name.specs.Told.{Name, Equals, Agrees, Hit, Missed, Told}
 
@@ -94,10 +94,9 @@ module _ (names name : List ℕ) (n : Name name) (k : ℕ) (h : k < count names)
       rw (eq-eqb (nameLength entry) (nameLength name) (e ∙ sym m), eq-eqb (getD entry (nameLength entry - 1) 0) (getD name (nameLength name - 1) 0) (ap (λ (x : ℕ). getD entry (x - 1) 0) e ∙ entry-byte names k h (length name - 1) (let s = n .short in omega arith) ∙ a .last ∙ ap (λ (x : ℕ). getD name (x - 1) 0) (sym m)))
 
 counted : (names name : List ℕ) → Name name → (upto : ℕ) → upto ≤ count names → CountOf (Agrees names name) upto (comparedIn names name upto)
-unfolding comparedIn
 counted names name n upto l =
     count-as (λ k. agrees names name k ≡ true) (Agrees names name) upto _ (λ k u a. agrees-bytes names name n k (omega arith) a) (λ k u a. bytes-agree names name n k (omega arith) a)
-    (tally-counts (agrees names name) upto)
+    (compared-each names name upto)
 
 module _ (names name : List ℕ) where
   abbrev sought : Lookup

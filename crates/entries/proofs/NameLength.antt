@@ -9,7 +9,7 @@ use native.Mathlib.Nat.{pow-suc, le-trans, lt-of-lt-of-le}
 use lib.Dec.{eqb}
 use lib.ListN.{length, getD, List·getD-eq-default}
 use lib.Pow.{pow-mono, pow-add}
-use lib.Count.{leadingZeros, leading-top, leading-of-zero, leading-le}
+use lib.Count.{leadingZeros, leading-top, leading-of-zero}
 use borrow.Author.Tests.{eq-eqb, ne-eqb, eqb-true}
 use Rattle.basics.specs.Numbers.{u32At, u64At}
 use Rattle.basics.proofs.Order.{lt-or-ge}

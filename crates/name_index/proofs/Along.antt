@@ -1,10 +1,10 @@
 -- Laws of the search along a chain: the entries before a place are passed, and the next one is the first of the name's chain from there on.
-use Prim.Native.Nat.{ℕ, zero, suc, _+_, _-_, _*_, _≤_, _<_}
+use Prim.Native.Nat.{ℕ, suc, _+_, _-_, _≤_, _<_}
 use mathlib.Core.Path.{_≡_, refl, sym, ap, subst, _∙_}
-use mathlib.Core.Bool.{Bool, true, false}
+use mathlib.Core.Bool.{true, false}
 use mathlib.Core.List.{List}
 use native.Mathlib.Omega.{arith}
-use lib.ListN.{length, getD}
+use lib.ListN.{getD}
 use Rattle.basics.proofs.Scan.{first-on, tally-flat}
 use Rattle.basics.proofs.Truth.{false-of}
 use Rattle.entries.specs.Entry.{count, entryAt}

@@ -1,14 +1,14 @@
 -- Laws of the chains: which entries share one, and how the tables are filled.
-use Prim.Native.Nat.{ℕ, zero, suc, _+_, _-_, _*_, _%_, _≤_, _<_}
+use Prim.Native.Nat.{ℕ, zero, suc, _+_, _-_, _*_, _≤_, _<_}
 use mathlib.Core.Path.{_≡_, refl, sym, ap, _∙_}
-use mathlib.Core.Bool.{Bool, true, false, _&&_}
+use mathlib.Core.Bool.{true, false}
 use mathlib.Core.Logic.{⊎-elim}
 use mathlib.Core.List.{List}
 use native.Mathlib.Omega.{arith}
 use lib.Dec.{eqb, leb}
 use lib.ListN.{length, getD, set, length-set, replicate, length-replicate, getD-replicate}
 use lib.Seq.{getD-set-same, getD-set-other}
-use borrow.Author.Tests.{eq-eqb, eqb-true, eqb-false, le-leb, lt-leb}
+use borrow.Author.Tests.{eq-eqb, eqb-true, le-leb, lt-leb}
 use Rattle.basics.proofs.Order.{lt-or-ge}
 use Rattle.basics.proofs.Truth.{both-true}
 use Rattle.entries.specs.Entry.{count, entryAt}
@@ -16,7 +16,7 @@ use Rattle.entries.specs.Length.{nameLength, lastByte}
 use Rattle.entries.proofs.Entries.{entry-byte, entry-length}
 use Rattle.entries.proofs.NameLength.{past-length, last-some, length-le}
 use Rattle.names.specs.Search.{agrees}
-use Rattle.name_index.specs.Chain.{keyIn, keyOf, Next, HeadRight, LinksRight, Linked, Cleared}
+use Rattle.name_index.specs.Chain.{keyIn, keyOf, Next, Linked, Cleared}
 use Rattle.name_index.specs.Chain.Next.{nowhere, entry}
 
 -- an entry shares the chain of a name exactly if it agrees with it in length and last byte

@@ -5,7 +5,6 @@ use mathlib.Core.Path.{_≡_}
 use mathlib.Core.Bool.{Bool, true}
 use mathlib.Core.List.{List}
 use lib.ListN.{length, getD}
-use lib.Dec.{leb}
 use Rattle.entries.specs.Entry.{count, entryAt}
 use Rattle.entries.specs.Length.{nameLength, lastByte}
 

@@ -1,6 +1,6 @@
 // The search by tables that lead to the names of one length and one last byte: head, a place for each of these pairs; links, one for each entry.
 ghost use mathlib.Core.Path.{_≡_};
-ghost use Prim.Native.Nat.{_/_, _≤_, _<_};
+ghost use Prim.Native.Nat.{_/_, _<_};
 ghost use lib.ListN.{length};
 ghost use lib.Dec.{leb};
 ghost use Rattle.entries.specs.Entry.{count as countOf, entryAt};

@@ -1,7 +1,7 @@
 -- Laws of the search: how it goes by entries and bytes, and what it finds in a list whose names are distinct.
 use Prim.Native.Nat.{ℕ, zero, suc, _+_, _-_, _*_, _≤_, _<_}
 use mathlib.Core.Path.{_≡_, refl, sym, ap, _∙_}
-use mathlib.Core.Bool.{Bool, true, false, _&&_, _||_, cond}
+use mathlib.Core.Bool.{Bool, true, false, _||_, cond}
 use mathlib.Core.Logic.{⊎-elim}
 use mathlib.Core.List.{List}
 use native.Mathlib.Numerals.{add-one}
@@ -11,8 +11,10 @@ use lib.ListN.{length, getD, take, length-take, List·getD-eq-default}
 use lib.Seq.{getD-take, take-all}
 use borrow.Author.Tests.{eq-eqb, ne-eqb, lt-ltb, le-ltb, ltb-true, ltb-false, eqb-true, eqb-false}
 use Rattle.basics.specs.Scan.{first}
+use Rattle.basics.specs.Those.{CountOf}
 use Rattle.basics.proofs.Order.{lt-or-ge}
 use Rattle.basics.proofs.Scan.{first-none, first-more, first-at, first-is, first-on, tally-none, tally-more, tally-past}
+use Rattle.basics.proofs.Those.{tally-counts}
 use Rattle.basics.proofs.Truth.{false-of, both-true, clash}
 use Rattle.entries.specs.Entry.{count, entryAt, sameEntry, isEmpty, entriesDistinct}
 use Rattle.entries.specs.Length.{nameLength, lastByte}
@@ -267,6 +269,11 @@ module _ (names name : List ℕ) where
       go true u = (refl, refl)
       go false true = (refl, refl)
       go false false = (refl, refl)
+
+  -- each entry that is compared agrees in both, each of the first n that agrees is compared, and each counts once
+  pub compared-each : (n : ℕ) → CountOf (λ k. agrees names name k ≡ true) n (comparedIn names name n)
+  unfolding comparedIn
+  compared-each n = tally-counts (agrees names name) n
 
   -- how many entries are compared: those up to the hit that agree, or all that agree, or none
   pub lookup-hit : lookup names name .found ≡ true → lookup names name .compared ≡ comparedIn names name (suc (lookup names name .bit))
