@@ -78,10 +78,17 @@ pub enum Told {
 /// Contents of a bit list that switches so many of the bits with these names on, spread over all of them.
 pub fn list(told: Told, entries: usize, names: &[String]) -> Vec<u8> {
     let bits = names.len();
-    let entry = |at: usize| {
-        let bit = if entries <= bits { at * bits / entries } else { at % bits };
-        let index = if told == Told::IndexAndName { number(1, bit as u32) } else { Vec::new() };
-        attribute(1 | NESTED, &[index, name(2, &names[bit]), attribute(3, &[])].concat())
-    };
-    attribute(3 | NESTED, &(0..entries).flat_map(entry).collect::<Vec<u8>>())
+    let bit = |at| if entries <= bits { at * bits / entries } else { at % bits };
+    attribute(3 | NESTED, &(0..entries).flat_map(|at| entry(told, bit(at), names)).collect::<Vec<u8>>())
+}
+
+/// Contents of a bit list that switches one bit on, by its name.
+pub fn one(bit: usize, names: &[String]) -> Vec<u8> {
+    attribute(3 | NESTED, &entry(Told::Name, bit, names))
+}
+
+/// A BIT with its VALUE flag.
+fn entry(told: Told, bit: usize, names: &[String]) -> Vec<u8> {
+    let index = if told == Told::IndexAndName { number(1, bit as u32) } else { Vec::new() };
+    attribute(1 | NESTED, &[index, name(2, &names[bit]), attribute(3, &[])].concat())
 }
