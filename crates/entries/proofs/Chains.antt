@@ -1,7 +1,7 @@
 -- Laws of chains: both tables hold values of `lastOf`, and a walk along a chain passes every entry of its hash.
 use Prim.Native.Nat.{ℕ, zero, suc, _+_, _-_, _*_, _<_, _≤_}
 use mathlib.Core.Path.{_≡_, refl, sym, ap, ap₂, _∙_}
-use mathlib.Core.Bool.{Bool, true, false, not, cond}
+use mathlib.Core.Bool.{Bool, true, false, not, cond, or-true}
 use mathlib.Core.Logic.{⊎-elim}
 use mathlib.Core.List.{List}
 use native.Mathlib.Numerals.{add-one}
@@ -15,8 +15,8 @@ use Rattle.basics.specs.Scan.{all}
 use Rattle.basics.proofs.Order.{lt-or-ge}
 use Rattle.basics.proofs.Scan.{all-none, all-more, all-fails, all-done, all-of}
 use Rattle.basics.proofs.Truth.{false-of}
-use Rattle.entries.specs.Entry.{count, entryAt, sameEntry, differs, entryNew, entriesDistinct}
-use Rattle.entries.specs.Chain.{folded, spread, hashOf, lastOfHash, HeadRight, LinksRight}
+use Rattle.entries.specs.Entry.{count, entryAt, sameEntry, isEmpty, differs, entryNew, entriesDistinct}
+use Rattle.entries.specs.Chain.{folded, spread, hashOf, lastOfHash, HeadRight, LinksRight, LinksClear}
 use Rattle.entries.proofs.Entries.{entry-length, entry-first, entry-eight, same-equal}
 
 -- the hash as the code computes it
@@ -24,27 +24,19 @@ pub spread-folded : (a b c d x r : ℕ) → x ≡ folded a b c d → r ≡ sprea
 spread-folded a b c d x r ex er = er ∙ ap spread ex
 
 module _ (e : List ℕ) where
-  pub hash-none : (b : ℕ) → b ≡ getD e 0 0 → b ≡ 0 → 1024 ≡ hashOf e
-  unfolding hashOf
-  hash-none b eb z = sym (rw (eq-eqb _ 0 (sym eb ∙ z)))
-
-  pub hash-all : (f a b c d r : ℕ) → f ≡ getD e 0 0 → (f ≡ 0 → ⊥) → a ≡ u64At e 0 → b ≡ u64At e 8 → c ≡ u64At e 16 → d ≡ u64At e 24
+  hash-all : (a b c d r : ℕ) → a ≡ u64At e 0 → b ≡ u64At e 8 → c ≡ u64At e 16 → d ≡ u64At e 24
       → r ≡ spread (folded a b c d) → r ≡ hashOf e
   unfolding hashOf
-  hash-all f a b c d r ef n ea eb ec ed er =
+  hash-all a b c d r ea eb ec ed er =
       er ∙ ap spread (ap₂ (λ (g : ℕ → ℕ → ℕ) (y : ℕ). g c y) (ap₂ folded ea eb) ed ∙ ap (λ (z : ℕ). folded (u64At e 0) (u64At e 8) z (u64At e 24)) ec)
-      ∙ sym (rw (ne-eqb _ 0 (λ (q : getD e 0 0 ≡ 0). n (ef ∙ q))))
 
 -- of an entry in its list
 module _ (list : List ℕ) (i : ℕ) (h : i < count list) where
-  pub hash-empty : getD list (i * 32) 0 ≡ 0 → 1024 ≡ hashOf (entryAt list i)
-  hash-empty z = hash-none (entryAt list i) _ (sym (entry-first list i h)) z
-
-  pub hash-some : (a b c d r : ℕ) → (getD list (i * 32) 0 ≡ 0 → ⊥) → a ≡ u64At list (i * 32) → b ≡ u64At list (i * 32 + 8)
+  pub hash-entry : (a b c d r : ℕ) → a ≡ u64At list (i * 32) → b ≡ u64At list (i * 32 + 8)
       → c ≡ u64At list (i * 32 + 16) → d ≡ u64At list (i * 32 + 24) → r ≡ spread (folded a b c d) → r ≡ hashOf (entryAt list i)
-  hash-some a b c d r n ea eb ec ed er =
+  hash-entry a b c d r ea eb ec ed er =
       let at : (p k : ℕ) → p + 8 ≤ 32 → i * 32 + p ≡ k → u64At list k ≡ u64At (entryAt list i) p = λ p k l e. sym (entry-eight list i h p k l e) in
-      hash-all (entryAt list i) _ a b c d r (sym (entry-first list i h)) n
+      hash-all (entryAt list i) a b c d r
       (ea ∙ at 0 (i * 32) (omega arith) (omega arith))
       (eb ∙ at 8 (i * 32 + 8) (omega arith) refl)
       (ec ∙ at 16 (i * 32 + 16) (omega arith) refl)
@@ -161,9 +153,9 @@ module _ (list : List ℕ) (i : ℕ) (hi : i < count list) where
             (lt-or-ge j k)
 
 -- one entry more in each table
-module _ (list : List ℕ) (i h start : ℕ) (eh : h ≡ hashOf (entryAt list i)) where
-  links-more : (links : List ℕ) → LinksRight list links i → i < length links → start ≡ lastOfHash list h i → LinksRight list (set links i start) (i + 1)
-  links-more links nr l es j u =
+module _ (list : List ℕ) (i h : ℕ) (eh : h ≡ hashOf (entryAt list i)) where
+  links-more : (start : ℕ) (links : List ℕ) → LinksRight list links i → i < length links → start ≡ lastOfHash list h i → LinksRight list (set links i start) (i + 1)
+  links-more start links nr l es j u =
       ⊎-elim
       (λ (q : j < i). getD-set-other links i j start 0 (λ (e : j ≡ i). omega arith) ∙ nr j q)
       (λ (q : i ≤ j). here (omega arith))
@@ -172,7 +164,14 @@ module _ (list : List ℕ) (i h start : ℕ) (eh : h ≡ hashOf (entryAt list i)
       here : j ≡ i → getD (set links i start) j 0 ≡ lastOfHash list (hashOf (entryAt list j)) j
       here e = rw e (getD-set-same links i start 0 l ∙ es ∙ ap (λ (x : ℕ). lastOfHash list x i) eh)
 
-  head-more : (head : List ℕ) → HeadRight list head i → length head ≡ 1025 → HeadRight list (set head h (i + 1)) (i + 1)
+  -- one that is the first of its chain needs no link
+  links-first : (links : List ℕ) → LinksRight list links i → getD links i 0 ≡ 0 → lastOfHash list h i ≡ 0 → LinksRight list links (i + 1)
+  links-first links nr z s j u = ⊎-elim (λ (q : j < i). nr j q) (λ (q : i ≤ j). here (omega arith)) (lt-or-ge j i)
+    where
+      here : j ≡ i → getD links j 0 ≡ lastOfHash list (hashOf (entryAt list j)) j
+      here e = rw e (z ∙ sym s ∙ ap (λ (x : ℕ). lastOfHash list x i) eh)
+
+  head-more : (head : List ℕ) → HeadRight list head i → length head ≡ 1024 → HeadRight list (set head h (i + 1)) (i + 1)
   unfolding lastOfHash
   head-more head hr l x u = rw (add-one i) (go (eqb (hashOf (entryAt list i)) x) refl)
     where
@@ -180,41 +179,61 @@ module _ (list : List ℕ) (i h start : ℕ) (eh : h ≡ hashOf (entryAt list i)
       go true e = let hx : x ≡ h = sym (eqb-true _ _ e) ∙ sym eh in rw hx (getD-set-same head h (suc i) 0 (omega arith))
       go false e = getD-set-other head h x (suc i) 0 (λ (q : x ≡ h). eqb-false _ _ e (sym (q ∙ eh))) ∙ hr x u
 
-pub head-zero : (list : List ℕ) → HeadRight list (replicate 1025 0) 0
+pub head-zero : (list : List ℕ) → HeadRight list (replicate 1024 0) 0
 unfolding lastOfHash
-head-zero list h l = getD-replicate 1025 h 0 0 l
+head-zero list h l = getD-replicate 1024 h 0 0 l
+
+pub links-zero : LinksClear (replicate 512 0) 0
+links-zero j l u = getD-replicate 512 j 0 0 u
+
+-- an entry that is the first of its chain is new
+first-new : (list : List ℕ) (i : ℕ) → i < count list → lastOfHash list (hashOf (entryAt list i)) i ≡ 0 → entryNew list i ≡ true
+unfolding entryNew
+first-new list i h z = rw (← walk-end list i h 0 (walk-start list i h 0 (sym z)) refl) (or-true (isEmpty (entryAt list i)))
 
 -- the tables hold the chains of the entries below i, all of which are new
 pub record Linked (list head links : List ℕ) (i : ℕ) : Type 0 where
   pub heads : HeadRight list head i
   pub linked : LinksRight list links i
+  pub clear : LinksClear links i
   pub new : all i (entryNew list) ≡ true
-  pub head-length : length head ≡ 1025
+  pub head-length : length head ≡ 1024
   pub links-length : length links ≡ 512
 
-pub linked-start : (list head links : List ℕ) → HeadRight list head 0 → length head ≡ 1025 → length links ≡ 512 → Linked list head links 0
-linked-start list head links h l k = record {
+pub linked-start : (list head links : List ℕ) → HeadRight list head 0 → LinksClear links 0 → length head ≡ 1024 → length links ≡ 512 → Linked list head links 0
+linked-start list head links h c l k = record {
   heads = h;
   linked = λ j u. absurd (omega arith);
+  clear = c;
   new = all-none (entryNew list);
   head-length = l;
   links-length = k;
 }
 
--- where the chain of entry i starts
-pub linked-place : (list head links : List ℕ) (i h : ℕ) → Linked list head links i → h ≡ hashOf (entryAt list i) → h < 1025
-    → getD head h 0 ≡ lastOfHash list (hashOf (entryAt list i)) i
-linked-place list head links i h l e u = l .heads h u ∙ ap (λ (x : ℕ). lastOfHash list x i) e
+module _ (list head links : List ℕ) (i h : ℕ) (l : Linked list head links i) (e : h ≡ hashOf (entryAt list i)) (v : h < 1024) where
+  -- where the chain of entry i starts
+  pub linked-place : getD head h 0 ≡ lastOfHash list (hashOf (entryAt list i)) i
+  linked-place = l .heads h v ∙ ap (λ (x : ℕ). lastOfHash list x i) e
 
-pub linked-more : (list head links : List ℕ) (i h : ℕ) (b : Bool) → Linked list head links i → i < 512 → h ≡ hashOf (entryAt list i) → h < 1025
-    → b ≡ entryNew list i → not b ≡ false → Linked list (set head h (i + 1)) (set links i (getD head h 0)) (i + 1)
-linked-more list head links i h b l u e v eb z = record {
-  heads = head-more list i h (getD head h 0) e head (l .heads) (l .head-length);
-  linked = links-more list i h (getD head h 0) e links (l .linked) (let k = l .links-length in omega arith) (l .heads h v);
-  new = all-more (entryNew list) i (l .new) (sym eb ∙ not-false b z);
-  head-length = length-set head h (i + 1) ∙ l .head-length;
-  links-length = length-set links i (getD head h 0) ∙ l .links-length;
-}
+  pub linked-first : i < count list → i < 512 → getD head h 0 ≡ 0 → Linked list (set head h (i + 1)) links (i + 1)
+  linked-first u w z = record {
+    heads = head-more list i h e head (l .heads) (l .head-length);
+    linked = links-first list i h e links (l .linked) (l .clear i (omega arith) w) (sym (l .heads h v) ∙ z);
+    clear = λ j q y. l .clear j (omega arith) y;
+    new = all-more (entryNew list) i (l .new) (first-new list i u (sym linked-place ∙ z));
+    head-length = length-set head h (i + 1) ∙ l .head-length;
+    links-length = l .links-length;
+  }
+
+  pub linked-more : (b : Bool) → i < 512 → b ≡ entryNew list i → not b ≡ false → Linked list (set head h (i + 1)) (set links i (getD head h 0)) (i + 1)
+  linked-more b u eb z = record {
+    heads = head-more list i h e head (l .heads) (l .head-length);
+    linked = links-more list i h e (getD head h 0) links (l .linked) (let k = l .links-length in omega arith) (l .heads h v);
+    clear = λ j q y. getD-set-other links i j (getD head h 0) 0 (λ (x : j ≡ i). omega arith) ∙ l .clear j (omega arith) y;
+    new = all-more (entryNew list) i (l .new) (sym eb ∙ not-false b z);
+    head-length = length-set head h (i + 1) ∙ l .head-length;
+    links-length = length-set links i (getD head h 0) ∙ l .links-length;
+  }
 
 pub linked-done : (list head links : List ℕ) (i : ℕ) → Linked list head links i → i ≤ count list → count list ≤ i → true ≡ entriesDistinct list
 unfolding entriesDistinct

@@ -6,7 +6,7 @@ ghost use Prim.Native.Nat.{_/_, _≤_, _<_};
 ghost use lib.ListN.{length, getD};
 ghost use Rattle.basics.specs.Scan.{all};
 ghost use Rattle.entries.specs.Entry.{entryAt, differs, entryNew, entriesDistinct};
-ghost use Rattle.entries.specs.Chain.{folded, spread, hashOf, lastOfHash, HeadRight, LinksRight};
+ghost use Rattle.entries.specs.Chain.{folded, spread, hashOf, lastOfHash, HeadRight, LinksRight, LinksClear};
 
 // A place in a table as an index.
 fn place(x: u16) -> usize
@@ -47,12 +47,9 @@ fn chain_of(a: u64, b: u64, c: u64, d: u64) -> usize
 // The chain of entry i: each of its bytes has a part in it.
 fn hash(list: &[u8], i: usize) -> usize
     requires { ⌜ i < length (now list) / 32 ⌝ }
-    ensures { λ r. ⌜ (r ≡ hashOf (entryAt (now (list .entry)) i)) × (r < 1025) ⌝ }
+    ensures { λ r. ⌜ (r ≡ hashOf (entryAt (now (list .entry)) i)) × (r < 1024) ⌝ }
 {
     let at = i * 32;
-    if list[at] == 0 {
-        return 1024;
-    }
     let a = eight(list, at);
     let b = eight(list, at + 8);
     let c = eight(list, at + 16);
@@ -93,20 +90,23 @@ fn entry_new(list: &[u8], links: &[u16], i: usize, start: usize) -> bool
     chain_new(list, links, i, start)
 }
 
-// Whether the entries are distinct. Room: `head`, a place for each hash; `links`, one for each entry.
+// Whether the entries are distinct. Room: `head`, a place for each chain; `links`, one for each entry, which stays 0 where it is the first of its chain.
 fn distinct_in(list: &[u8], head: &mut [u16], links: &mut [u16]) -> bool
-    requires { ⌜ (length (now head) ≡ 1025) × (length (now links) ≡ 512) × (length (now list) / 32 ≤ 512) ⌝ }
-    requires { ⌜ HeadRight (now list) (now head) 0 ⌝ }
+    requires { ⌜ (length (now head) ≡ 1024) × (length (now links) ≡ 512) × (length (now list) / 32 ≤ 512) ⌝ }
+    requires { ⌜ HeadRight (now list) (now head) 0 × LinksClear (now links) 0 ⌝ }
     ensures { λ r. ⌜ r ≡ entriesDistinct (now (list .entry)) ⌝ }
 {
-    for i in 0..list.len() / 32 {
+    'entries: for i in 0..list.len() / 32 {
         let h = hash(list, i);
         let start = head[h];
+        head[h] = (i + 1) as u16;
+        if start == 0 {
+            continue 'entries;
+        }
         if !entry_new(list, links, i, place(start)) {
             return false;
         }
         links[i] = start;
-        head[h] = (i + 1) as u16;
     }
     true
 }
@@ -116,7 +116,7 @@ pub fn all_distinct(list: &[u8]) -> bool
     requires { ⌜ length (now list) / 32 ≤ 512 ⌝ }
     ensures { λ r. ⌜ r ≡ entriesDistinct (now (list .entry)) ⌝ }
 {
-    let mut head = [0u16; 1025];
+    let mut head = [0u16; 1024];
     let mut links = [0u16; 512];
     distinct_in(list, &mut head, &mut links)
 }

@@ -1,6 +1,6 @@
 -- Laws of the search: how it goes by entries and bytes, and what it finds in a list whose names are distinct.
 use Prim.Native.Nat.{ℕ, zero, suc, _+_, _-_, _*_, _≤_, _<_}
-use mathlib.Core.Path.{_≡_, refl, sym, ap, _∙_}
+use mathlib.Core.Path.{_≡_, refl, sym, ap, subst, _∙_}
 use mathlib.Core.Bool.{Bool, true, false, _||_, cond}
 use mathlib.Core.Logic.{⊎-elim}
 use mathlib.Core.List.{List}
@@ -10,10 +10,10 @@ use lib.Dec.{eqb, ltb}
 use lib.ListN.{length, getD, take, length-take, List·getD-eq-default}
 use lib.Seq.{getD-take, take-all}
 use borrow.Author.Tests.{eq-eqb, ne-eqb, lt-ltb, le-ltb, ltb-true, ltb-false, eqb-true, eqb-false}
-use Rattle.basics.specs.Scan.{first}
+use Rattle.basics.specs.Scan.{first, tally}
 use Rattle.basics.specs.Those.{CountOf}
 use Rattle.basics.proofs.Order.{lt-or-ge}
-use Rattle.basics.proofs.Scan.{first-none, first-more, first-at, first-is, first-on, tally-none, tally-more, tally-past}
+use Rattle.basics.proofs.Scan.{first-none, first-more, first-at, first-is, first-on, tally-none, tally-more, tally-past, tally-flat}
 use Rattle.basics.proofs.Those.{tally-counts}
 use Rattle.basics.proofs.Truth.{false-of, both-true, clash}
 use Rattle.entries.specs.Entry.{count, entryAt, sameEntry, isEmpty, entriesDistinct}
@@ -21,6 +21,7 @@ use Rattle.entries.specs.Length.{nameLength, lastByte}
 use Rattle.entries.proofs.Entries.{entry-byte, entry-length, same-bytes, same-of, distinct-one}
 use Rattle.entries.proofs.NameLength.{past-length, length-le, same-length, same-last}
 use Rattle.names.specs.Rule.{namesRight}
+use Rattle.names.specs.Pass.{Next}
 use Rattle.names.specs.Search.{isEntry, noName, agrees, comparedIn, notSought, notFound, foundAt, lookup}
 use Rattle.names.proofs.Rules.{right-means}
 
@@ -187,9 +188,6 @@ module _ (names name : List ℕ) (i : ℕ) (h : i < count names) where
         most = let m = p .most in omega arith;
       }
 
-      pub passed-last : Passed names name i c → (getD names (i * 32 + end) 0 ≡ last → ⊥) → Passed names name (i + 1) c
-      passed-last p d = passed-other p (last-other d)
-
       pub passed-length : Passed names name i c → (m : ℕ) → m ≡ nameLength entry → (m ≡ n → ⊥) → Passed names name (i + 1) c
       passed-length p m em d = passed-other p (length-other m em d)
 
@@ -204,6 +202,24 @@ module _ (names name : List ℕ) (i : ℕ) (h : i < count names) where
           let f : first (count names) (isEntry names name) ≡ i = first-at (isEntry names name) (count names) i h (k .none) same in
           let q : c ≡ comparedIn names name (suc i) = k .counted ∙ ap (comparedIn names name) (add-one i) in
           sym (rw (w .named, f, lt-ltb i (count names) h, q))
+
+-- the entries up to the next one that has the name's last byte are passed
+pub passed-next : (names name : List ℕ) (n end last i r c : ℕ) → Sought name n end last → Passed names name i c → Next names end last i r → Passed names name r c
+unfolding comparedIn
+passed-next names name n end last i r c w p x = record {
+  none = subst (NoneBefore names name) e (first-on (isEntry names name) i (r - i) (p .none) (λ k l u. other-agrees names name k (inside k u) (w .short) (other k l u)));
+  counted = p .counted ∙ sym (tally-flat (agrees names name) i (r - i) other) ∙ ap (λ (m : ℕ). tally m (agrees names name)) e;
+  most = let m = p .most in let f = x .others .from in omega arith;
+}
+  where
+    e : i + (r - i) ≡ r
+    e = let f = x .others .from in omega arith
+
+    inside : (k : ℕ) → k < i + (r - i) → k < count names
+    inside k u = let f = x .others .from in let g = x .others .inside in omega arith
+
+    other : (k : ℕ) → i ≤ k → k < i + (r - i) → agrees names name k ≡ false
+    other k l u = last-other names name k (inside k u) n end last w (x .others .each k l (rw e at u))
 
 -- how the search begins, goes on and ends
 module _ (names name : List ℕ) where

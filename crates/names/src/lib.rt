@@ -1,4 +1,5 @@
 // Lists of names, 32 bytes an entry: their rule, and the search for a name.
+pub mod pass;
 pub mod rule;
 
 use entries::byte_at;
@@ -6,7 +7,9 @@ pub use entries::count;
 pub use entries::entry;
 use entries::length::entry_length;
 use entries::length::name_length;
+use pass::next_with;
 pub use rule::names_right;
+ghost use mathlib.Core.Bool.{false};
 ghost use mathlib.Core.Path.{_≡_};
 ghost use Rattle.names.specs.Search.{noName, lookup};
 
@@ -16,6 +19,17 @@ pub struct Lookup {
     pub found: bool,
     pub bit: usize,
     pub compared: usize,
+}
+
+// A search that found none.
+fn missed(compared: usize) -> Lookup
+    ensures { λ r. ⌜ r ≡ record { found = false; bit = 0; compared = compared } ⌝ }
+{
+    Lookup {
+        found: false,
+        bit: 0,
+        compared,
+    }
 }
 
 // Whether a name can stand in no list: it is empty, or longer than an entry.
@@ -34,20 +48,18 @@ pub fn find_name(names: &[u8], name: &[u8]) -> Lookup
     ensures { λ r. ⌜ r ≡ lookup (now (names .entry)) (now (name .entry)) ⌝ }
 {
     if no_name(name) {
-        return Lookup {
-            found: false,
-            bit: 0,
-            compared: 0,
-        };
+        return missed(0);
     }
     let n = name_length(name);
     let end = n - 1;
-    let last = name[end];
     let mut compared = 0;
-    'entries: for i in 0..names.len() / 32 {
-        if names[i * 32 + end] != last {
-            continue 'entries;
+    let mut next = 0;
+    'entries: loop {
+        let i = next_with(names, end, name[end], next);
+        if i == names.len() / 32 {
+            return missed(compared);
         }
+        next = i + 1;
         if entry_length(names, i) != n {
             continue 'entries;
         }
@@ -63,10 +75,5 @@ pub fn find_name(names: &[u8], name: &[u8]) -> Lookup
             bit: i,
             compared,
         };
-    }
-    Lookup {
-        found: false,
-        bit: 0,
-        compared,
     }
 }

@@ -1,7 +1,7 @@
 use mathlib.Core.Path.{refl}
 use native.Mathlib.Omega.{arith}
 use borrow.Author.Needs.{needs}
-use Rattle.entries.proofs.Chains.{head-zero}
+use Rattle.entries.proofs.Chains.{head-zero, links-zero}
 use Rattle.entries.proofs.chain.all_distinct.Statement.{statement}
 use Rattle.entries.proofs.chain.all_distinct.Tie as tie
 
@@ -12,7 +12,7 @@ slice-aggregate-distinct-in-2 : tie.Need-slice-aggregate-distinct-in-2
 slice-aggregate-distinct-in-2 c = search needs
 
 distinct-in-requires : tie.Need-distinct-in-requires
-distinct-in-requires c κs = ((refl, refl, omega arith), head-zero _)
+distinct-in-requires c κs = ((refl, refl, omega arith), (head-zero _, links-zero))
 
 returns : tie.Need-returns
 returns c = search needs

@@ -1,17 +1,10 @@
-use native.Mathlib.Omega.{arith}
 use borrow.Author.Needs.{needs}
-use Rattle.entries.proofs.Chains.{hash-empty, hash-some}
+use Rattle.entries.proofs.Chains.{hash-entry}
 use Rattle.entries.proofs.chain.hash.Statement.{statement}
 use Rattle.entries.proofs.chain.hash.Tie as tie
 
 mul-at : tie.Need-mul-at
 mul-at c = search needs
-
-shared-slice-read-if1 : tie.Need-shared-slice-read-if1
-shared-slice-read-if1 c = search needs
-
-returns : tie.Need-returns
-returns c = (hash-empty _ _ (c .before .before .before .pre) (c .if1 .taken), omega arith)
 
 eight-requires : tie.Need-eight-requires
 eight-requires c κs = search needs
@@ -37,12 +30,12 @@ eight-requires-4 c κs = search needs
 chain-of-requires : tie.Need-chain-of-requires
 chain-of-requires c κs = search needs
 
-returns-2 : tie.Need-returns-2
-returns-2 c =
-    let s = c .before .before .before .before .before .before .before .before in (
-      hash-some (s .args .list .now) (s .args .i) (s .pre) _ _ _ _ _ (c .before .before .before .before .before .if1 .left) (c .before .before .before .before .eight .ensures)
-          (c .before .before .before .eight2 .ensures) (c .before .before .eight3 .ensures) (c .before .eight4 .ensures) (c .chain-of .ensures .0),
-      omega arith,
+returns : tie.Need-returns
+returns c =
+    let s = c .before .before .before .before .before .before in (
+      hash-entry (s .args .list .now) (s .args .i) (s .pre) _ _ _ _ _ (c .before .before .before .before .eight .ensures) (c .before .before .before .eight2 .ensures)
+          (c .before .before .eight3 .ensures) (c .before .eight4 .ensures) (c .chain-of .ensures .0),
+      c .chain-of .ensures .1,
     )
 
 pub hash-spec : {M : Type 1} → statement M
@@ -50,8 +43,6 @@ hash-spec =
     tie.close
     (tie.spec
     mul-at
-    shared-slice-read-if1
-    returns
     eight-requires
     add-eight
     eight-requires-2
@@ -60,4 +51,4 @@ hash-spec =
     add-eight-3
     eight-requires-4
     chain-of-requires
-    returns-2)
+    returns)
