@@ -1,4 +1,4 @@
-// The longest right beginning of a roll and of a name list. A rule is asked of every beginning, from the longest that can keep it downwards.
+// The longest right beginning of a roll and of a name list. A rule is asked of every beginning that can keep it, from the longest downwards.
 ghost use mathlib.Core.Path.{_≡_};
 ghost use Prim.Native.Nat.{min};
 ghost use Rattle.names.specs.Rule.{namesRight};
@@ -48,14 +48,15 @@ pub fn right_roll(roll: &[u8]) -> usize
     0
 }
 
-// How many bytes of a name list are right by themselves.
+// How many bytes of a name list are right by themselves: whole entries, so that no other beginning is asked.
 pub fn right_names(list: &[u8]) -> usize
     ensures { λ r. ⌜ r ≡ rightUpTo namesRight (now (list .entry)) ⌝ }
 {
-    let mut n = smaller(list.len(), NAMES);
+    let mut n = smaller(list.len(), NAMES) / 32;
     while 0 < n {
-        if names_right(&list[..n]) {
-            return n;
+        let end = n * 32;
+        if names_right(&list[..end]) {
+            return end;
         }
         n -= 1;
     }

@@ -1,5 +1,5 @@
 -- Laws of the longest right beginning: how a loop that counts down finds it, and what it means.
-use Prim.Native.Nat.{ℕ, zero, suc, _*_, _-_, _≤_, _<_, min}
+use Prim.Native.Nat.{ℕ, zero, suc, _*_, _-_, _/_, _%_, _≤_, _<_, min}
 use mathlib.Core.Path.{_≡_, refl, sym, ap, _∙_}
 use mathlib.Core.List.{List}
 use mathlib.Core.Bool.{Bool, true, false, cond}
@@ -115,6 +115,29 @@ pub ruleset longest-laws = (from-none, from-here, from-down)
 pub roll-start : (roll : List ℕ) (n : ℕ) → n ≡ min (length roll) (64 * mostBytes) → From rollRight roll n
 roll-start roll n e = from-most rollRight roll (64 * mostBytes) n (λ t r. listed-room t (R.right-means t r .listed)) e
 
-pub names-start : (list : List ℕ) (n : ℕ) → n ≡ min (length list) (512 * 32) → From namesRight list n
-names-start list n e =
-    from-most namesRight list (512 * 32) n (λ t r. let m = N.right-means t r in let w = m .whole in let f = m .few in omega arith) e
+module _ (list : List ℕ) where
+  names-most : (n : ℕ) → n ≡ min (length list) (512 * 32) → From namesRight list n
+  names-most n e = from-most namesRight list (512 * 32) n (λ t r. let m = N.right-means t r in let w = m .whole in let f = m .few in omega arith) e
+
+  -- a beginning that ends inside an entry is not right
+  part-wrong : (k : ℕ) → k ≤ length list → (k % 32 ≡ 0 → ⊥) → namesRight (take k list) ≡ false
+  part-wrong k u d = false-of (namesRight (take k list)) (λ r. d (let w = N.right-means (take k list) r .whole in let q = length-take-le k list u in omega arith))
+
+  pub names-start : (n : ℕ) → n ≡ min (length list) (512 * 32) → From namesRight list (n / 32 * 32)
+  names-start n e = names-most n e ∙ longest-past namesRight list (n / 32 * 32) n (omega arith) (λ k l u. part-wrong k (omega arith) (λ z. omega arith))
+
+  module _ (n : ℕ) (inside : n * 32 ≤ length list) (inv : From namesRight list (n * 32)) (l : 0 < n) (b : Bool) (e : b ≡ namesRight (take (n * 32) list)) where
+    pub names-here : b ≡ true → n * 32 ≡ rightUpTo namesRight list
+    names-here h = from-here namesRight list (n * 32) inv (omega arith) b e h
+
+    pub names-down : b ≡ false → From namesRight list ((n - 1) * 32)
+    names-down h =
+        inv
+        ∙ longest-past namesRight list ((n - 1) * 32) (n * 32) (omega arith)
+        (λ k v u. ⊎-elim (λ (x : k < n * 32). part-wrong k (omega arith) (λ z. omega arith)) (λ (x : n * 32 ≤ k). here k (omega arith)) (lt-or-ge k (n * 32)))
+      where
+        here : (k : ℕ) → k ≡ n * 32 → namesRight (take k list) ≡ false
+        here k q = ap (λ (x : ℕ). namesRight (take x list)) q ∙ sym e ∙ h
+
+  pub names-none : (n : ℕ) → From namesRight list (n * 32) → n ≤ 0 → 0 ≡ rightUpTo namesRight list
+  names-none n inv z = from-none namesRight list (n * 32) inv (omega arith)
