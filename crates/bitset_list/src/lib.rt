@@ -93,10 +93,10 @@ fn judge_few(s: &[u8], names: &[u8], from: usize) -> Judged
 }
 
 // So many bytes of BITs, from where on tables are made (docs/PERFORMANCE.md, "The search for a name").
-const MANY: usize = 224;
+const MANY: usize = 320;
 
 fn is_short(s: &[u8], from: usize) -> bool
-    ensures { λ r. ⌜ r ≡ ltb (length (now (s .entry)) - from) 224 ⌝ }
+    ensures { λ r. ⌜ r ≡ ltb (length (now (s .entry)) - from) 320 ⌝ }
 {
     if s.len() <= from {
         return true;

@@ -8,8 +8,8 @@ use borrow.Author.Needs.{needs}
 use Rattle.bitset_list.proofs.is_short.Statement.{statement}
 use Rattle.bitset_list.proofs.is_short.Tie as tie
 
-nothing-left : (a b : ℕ) → a ≤ b → true ≡ ltb (a - b) 224
-nothing-left a b l = sym (lt-ltb (a - b) 224 (omega arith))
+nothing-left : (a b : ℕ) → a ≤ b → true ≡ ltb (a - b) 320
+nothing-left a b l = sym (lt-ltb (a - b) 320 (omega arith))
 
 returns : tie.Need-returns
 returns c = nothing-left _ _ (c .if1 .taken)
