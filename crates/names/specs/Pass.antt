@@ -11,13 +11,13 @@ use Rattle.entries.specs.Entry.{count}
 unfoldable pub otherAt : List ℕ → ℕ → ℕ → ℕ → ℕ → Bool
 otherAt names place byte i k = not (eqb (getD names ((i + k) * 32 + place) 0) byte)
 
--- every entry from i up to r has another byte there
+-- every entry from i up to r, which is not among them, has another byte at the place
 pub record Others (names : List ℕ) (place byte i r : ℕ) : Type 0 where
   pub from : i ≤ r
   pub inside : r ≤ count names
   pub each : (k : ℕ) → i ≤ k → k < r → getD names (k * 32 + place) 0 ≡ byte → ⊥
 
--- and entry r has the byte, if there is one
+-- and r is the next that has the byte, or past the last entry
 pub record Next (names : List ℕ) (place byte i r : ℕ) : Type 0 where
   pub others : Others names place byte i r
   pub has : r < count names → getD names (r * 32 + place) 0 ≡ byte

@@ -1,11 +1,11 @@
-// How a search passes the entries that have another byte than the sought one at a place.
+// How a search passes the entries that have another byte at a place than the one it looks for.
 ghost use mathlib.Core.Path.{_≡_};
 ghost use Prim.Native.Nat.{_+_, _/_, _≤_, _<_};
 ghost use lib.ListN.{length};
 ghost use Rattle.basics.specs.Scan.{all};
 ghost use Rattle.names.specs.Pass.{otherAt, Others, Next};
 
-// Whether each of n entries from i on has another byte there. No early exit: where n is known, all of them are tested at once.
+// Whether each of n entries from i on has another byte at the place. No early exit: where n is known, all of them are tested at once.
 fn others(names: &[u8], place: usize, byte: u8, i: usize, n: usize) -> bool
     requires { ⌜ (place < 32) × (i + n ≤ length (now names) / 32) ⌝ }
     ensures { λ r. ⌜ r ≡ all n (otherAt (now (names .entry)) place byte i) ⌝ }
@@ -17,7 +17,7 @@ fn others(names: &[u8], place: usize, byte: u8, i: usize, n: usize) -> bool
     other
 }
 
-// Passes entries from i on, four at a time, while each of the four has another byte there.
+// The entry to go on from, where entries from i on are passed four at a time while each of the four has another byte at the place.
 fn pass_fours(names: &[u8], place: usize, byte: u8, i: usize) -> usize
     requires { ⌜ (place < 32) × (i ≤ length (now names) / 32) ⌝ }
     ensures { λ r. ⌜ Others (now (names .entry)) place byte i r ⌝ }
@@ -32,7 +32,7 @@ fn pass_fours(names: &[u8], place: usize, byte: u8, i: usize) -> usize
     r
 }
 
-// The first entry from i on that has the byte there; their number where none has.
+// The first entry from i on that has the byte at the place; how many entries there are where none has.
 pub fn next_with(names: &[u8], place: usize, byte: u8, i: usize) -> usize
     requires { ⌜ (place < 32) × (i ≤ length (now names) / 32) ⌝ }
     ensures { λ r. ⌜ Next (now (names .entry)) place byte i r ⌝ }
