@@ -5,12 +5,11 @@ use mathlib.Core.Bool.{true, false}
 use mathlib.Core.List.{List}
 use native.Mathlib.Omega.{arith}
 use lib.ListN.{getD}
-use Rattle.basics.proofs.Scan.{first-on, tally-flat}
 use Rattle.basics.proofs.Truth.{false-of}
 use Rattle.entries.specs.Entry.{count, entryAt}
 use Rattle.entries.specs.Length.{nameLength, lastByte}
-use Rattle.names.specs.Search.{isEntry, agrees, comparedIn, lookup}
-use Rattle.names.proofs.Search.{Sought, Passed, Comparing, other-agrees, passed-agrees, passed-start, passed-all}
+use Rattle.names.specs.Search.{agrees, lookup}
+use Rattle.names.proofs.Search.{Sought, Passed, Comparing, passed-others, passed-agrees, passed-start, passed-all}
 use Rattle.name_index.specs.Chain.{keyIn, keyOf, Next, Linked}
 use Rattle.name_index.specs.Chain.Next.{nowhere, entry}
 use Rattle.name_index.proofs.Keys.{agrees-key, key-agrees}
@@ -33,15 +32,9 @@ module _ (names name : List ℕ) (n end last : ℕ) (w : Sought name n end last)
   -- entries of other chains are passed
   passed-on : (from m c : ℕ) → Passed names name from c → from + m ≤ count names → ((j : ℕ) → from ≤ j → j < from + m → keyOf (entryAt names j) ≡ keyOf name → ⊥)
       → Passed names name (from + m) c
-  unfolding comparedIn
-  passed-on from m c p l none = record {
-    none = first-on (isEntry names name) from m (p .none) (λ j a b. other-agrees names name j (omega arith) (w .short) (differs j a b));
-    counted = p .counted ∙ sym (tally-flat (agrees names name) from m differs);
-    most = let x = p .most in omega arith;
-  }
-    where
-      differs : (j : ℕ) → from ≤ j → j < from + m → agrees names name j ≡ false
-      differs j a b = false-of (agrees names name j) (λ q. none j a b (agrees-key names name j (omega arith) q))
+  passed-on from m c p l none =
+      passed-others names name from (from + m) c (w .short) p (omega arith) l
+      (λ j a b. false-of (agrees names name j) (λ q. none j a b (agrees-key names name j (omega arith) q)))
 
   name-chain : keyIn n last ≡ keyOf name
   unfolding keyOf lastByte

@@ -12,7 +12,7 @@ use Rattle.basics.specs.Scan.{all}
 use Rattle.basics.proofs.Order.{lt-or-ge}
 use Rattle.basics.proofs.Scan.{all-none, all-plus, all-each}
 use Rattle.entries.specs.Entry.{count}
-use Rattle.names.specs.Pass.{otherAt, Others, Next}
+use Rattle.names.specs.Pass.{otherAt, Others, NextWith}
 
 module _ (names : List ℕ) (place byte i : ℕ) where
   pub others-start : true ≡ all 0 (otherAt names place byte i)
@@ -57,12 +57,12 @@ module _ (names : List ℕ) (place byte i r : ℕ) (o : Others names place byte 
       here : (k : ℕ) → r ≡ k → getD names (k * 32 + place) 0 ≡ byte → ⊥
       here k e q = d (ap (λ (x : ℕ). getD names (x * 32 + place) 0) e ∙ q)
 
-  pub next-here : getD names (r * 32 + place) 0 ≡ byte → Next names place byte i r
+  pub next-here : getD names (r * 32 + place) 0 ≡ byte → NextWith names place byte i r
   next-here q = record { others = o; has = λ l. q }
 
-  pub next-none : count names ≤ r → Next names place byte i r
+  pub next-none : count names ≤ r → NextWith names place byte i r
   next-none h = record { others = o; has = λ l. absurd (omega arith) }
 
-pub next-inside : (names : List ℕ) (place byte i r : ℕ) → Next names place byte i r → (r ≡ count names → ⊥) → r < count names
+pub next-inside : (names : List ℕ) (place byte i r : ℕ) → NextWith names place byte i r → (r ≡ count names → ⊥) → r < count names
 next-inside names place byte i r x d =
     ⊎-elim (λ (l : r < count names). l) (λ (l : count names ≤ r). absurd (d (let u = x .others .inside in omega arith))) (lt-or-ge r (count names))

@@ -21,7 +21,7 @@ use Rattle.entries.specs.Length.{nameLength, lastByte}
 use Rattle.entries.proofs.Entries.{entry-byte, entry-length, same-bytes, same-of, distinct-one}
 use Rattle.entries.proofs.NameLength.{past-length, length-le, same-length, same-last}
 use Rattle.names.specs.Rule.{namesRight}
-use Rattle.names.specs.Pass.{Next}
+use Rattle.names.specs.Pass.{NextWith}
 use Rattle.names.specs.Search.{isEntry, noName, agrees, comparedIn, notSought, notFound, foundAt, lookup}
 use Rattle.names.proofs.Rules.{right-means}
 
@@ -203,23 +203,25 @@ module _ (names name : List ℕ) (i : ℕ) (h : i < count names) where
           let q : c ≡ comparedIn names name (suc i) = k .counted ∙ ap (comparedIn names name) (add-one i) in
           sym (rw (w .named, f, lt-ltb i (count names) h, q))
 
--- the entries up to the next one that has the name's last byte are passed
-pub passed-next : (names name : List ℕ) (n end last i r c : ℕ) → Sought name n end last → Passed names name i c → Next names end last i r → Passed names name r c
+-- entries that do not agree are passed
+pub passed-others : (names name : List ℕ) (i r c : ℕ) → length name ≤ 32 → Passed names name i c → i ≤ r → r ≤ count names
+    → ((k : ℕ) → i ≤ k → k < r → agrees names name k ≡ false) → Passed names name r c
 unfolding comparedIn
-passed-next names name n end last i r c w p x = record {
-  none = subst (NoneBefore names name) e (first-on (isEntry names name) i (r - i) (p .none) (λ k l u. other-agrees names name k (inside k u) (w .short) (other k l u)));
-  counted = p .counted ∙ sym (tally-flat (agrees names name) i (r - i) other) ∙ ap (λ (m : ℕ). tally m (agrees names name)) e;
-  most = let m = p .most in let f = x .others .from in omega arith;
-}
-  where
-    e : i + (r - i) ≡ r
-    e = let f = x .others .from in omega arith
+passed-others names name i r c short p l u other =
+    let e : i + (r - i) ≡ r = omega arith in
+    let none : (k : ℕ) → i ≤ k → k < i + (r - i) → agrees names name k ≡ false = λ k a b. other k a (omega arith) in
+    record {
+      none = subst (NoneBefore names name) e (first-on (isEntry names name) i (r - i) (p .none) (λ k a b. other-agrees names name k (omega arith) short (none k a b)));
+      counted = p .counted ∙ sym (tally-flat (agrees names name) i (r - i) none) ∙ ap (λ (m : ℕ). tally m (agrees names name)) e;
+      most = let m = p .most in omega arith;
+    }
 
-    inside : (k : ℕ) → k < i + (r - i) → k < count names
-    inside k u = let f = x .others .from in let g = x .others .inside in omega arith
-
-    other : (k : ℕ) → i ≤ k → k < i + (r - i) → agrees names name k ≡ false
-    other k l u = last-other names name k (inside k u) n end last w (x .others .each k l (rw e at u))
+-- as those up to the next one that has the name's last byte do not
+pub passed-next : (names name : List ℕ) (n end last i r c : ℕ) → Sought name n end last → Passed names name i c → NextWith names end last i r → Passed names name r c
+passed-next names name n end last i r c w p x =
+    let inside = x .others .inside in
+    passed-others names name i r c (w .short) p (x .others .from) inside
+    (λ k l u. last-other names name k (omega arith) n end last w (x .others .each k l u))
 
 -- how the search begins, goes on and ends
 module _ (names name : List ℕ) where

@@ -18,6 +18,6 @@ pub record Others (names : List ℕ) (place byte i r : ℕ) : Type 0 where
   pub each : (k : ℕ) → i ≤ k → k < r → getD names (k * 32 + place) 0 ≡ byte → ⊥
 
 -- and r is the next that has the byte, or past the last entry
-pub record Next (names : List ℕ) (place byte i r : ℕ) : Type 0 where
+pub record NextWith (names : List ℕ) (place byte i r : ℕ) : Type 0 where
   pub others : Others names place byte i r
   pub has : r < count names → getD names (r * 32 + place) 0 ≡ byte

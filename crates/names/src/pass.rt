@@ -3,7 +3,7 @@ ghost use mathlib.Core.Path.{_≡_};
 ghost use Prim.Native.Nat.{_+_, _/_, _≤_, _<_};
 ghost use lib.ListN.{length};
 ghost use Rattle.basics.specs.Scan.{all};
-ghost use Rattle.names.specs.Pass.{otherAt, Others, Next};
+ghost use Rattle.names.specs.Pass.{otherAt, Others, NextWith};
 
 // Whether each of n entries from i on has another byte at the place. No early exit: where n is known, all of them are tested at once.
 fn others(names: &[u8], place: usize, byte: u8, i: usize, n: usize) -> bool
@@ -35,7 +35,7 @@ fn pass_fours(names: &[u8], place: usize, byte: u8, i: usize) -> usize
 // The first entry from i on that has the byte at the place; how many entries there are where none has.
 pub fn next_with(names: &[u8], place: usize, byte: u8, i: usize) -> usize
     requires { ⌜ (place < 32) × (i ≤ length (now names) / 32) ⌝ }
-    ensures { λ r. ⌜ Next (now (names .entry)) place byte i r ⌝ }
+    ensures { λ r. ⌜ NextWith (now (names .entry)) place byte i r ⌝ }
 {
     let mut r = pass_fours(names, place, byte, i);
     while r < names.len() / 32 {
