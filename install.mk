@@ -13,7 +13,7 @@ ETHNL_LIB ?= $(ETHNL_BUILT)
 
 ETHNL_VERSION := $(shell awk '/^.define ETHNL_VERSION_(MAJOR|MINOR|PATCH) / { printf "%s%s", dot, $$3; dot = "." }' include/ethnl.h)
 ETHNL_HEADERS = include/ethnl.h include/ethnl_box.h
-ETHNL_EXAMPLES = $(addprefix examples/,box.c box.h daemon.c regroup.c same.c quay.box)
+ETHNL_EXAMPLES = $(addprefix examples/,box.c box.h daemon.c same.c quay.box)
 # Each function has the page under its own name too.
 ETHNL_PAGES := $(shell sed -n 's/^[a-z0-9_]* \(ethnl_[a-z_]*\)[^a-z_].*/\1.3/p' include/ethnl.h)
 ETHNL_INSTALLED = $(addprefix $(INCLUDEDIR)/,$(notdir $(ETHNL_HEADERS))) $(LIBDIR)/libethnl.a $(LIBDIR)/pkgconfig/ethnl.pc \

@@ -5,19 +5,14 @@ use std::path::PathBuf;
 use std::process::Command;
 
 fn main() {
-    println!("cargo:rustc-check-cfg=cfg(before_converts)");
     let library = archive("ETHNL_LIB");
     if std::env::var_os("CARGO_FEATURE_BEFORE").is_none() {
         link(&library);
         return;
     }
     let before = archive("ETHNL_BEFORE");
-    let symbols = symbols(&before);
     link(&copy(&library, "libnow.a", ""));
-    link(&copy(&before, "libbefore.a", &renamings(&symbols)));
-    if symbols.contains("ethnl_group") {
-        println!("cargo:rustc-cfg=before_converts");
-    }
+    link(&copy(&before, "libbefore.a", &renamings(&before)));
 }
 
 fn archive(variable: &str) -> String {
@@ -43,8 +38,9 @@ fn copy(archive: &str, name: &str, renamings: &str) -> String {
     copy.display().to_string()
 }
 
-/// The symbols that an archive defines.
-fn symbols(archive: &str) -> BTreeSet<String> {
+/// `before_` in front of each symbol that the archive defines, since both archives export the same ones. What it takes
+/// from elsewhere, such as memcpy, keeps its name.
+fn renamings(archive: &str) -> String {
     let nm = Command::new("nm").args(["--extern-only", "--defined-only", archive]).output();
     let lines = String::from_utf8(nm.expect("nm, from binutils, is there").stdout).expect("nm writes text");
     // A symbol's line is its value, a letter and itself; members of an archive may define the same one.
@@ -52,11 +48,6 @@ fn symbols(archive: &str) -> BTreeSet<String> {
         [_, _, symbol] => Some(symbol.to_string()),
         _ => None,
     };
-    lines.lines().filter_map(symbol).collect()
-}
-
-/// `before_` in front of each symbol that the archive defines, since both archives export the same ones. What it takes
-/// from elsewhere, such as memcpy, keeps its name.
-fn renamings(symbols: &BTreeSet<String>) -> String {
+    let symbols: BTreeSet<String> = lines.lines().filter_map(symbol).collect();
     symbols.iter().map(|symbol| format!("{symbol} before_{symbol}\n")).collect()
 }

@@ -100,22 +100,12 @@ static void put_port(uint8_t *record, unsigned long index, const char *name)
     memcpy(record + 5, name, strlen(name));
 }
 
-/* Makes room for the sets of one more port, all bits off: its debug set comes before all flags, which move up. */
-static void put_sets(struct box *box, size_t ports, size_t debug_bits, size_t flag_bits)
-{
-    uint8_t *flags = box->settings + ETHNL_FLAGS_AT(0, ports, debug_bits, flag_bits);
-
-    memmove(flags + ETHNL_SET_LEN(debug_bits), flags, ports * ETHNL_SET_LEN(flag_bits));
-    memset(flags, 0, ETHNL_SET_LEN(debug_bits));
-    box->settings_len = ETHNL_SETTINGS_LEN(ports + 1, debug_bits, flag_bits);
-}
-
 /* "port INDEX NAME ..": its record and its two sets. */
 static const char *port_line(struct box *box)
 {
     const char *number = next_word(), *name = next_word();
+    uint8_t *debug = box->settings + box->settings_len;
     size_t debug_bits = box->debug_names_len / ETHNL_NAME_LEN, flag_bits = box->flag_names_len / ETHNL_NAME_LEN;
-    size_t port = box->roll_len / ETHNL_ROLL_RECORD;
     unsigned long index;
 
     if (!is_number(number, 1, ETHNL_INDEX_MAX, &index))
@@ -126,9 +116,8 @@ static const char *port_line(struct box *box)
         return "a box has at most 64 ports";
     put_port(box->roll + box->roll_len, index, name);
     box->roll_len += ETHNL_ROLL_RECORD;
-    put_sets(box, port, debug_bits, flag_bits);
-    return starting_bits(box->settings + ETHNL_DEBUG_AT(port, debug_bits), debug_bits,
-                         box->settings + ETHNL_FLAGS_AT(port, port + 1, debug_bits, flag_bits), flag_bits);
+    box->settings_len += ETHNL_SET_LEN(debug_bits) + ETHNL_SET_LEN(flag_bits);
+    return starting_bits(debug, debug_bits, debug + ETHNL_SET_LEN(debug_bits), flag_bits);
 }
 
 /* Takes up one line; returns what is wrong with it. */
@@ -188,26 +177,6 @@ int box_read(struct box *box, const char *path)
         perror(path);
     fclose(file);
     return wrong != NULL || unread ? -1 : 0;
-}
-
-int box_read_settings(struct box *box, const char *path)
-{
-    FILE *file = fopen(path, "rb");
-    int more, unread;
-
-    if (file == NULL) {
-        perror(path);
-        return -1;
-    }
-    box->settings_len = fread(box->settings, 1, sizeof box->settings, file);
-    more = getc(file) != EOF;
-    unread = ferror(file);
-    if (unread)
-        perror(path);
-    else if (more)
-        fprintf(stderr, "%s: more than the settings of any box\n", path);
-    fclose(file);
-    return unread || more ? -1 : 0;
 }
 
 struct ethnl_box box_lent(struct box *box)

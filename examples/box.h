@@ -9,7 +9,7 @@ struct box {
     uint8_t roll[ETHNL_PORTS_MAX * ETHNL_ROLL_RECORD];
     uint8_t debug_names[ETHNL_BITS_MAX * ETHNL_NAME_LEN];
     uint8_t flag_names[ETHNL_BITS_MAX * ETHNL_NAME_LEN];
-    uint8_t settings[ETHNL_SETTINGS_LEN(ETHNL_PORTS_MAX, ETHNL_BITS_MAX, ETHNL_BITS_MAX)];
+    uint8_t settings[ETHNL_PORTS_MAX * 2 * ETHNL_SET_LEN(ETHNL_BITS_MAX)];
     size_t roll_len, debug_names_len, flag_names_len, settings_len;
 };
 
@@ -18,12 +18,6 @@ struct box {
  * several lines make together, as two ports of one name, is for ethnl_box_check to tell.
  */
 int box_read(struct box *box, const char *path);
-
-/*
- * Takes the bytes of a file for the settings; returns 0, or -1 after telling what is wrong. Whether they are settings of
- * this box is for ethnl_box_check to tell.
- */
-int box_read_settings(struct box *box, const char *path);
 
 /* The box as the library takes it: its buffers, lent. */
 struct ethnl_box box_lent(struct box *box);

@@ -1,11 +1,10 @@
 /*
- * daemon BOXFILE [SETTINGS]: serves ethtool requests for the ports of a box.
+ * daemon BOXFILE: serves ethtool requests for the ports of a box.
  *
  * Standard input is a run of datagrams, each after its length as a 32-bit little-endian number. Standard output
  * gets the messages that answer them likewise; a reply and its ACK are two, a dump gets one for each port and DONE.
- * Settings live as long as the program does. They begin as the box file says or, where SETTINGS is given, as the bytes
- * of that file; regroup.c converts one that was stored before version 0.7.0. Standard error tells of every refusal, by
- * its number in ethnl.h and a sentence.
+ * Settings live as long as the program does. Standard error tells of every refusal, by its number in ethnl.h and a
+ * sentence.
  *
  *     cc -o daemon daemon.c box.c $(pkg-config --cflags --libs ethnl)
  */
@@ -102,10 +101,9 @@ static void tell_place(const struct ethnl_fault *fault)
 }
 
 /* Whether the box keeps every rule; tells which part does not, and where. */
-static int is_right(const char *path)
+static int is_right(const struct ethnl_box *lent, const char *path)
 {
-    struct ethnl_box lent = box_lent(&box);
-    struct ethnl_fault fault = ethnl_box_check(&lent);
+    struct ethnl_fault fault = ethnl_box_check(lent);
 
     if (fault.part == ETHNL_PART_NONE)
         return 1;
@@ -119,15 +117,15 @@ int main(int argc, char **argv)
     struct ethnl_box lent;
     uint32_t length;
 
-    if (argc != 2 && argc != 3) {
-        fputs("usage: daemon BOXFILE [SETTINGS] <datagrams >answers\n", stderr);
+    if (argc != 2) {
+        fputs("usage: daemon BOXFILE <datagrams >answers\n", stderr);
         return 2;
     }
-    if (box_read(&box, argv[1]) != 0 || !is_right(argv[1]))
-        return 1;
-    if (argc == 3 && (box_read_settings(&box, argv[2]) != 0 || !is_right(argv[2])))
+    if (box_read(&box, argv[1]) != 0)
         return 1;
     lent = box_lent(&box);
+    if (!is_right(&lent, argv[1]))
+        return 1;
     while (read_length(&length)) {
         read_datagram(length);
         serve(&lent, length);

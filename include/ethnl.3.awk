@@ -82,20 +82,13 @@ function heading(at, first) {
     say_comment(comment[1] == "" ? 2 : 1)
 }
 
-# The name that a #define gives a meaning, with its parameters where it has any.
-function name_of(line) {
-    sub(/^#define /, "", line)
-    match(line, /^[A-Z_]+(\([a-z_, ]*\))?/)
-    return substr(line, 1, RLENGTH)
-}
-
 # "#define NAME VALUE /* MEANING */"; a value that is no number is left out, and so is a name with neither. A number may end in u.
 function number_line(line, name, value, meaning) {
     meaning = line
     if (!sub(/^.*\/\* /, "", meaning))
         meaning = ""
     sub(/ \*\/$/, "", meaning)
-    name = name_of(line)
+    name = $2
     value = $3
     sub(/u$/, "", value)
     value = value ~ /^[0-9]+$/ ? " " value : ""
@@ -109,9 +102,6 @@ function function_line(line) {
     sub(/^ +/, "  ", line)
     synopsis = synopsis literal(line)
 }
-
-# A line that ends in a backslash goes on in the next.
-/\\$/ { getline rest; sub(/^ +/, "", rest); $0 = substr($0, 1, length($0) - 1) rest }
 
 # Comments: collected until it is known what they stand before.
 /^\/\*.*\*\/$/ { lines = 1; comment[1] = substr($0, 4, length($0) - 6); next }

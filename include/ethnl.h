@@ -5,16 +5,15 @@
  * The library opens nothing, allocates nothing and keeps nothing between calls: all state is lent by
  * the caller. Every input has an answer; nothing needs to be checked before a call. ethnl_box.h has the same
  * functions over structs instead of a row of buffers (ethnl_box_handle, ethnl_form_of, ethnl_find_name,
- * ethnl_box_check, ethnl_box_group, ethnl_box_ungroup), and a sentence for each refusal and each part of a box
- * (ethnl_strerror, ethnl_strpart).
+ * ethnl_box_check), and a sentence for each refusal and each part of a box (ethnl_strerror, ethnl_strpart).
  *
  * Pointers. Each is followed by its length in bytes and must be valid for that many bytes. It must not be
- * null, not even where the length is 0. Buffers that are written (the settings of ethnl_handle, page, out, results)
- * must not overlap any other buffer of the call; those that are only read may overlap each other. No alignment is
- * needed. All numbers inside buffers are little-endian.
+ * null, not even where the length is 0. Buffers that are written (settings, page, results) must not overlap
+ * any other buffer of the call; those that are only read may overlap each other. No alignment is needed.
+ * All numbers inside buffers are little-endian.
  *
  * Threads. Several may call at once, also on the same roll and name lists, as long as none uses a buffer that
- * another's call writes: the settings of ethnl_handle, page, out and results.
+ * another's call writes: settings, page and results.
  *
  * Stack. A call needs at most ETHNL_STACK_MAX bytes of it: about twice what was measured on the largest box, 29,400 bytes
  * in a SET. This is tested, not proved.
@@ -75,17 +74,16 @@ extern "C" {
 
 /*
  * The version of this header. A program is built with the header of its archive: since 0.4.0 ethnl_handle takes a place
- * behind the position, and hands back next_place behind next. A caller changes its call, as the loop above shows. Since
- * 0.7.0 settings are grouped by set; settings that a daemon stored with a version before go through ethnl_group once.
+ * behind the position, and hands back next_place behind next. A caller changes its call, as the loop above shows.
  */
 #define ETHNL_VERSION_MAJOR 0
-#define ETHNL_VERSION_MINOR 7
+#define ETHNL_VERSION_MINOR 6
 #define ETHNL_VERSION_PATCH 0
 #define ETHNL_VERSION (10000 * ETHNL_VERSION_MAJOR + 100 * ETHNL_VERSION_MINOR + ETHNL_VERSION_PATCH) /* a number for #if */
 #define ETHNL_VERSION_STRING ETHNL_DOTTED(ETHNL_VERSION_MAJOR, ETHNL_VERSION_MINOR, ETHNL_VERSION_PATCH) /* major.minor.patch */
 #define ETHNL_DOTTED(major, minor, patch) ETHNL_DOTTED_TEXT(major, minor, patch)
 #define ETHNL_DOTTED_TEXT(major, minor, patch) #major "." #minor "." #patch
-#define ETHNL_LEVEL 16 /* the number of the highest change request that the library has */
+#define ETHNL_LEVEL 14 /* the number of the highest change request that the library has */
 
 /* Sizes in bytes. */
 #define ETHNL_PAGE_MIN 32768     /* shortest answer page of ethnl_handle */
@@ -96,16 +94,6 @@ extern "C" {
 #define ETHNL_NAME_LEN 32        /* one entry of a name list */
 #define ETHNL_STACK_MAX 65536    /* the most stack that a call needs */
 #define ETHNL_SET_LEN(bits) (4 * (((size_t)(bits) + 31) / 32)) /* bytes of one port's set of N bits: W words, N/32 rounded up */
-
-/*
- * Where the sets lie among the settings, in bytes. port is the place of a port in the roll, from 0 on, ports the number
- * of ports; debug_bits and flag_bits are the numbers of entries of the two lists.
- */
-#define ETHNL_DEBUG_AT(port, debug_bits) ((size_t)(port) * ETHNL_SET_LEN(debug_bits)) /* offset of the port's debug set */
-#define ETHNL_FLAGS_AT(port, ports, debug_bits, flag_bits) \
-    (ETHNL_DEBUG_AT(ports, debug_bits) + (size_t)(port) * ETHNL_SET_LEN(flag_bits)) /* offset of the port's flags */
-#define ETHNL_SETTINGS_LEN(ports, debug_bits, flag_bits) \
-    ETHNL_FLAGS_AT(ports, ports, debug_bits, flag_bits) /* length of all settings */
 
 /* Other limits of a box. */
 #define ETHNL_FAMILY_MIN 16
@@ -128,7 +116,7 @@ extern "C" {
  * ETHNL_MISS_NEST, what is missing and in which nest.
  */
 #define ETHNL_REFUSAL_BOX 1             /* box or list breaks a rule, as ethnl_check_box tells; or place above the number of ports */
-#define ETHNL_REFUSAL_PAGE 2            /* page too short; a converter's output of another length than the settings */
+#define ETHNL_REFUSAL_PAGE 2            /* page too short */
 #define ETHNL_REFUSAL_DATAGRAM 3        /* datagram or contents too long, position past its end, or 1 to 15 bytes left */
 #define ETHNL_REFUSAL_MESSAGE_LEN 4     /* message length below 16 or more than is left */
 #define ETHNL_REFUSAL_FAMILY 5          /* ENOENT: message type isn't the family */
@@ -183,10 +171,9 @@ extern "C" {
  *                that aren't NUL, then NULs only; an empty entry is a bit without a name and may repeat,
  *                other names are distinct. Bit i has the entry i
  *   flag_names   the same for the private flags, with an N of its own
- *   settings     the debug sets of all ports in roll order, then the flags of all ports in roll order,
- *                ETHNL_SET_LEN(N) bytes each: 32-bit words, lowest bits first, bits from N on 0. Exactly these
- *                bytes, no more; ETHNL_DEBUG_AT and ETHNL_FLAGS_AT tell where a port's sets lie. Written only by a
- *                SET that is done, and there only in the one set of the one port that it names
+ *   settings     for each port in roll order its debug set, then its flags, ETHNL_SET_LEN(N) bytes each:
+ *                32-bit words, lowest bits first, bits from N on 0. Exactly these bytes, no more. Written only
+ *                by a SET that is done, and there only in the one set of the one port that it names
  *
  * The message:
  *   datagram     at most ETHNL_DATAGRAM_MAX bytes, as received; may be empty
@@ -279,49 +266,6 @@ uint32_t ethnl_check_box(uint32_t family, uint32_t admin,
                          const uint8_t *flag_names, size_t flag_names_len,
                          const uint8_t *settings, size_t settings_len,
                          uint64_t *offset);
-
-/*
- * Brings stored settings from the order of the versions before 0.7.0, which was by port, to that of today, grouped by
- * set. A daemon that was built with such a version has its settings converted once, before its first call with today's.
- *
- *   roll         the ports, as in ethnl_handle
- *   debug_names  names of the debug bits, as in ethnl_handle
- *   flag_names   likewise of the private flags
- *   settings     for each port in roll order its debug set, then its flags: the words of ethnl_handle's settings, by
- *                port. Only read
- *   out          exactly as many bytes as the settings; gets the debug sets of all ports in roll order, then the flags
- *                of all ports in roll order
- *
- * Every port keeps its sets, and ethnl_ungroup comes back to the same bytes. Settings say nowhere in which order they
- * are, and many are right in both, so convert them exactly once: a second time would give ports other ports' words. With
- * one port both orders are the same bytes. Returns 0 if done; 1 if the roll, a list, or the settings as read in the order
- * by port break a rule; else 2 if out_len is another length than settings_len. A refusal writes nothing.
- */
-uint32_t ethnl_group(const uint8_t *roll, size_t roll_len,
-                     const uint8_t *debug_names, size_t debug_names_len,
-                     const uint8_t *flag_names, size_t flag_names_len,
-                     const uint8_t *settings, size_t settings_len,
-                     uint8_t *out, size_t out_len);
-
-/*
- * Brings settings back from the order of today to that of the versions before 0.7.0, for a daemon that is to be built
- * with such a version again.
- *
- *   roll         the ports, as in ethnl_handle
- *   debug_names  names of the debug bits, as in ethnl_handle
- *   flag_names   likewise of the private flags
- *   settings     grouped by set, as in ethnl_handle. Only read
- *   out          exactly as many bytes as the settings; gets for each port in roll order its debug set, then its flags
- *
- * Every port keeps its sets, and ethnl_group comes back to the same bytes. Returns 0 if done; 1 if the roll, a list, or
- * the settings as read in the grouped order break a rule; else 2 if out_len is another length than settings_len. A
- * refusal writes nothing.
- */
-uint32_t ethnl_ungroup(const uint8_t *roll, size_t roll_len,
-                       const uint8_t *debug_names, size_t debug_names_len,
-                       const uint8_t *flag_names, size_t flag_names_len,
-                       const uint8_t *settings, size_t settings_len,
-                       uint8_t *out, size_t out_len);
 
 #ifdef __cplusplus
 }

@@ -89,23 +89,6 @@ ETHNL_INLINE struct ethnl_fault ethnl_box_check(const struct ethnl_box *box)
     return fault;
 }
 
-/*
- * The box's settings, stored in the order of before 0.7.0, are written to out in that of today; out_len is settings_len.
- * Returns 0 or the refusal. Family and admin are not looked at.
- */
-ETHNL_INLINE uint32_t ethnl_box_group(const struct ethnl_box *box, uint8_t *out, size_t out_len)
-{
-    return ethnl_group(box->roll, box->roll_len, box->debug_names, box->debug_names_len, box->flag_names,
-                       box->flag_names_len, box->settings, box->settings_len, out, out_len);
-}
-
-/* The way back: the box's settings are in the order of today. */
-ETHNL_INLINE uint32_t ethnl_box_ungroup(const struct ethnl_box *box, uint8_t *out, size_t out_len)
-{
-    return ethnl_ungroup(box->roll, box->roll_len, box->debug_names, box->debug_names_len, box->flag_names,
-                         box->flag_names_len, box->settings, box->settings_len, out, out_len);
-}
-
 /* The normal form of a bitset's contents; names is the list of its set, as box.flag_names. */
 ETHNL_INLINE struct ethnl_form ethnl_form_of(const uint8_t *contents, size_t contents_len, const uint8_t *names,
                                              size_t names_len)
@@ -132,7 +115,7 @@ ETHNL_INLINE const char *ethnl_strerror(uint32_t refusal)
     static const char *const sentences[] = {
         "There is no refusal.",
         "The box or the name list breaks a rule, or the place is above the number of ports.",
-        "The page is too short, or the output is not as long as the settings.",
+        "The page is too short.",
         "The datagram is too long, the position is past its end, or 1 to 15 bytes are left.",
         "The message's length is below 16 or more than is left of the datagram.",
         "The message's type is not the family's number.",

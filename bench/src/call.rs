@@ -1,7 +1,7 @@
 //! One call that is measured, made by the library or by the reader on the same buffers.
 
 use crate::lent::Lent;
-use crate::library::{self, Archive, Way};
+use crate::library::{self, Archive};
 use crate::names;
 use crate::requests::{self, Told, PRIVFLAGS_GET, PRIVFLAGS_SET};
 use reader::Answer;
@@ -26,8 +26,6 @@ enum Input {
     Contents(Vec<u8>),
     /// The box by itself, and the part that is at fault.
     Parts(u32),
-    /// The settings of the box, to be converted.
-    Settings(Way),
 }
 
 pub struct Call {
@@ -130,40 +128,28 @@ impl Call {
         call
     }
 
-    /// The settings of a box converted, their words all distinct.
-    pub fn regroup(way: Way, ports: usize, bits: usize) -> Self {
-        let name = if way == Way::Group { "settings grouped by set" } else { "settings ungrouped" };
-        Self::new(name, ports, bits, Input::Settings(way)).over(Lent::of_distinct_words(ports, bits))
-    }
-
-    /// Whether the archive of before has the function.
-    pub fn is_in_before(&self) -> bool {
-        cfg!(feature = "before") && (cfg!(before_converts) || !matches!(self.input, Input::Settings(_)))
-    }
-
     /// Has this call made over the other's box and page, and the other over this one's.
     pub fn swap_buffers(&mut self, other: &mut Self) {
         std::mem::swap(&mut self.lent, &mut other.lent);
         std::mem::swap(&mut self.page, &mut other.page);
     }
 
-    /// Bytes of the datagram, contents or settings.
+    /// Bytes of the datagram or contents.
     pub fn input_bytes(&self) -> usize {
         match &self.input {
             Input::Message(bytes) | Input::Refused(bytes) | Input::Dump(bytes) | Input::Contents(bytes) => bytes.len(),
             Input::Messages(datagrams) => datagrams.iter().map(Vec::len).sum(),
-            Input::Settings(_) => self.lent.settings.len(),
             Input::End | Input::Parts(_) => 0,
         }
     }
 
-    /// The kind that an answered message has, the number of accepted contents or settings, or the part at fault.
+    /// The kind that an answered message has, the number of accepted contents, or the part at fault.
     pub fn expected(&self) -> u32 {
         match &self.input {
             Input::Message(_) | Input::Messages(_) | Input::Dump(_) => reader::DONE,
             Input::Refused(_) => reader::REFUSED,
             Input::End => reader::END,
-            Input::Contents(_) | Input::Settings(_) => 0,
+            Input::Contents(_) => 0,
             Input::Parts(part) => *part,
         }
     }
@@ -181,7 +167,6 @@ impl Call {
             (Input::Messages(datagrams), made) => each(made, lent, datagrams, page),
             (Input::Dump(datagram), made) => whole_dump(made, lent, datagram, page),
             (Input::End, made) => told(&handle(made, lent, &[], 0, page)),
-            (Input::Settings(way), made) => regroup(made, *way, lent, page),
             (Input::Parts(_), Made::Library(archive)) => library::check_box(archive, lent),
             (Input::Parts(_), Made::Reader) => {
                 reader::check_box(25, 1, &lent.roll, &lent.debug_names, &lent.flag_names, &lent.settings)
@@ -209,18 +194,6 @@ fn handle(made: Made, lent: &mut Lent, datagram: &[u8], place: u64, page: &mut [
         Made::Library(archive) => library::handle(archive, lent, datagram, place, page),
         Made::Reader => reader::handle(25, 1, roll, debug_names, flag_names, settings, datagram, 0, place, page),
     }
-}
-
-/// The number and the bytes written to the page, as many as the settings have.
-fn regroup(made: Made, way: Way, lent: &Lent, page: &mut [u8]) -> (u32, u64) {
-    let Lent { roll, debug_names, flag_names, settings } = lent;
-    let out = &mut page[..settings.len()];
-    let number = match (made, way) {
-        (Made::Library(archive), way) => library::regroup(archive, way, lent, out),
-        (Made::Reader, Way::Group) => reader::group(roll, debug_names, flag_names, settings, out),
-        (Made::Reader, Way::Ungroup) => reader::ungroup(roll, debug_names, flag_names, settings, out),
-    };
-    (number, settings.len() as u64)
 }
 
 fn each(made: Made, lent: &mut Lent, datagrams: &[Vec<u8>], page: &mut [u8]) -> (u32, u64) {

@@ -68,39 +68,3 @@ exported!(before, "before_ethnl_handle", "before_ethnl_normalise", "before_ethnl
 // No other archive is linked, and nothing is asked of one.
 #[cfg(not(feature = "before"))]
 pub use now as before;
-
-/// A converter of settings. An archive of before request C-16 has none.
-macro_rules! converter {
-    ($function:ident, $symbol:literal) => {
-        extern "C" {
-            #[link_name = $symbol]
-            pub fn $function(
-                roll: *const u8,
-                roll_len: usize,
-                debug_names: *const u8,
-                debug_names_len: usize,
-                flag_names: *const u8,
-                flag_names_len: usize,
-                settings: *const u8,
-                settings_len: usize,
-                out: *mut u8,
-                out_len: usize,
-            ) -> u32;
-        }
-    };
-}
-
-pub mod converters {
-    converter!(ethnl_group, "ethnl_group");
-    converter!(ethnl_ungroup, "ethnl_ungroup");
-}
-
-#[cfg(before_converts)]
-pub mod converters_before {
-    converter!(ethnl_group, "before_ethnl_group");
-    converter!(ethnl_ungroup, "before_ethnl_ungroup");
-}
-
-// Nothing is asked of an archive that has none.
-#[cfg(not(before_converts))]
-pub use converters as converters_before;

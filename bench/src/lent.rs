@@ -60,23 +60,13 @@ impl Lent {
         Lent { debug_names: entries(names), flag_names: entries(names), ..Self::new(1, names.len()) }
     }
 
-    /// A box whose words all differ, so that it shows where each one goes; they are right in both orders.
-    pub fn of_distinct_words(ports: usize, bits: usize) -> Self {
-        let mut lent = Self::new(ports, bits);
-        for (at, word) in lent.settings.chunks_mut(4).enumerate() {
-            word[0] &= at as u8;
-            word[1] &= (at >> 8) as u8;
-        }
-        lent
-    }
-
-    /// Both lists have as many names, so that the words are the same ones in the order of before request C-16.
     pub fn new(ports: usize, bits: usize) -> Self {
+        let of_port = full(bits).repeat(2);
         Lent {
             roll: (0..ports).flat_map(record).collect(),
             debug_names: list(bits, |bit| format!("debug-level-{bit:03}")),
             flag_names: entries(&names::queues(bits)),
-            settings: full(bits).repeat(2 * ports),
+            settings: of_port.repeat(ports),
         }
     }
 

@@ -1,6 +1,6 @@
 //! The linked library behind its C interface (`include/ethnl.h`).
 
-use crate::exported::{before, converters, converters_before, now};
+use crate::exported::{before, now};
 use crate::lent::Lent;
 use reader::Answer;
 
@@ -67,38 +67,6 @@ pub fn normalise(archive: Archive, contents: &[u8], names: &[u8], page: &mut [u8
         )
     };
     (number, written)
-}
-
-/// From which order of settings to which.
-#[derive(Clone, Copy, PartialEq, Eq)]
-pub enum Way {
-    Group,
-    Ungroup,
-}
-
-/// The number; settings that are accepted are written to the output.
-pub fn regroup(archive: Archive, way: Way, lent: &Lent, out: &mut [u8]) -> u32 {
-    let function = match (way, archive) {
-        (Way::Group, Archive::Now) => converters::ethnl_group,
-        (Way::Group, Archive::Before) => converters_before::ethnl_group,
-        (Way::Ungroup, Archive::Now) => converters::ethnl_ungroup,
-        (Way::Ungroup, Archive::Before) => converters_before::ethnl_ungroup,
-    };
-    // SAFETY: each pointer comes from a live slice or place and is followed by that slice's length.
-    unsafe {
-        function(
-            lent.roll.as_ptr(),
-            lent.roll.len(),
-            lent.debug_names.as_ptr(),
-            lent.debug_names.len(),
-            lent.flag_names.as_ptr(),
-            lent.flag_names.len(),
-            lent.settings.as_ptr(),
-            lent.settings.len(),
-            out.as_mut_ptr(),
-            out.len(),
-        )
-    }
 }
 
 /// The part at fault and the offset.

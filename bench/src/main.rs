@@ -11,7 +11,7 @@ mod search;
 mod tables;
 
 use call::{Call, Made};
-use library::{Archive, Way};
+use library::Archive;
 use std::process::ExitCode;
 
 /// Fewer runs than this give no median worth the name.
@@ -26,7 +26,7 @@ fn main() -> ExitCode {
     let (mut compared, mut growing, mut search) = (compared(), growing(), search::calls());
     let mut distinct = [64, 512].map(Call::list_check);
     let mut lists = [Call::name_lists(340, false), Call::name_lists(512, true)];
-    let (mut dumps, mut parts, mut regroups) = (dumps(), parts(), regroups());
+    let (mut dumps, mut parts) = (dumps(), parts());
     let calls = compared
         .iter_mut()
         .chain(&mut growing)
@@ -34,8 +34,7 @@ fn main() -> ExitCode {
         .chain(&mut distinct)
         .chain(&mut lists)
         .chain(&mut dumps)
-        .chain(&mut parts)
-        .chain(&mut regroups);
+        .chain(&mut parts);
     if let Some(name) = calls.into_iter().find_map(differs) {
         eprintln!("bench: library and reader differ: {name}");
         return ExitCode::FAILURE;
@@ -48,7 +47,6 @@ fn main() -> ExitCode {
     tables::dumps(&mut dumps, runs);
     tables::growth(&mut growing, runs);
     tables::parts(&mut parts, runs);
-    tables::regroups(&mut regroups, runs);
     ExitCode::SUCCESS
 }
 
@@ -86,12 +84,6 @@ fn parts() -> [Call; 4] {
     ]
 }
 
-/// Settings converted, of a small box, of more ports and of the largest box.
-fn regroups() -> Vec<Call> {
-    let both = |(ports, bits)| [Way::Group, Way::Ungroup].map(|way| Call::regroup(way, ports, bits));
-    [(1, 40), (8, 40), (64, 512)].into_iter().flat_map(both).collect()
-}
-
 /// Calls over boxes with more and more names and ports, then with longer and longer datagrams.
 fn growing() -> Vec<Call> {
     const BITS: [usize; 4] = [64, 128, 256, 512];
@@ -113,7 +105,7 @@ fn growing() -> Vec<Call> {
 fn differs(call: &mut Call) -> Option<String> {
     let library = answer(call, Made::Library(Archive::Now));
     let alike = library == answer(call, Made::Reader) && library.0 == call.expected();
-    call.before = call.is_in_before() && library == answer(call, Made::Library(Archive::Before));
+    call.before = cfg!(feature = "before") && library == answer(call, Made::Library(Archive::Before));
     (!alike).then(|| call.name.clone())
 }
 

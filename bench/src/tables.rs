@@ -26,7 +26,7 @@ fn table(calls: &mut [Call], runs: usize) -> Vec<Times> {
     times
 }
 
-/// The rows with what the archive of before takes, and the largest ratio to it where it takes turns at all.
+/// The rows with what the archive of before takes, and the largest ratio to it.
 fn beside_before(rows: &[String], times: &[Times]) {
     println!("{COLUMNS} before | to before |\n{RULE}---:|---:|");
     for (row, times) in rows.iter().zip(times) {
@@ -36,10 +36,7 @@ fn beside_before(rows: &[String], times: &[Times]) {
         }
     }
     let ratios = times.iter().filter_map(|times| times.before.as_ref()).map(|before| before.ratio);
-    match ratios.reduce(f64::max) {
-        Some(largest) => println!("\nLargest ratio to before: {largest:.2}.\n"),
-        None => println!(),
-    }
+    println!("\nLargest ratio to before: {:.2}.\n", ratios.fold(0.0, f64::max));
 }
 
 /// Each call over a small and a large box; then the largest ratio, and what box checks cost per byte.
@@ -105,11 +102,5 @@ pub fn growth(calls: &mut [Call], runs: usize) {
 /// What it costs to tell which part of the largest box is at fault.
 pub fn parts(calls: &mut [Call], runs: usize) {
     println!("Which part of a box is at fault, and where:\n");
-    table(calls, runs);
-}
-
-/// What it costs to convert the settings of a box.
-pub fn regroups(calls: &mut [Call], runs: usize) {
-    println!("Settings from one order to the other:\n");
     table(calls, runs);
 }

@@ -70,7 +70,7 @@ static void longest_replies(void)
     for (unsigned port = 0; port < ETHNL_PORTS_MAX; port++)
         snprintf((char *)roll + port * PORT + 5, ETHNL_PORT_NAME_LEN, "port-number-%03u", port % 1000);
     box.debug_names_len = box.flag_names_len = ETHNL_BITS_MAX * NAME;
-    box.settings_len = ETHNL_SETTINGS_LEN(ETHNL_PORTS_MAX, ETHNL_BITS_MAX, ETHNL_BITS_MAX);
+    box.settings_len = ETHNL_PORTS_MAX * 2 * ETHNL_SET_LEN(ETHNL_BITS_MAX);
     memset(settings, 0xFF, box.settings_len);
     ask_dump(PRIVFLAGS_GET, ACK, 0);
     check(is_whole_dump(), "64 ports, 512 flags each");
@@ -151,7 +151,8 @@ static void nothing_remembered(void)
     box_of(4);
     ask_dump(DEBUG_GET, 0, 1);
     check(is_place(3) && is_place(1) && is_place(4) && is_place(0), "places in any order");
-    box_of(3);
+    box.roll_len = 3 * PORT;
+    box.settings_len = 3 * PORT_SETTINGS;
     check(is_place(3), "a roll that got shorter: its count is DONE's place");
     memcpy(first, roll, PORT);
     memcpy(roll, roll + PORT, PORT);

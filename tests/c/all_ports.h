@@ -35,6 +35,7 @@ static inline void put_reply(struct message *reply, uint8_t command, size_t port
 {
     size_t debug_bits = box.debug_names_len / NAME, flag_bits = box.flag_names_len / NAME, nest;
     const uint8_t *record = roll + port * PORT;
+    const uint8_t *debug = settings + port * (ETHNL_SET_LEN(debug_bits) + ETHNL_SET_LEN(flag_bits));
 
     begin_message(reply, command == DEBUG_GET ? DEBUG_GET : PRIVFLAGS_REPLY, MULTI);
     nest = begin_nest(reply, HEADER);
@@ -42,9 +43,9 @@ static inline void put_reply(struct message *reply, uint8_t command, size_t port
     name(reply, PORT_NAME, (const char *)record + 5);
     end_nest(reply, nest);
     if (command == DEBUG_GET)
-        put_set(reply, debug_names, debug_of(port), debug_bits, compact);
+        put_set(reply, debug_names, debug, debug_bits, compact);
     else
-        put_set(reply, flag_names, flags_of(port), flag_bits, compact);
+        put_set(reply, flag_names, debug + ETHNL_SET_LEN(debug_bits), flag_bits, compact);
     end_request(reply);
 }
 

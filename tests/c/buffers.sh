@@ -5,7 +5,7 @@ build exact "$here/exact.c" "$lent" "$lib"
 sanitized exact-sanitized "$here/exact.c" "$lent" "$lib"
 build faults "$here/faults.c" "$lent" "$lib"
 sanitized faults-sanitized "$here/faults.c" "$lent" "$lib"
-for program in all_ports all_ports_refused name_lists name_lists_refused name_lists_longest find regroup; do
+for program in all_ports all_ports_refused name_lists name_lists_refused name_lists_longest find; do
     build $program "$here/$program.c" "$lent" "$lib"
     sanitized $program-sanitized "$here/$program.c" "$lent" "$lib"
 done
@@ -34,8 +34,7 @@ in_each_way "name lists" name_lists
 in_each_way "name lists that are refused" name_lists_refused
 in_each_way "the longest replies with name lists" name_lists_longest
 in_each_way "names that are looked for" find
-in_each_way "settings that are converted" regroup
-for program in exact faults find regroup; do
+for program in exact faults find; do
     caught "$program" end 1
     caught "$program" start 0
 done

@@ -20,22 +20,6 @@ all_ports="18 00 00 00 19 00 01 03 07 00 00 00 09 00 00 00 0d 01 00 00 04 00 01 
 check_same "daemon tells of all ports at once" "$(echo "$all_ports" | "$out/frames" pack | "$out/daemon" "$root/examples/quay.box" |
     "$out/frames" unpack | awk '{ print $5 == "03" ? "DONE" : $29 }' | tr '\n' ' ')" "01 02 03 04 05 06 07 08 DONE "
 
-# told_sets COMMAND BYTES WORDS..: the sets of all ports, so many bytes each, as a daemon with these words tells them, compact.
-told_sets() {
-    command=$1
-    bytes=$2
-    shift 2
-    echo "20 00 00 00 19 00 01 03 07 00 00 00 09 00 00 00 $command 01 00 00 0c 00 01 80 08 00 03 00 01 00 00 00" |
-        "$out/frames" pack | "$out/daemon-sanitized" "$@" | "$out/frames" unpack |
-        awk -v bytes="$bytes" '$5 != "03" { for (at = NF - bytes + 1; at <= NF; at++) printf "%s", $at; printf " " }'
-}
-
-printf '%s\n' 'family 25' 'debug - 40' 'flag - 3' 'port 7 a debug 0 39 flags 0' 'port 8 b debug 1 flags 1' \
-    'port 9 c debug 33 flags 0 2' >"$out/widths.box"
-check_same "daemon has each port's levels of the box file" "$(told_sets 07 8 "$out/widths.box")" \
-    "0100000080000000 0200000000000000 0000000002000000 "
-check_same "  and its flags" "$(told_sets 0d 4 "$out/widths.box")" "01000000 02000000 05000000 "
-
 printf '\001\200\000\000' | "$out/daemon" "$here/daemon/program.box" 2>&1 | grep -q 'datagram of 32769 bytes'
 check "daemon refuses a datagram of 32,769 bytes" $?
 printf '\024\000\000\000\024' | "$out/daemon" "$here/daemon/program.box" 2>&1 | grep -q 'inside a datagram'

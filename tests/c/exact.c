@@ -3,7 +3,7 @@
  * stated lengths, and compared with the reader's answer. What the library may only read, and the page past the
  * answer, must stay as they were.
  */
-#include "ethnl_box.h"
+#include "ethnl.h"
 #include "lend.h"
 
 #include <stdio.h>
@@ -97,63 +97,32 @@ static void judge(int right, const char *call)
     take_back();
 }
 
-/* The buffers of a box, as they were read and as they are lent. */
-struct box_bytes {
-    struct bytes roll, debug_names, flag_names, settings;
-    struct ethnl_box lent;
-};
-
-static struct box_bytes take_box(uint32_t family, uint32_t admin)
-{
-    struct box_bytes box;
-
-    box.roll = read_bytes();
-    box.debug_names = read_bytes();
-    box.flag_names = read_bytes();
-    box.settings = read_bytes();
-    box.lent = (struct ethnl_box){
-        family, admin, lend_bytes(ROLL, box.roll), box.roll.length,
-        lend_bytes(DEBUG_NAMES, box.debug_names), box.debug_names.length,
-        lend_bytes(FLAG_NAMES, box.flag_names), box.flag_names.length,
-        lend_bytes(SETTINGS, box.settings), box.settings.length,
-    };
-    return box;
-}
-
-/* Whether the box is as it was, but for its settings, which are these. */
-static int same_box(const struct box_bytes *box, struct bytes settings)
-{
-    return same(box->lent.roll, box->roll) && same(box->lent.debug_names, box->debug_names) &&
-           same(box->lent.flag_names, box->flag_names) && same(box->lent.settings, settings);
-}
-
-static void free_box(struct box_bytes *box)
-{
-    free(box->roll.at), free(box->debug_names.at), free(box->flag_names.at), free(box->settings.at);
-}
-
 static void handle_case(void)
 {
     uint32_t family = read_u32(), admin = read_u32();
-    struct box_bytes box = take_box(family, admin);
-    struct bytes datagram = read_bytes();
+    struct bytes roll = read_bytes(), debug_names = read_bytes(), flag_names = read_bytes();
+    struct bytes settings = read_bytes(), datagram = read_bytes();
     uint64_t position = read_u64(), place = read_u64();
     uint32_t page_len = read_u32(), expected_kind = read_u32(), expected_refusal = read_u32();
     uint64_t expected_next = read_u64(), expected_next_place = read_u64();
     struct bytes answer = read_bytes(), settings_after = read_bytes();
+    uint8_t *lent_roll = lend_bytes(ROLL, roll), *lent_debug = lend_bytes(DEBUG_NAMES, debug_names);
+    uint8_t *lent_flags = lend_bytes(FLAG_NAMES, flag_names), *lent_settings = lend_bytes(SETTINGS, settings);
     uint8_t *lent_datagram = lend_bytes(DATAGRAM, datagram), *page = lend_page(page_len);
     uint32_t *kind = lend(KIND, NULL, sizeof *kind), *refusal = lend(REFUSAL, NULL, sizeof *refusal);
     uint64_t *next = lend(NEXT, NULL, sizeof *next), *next_place = lend(NEXT_PLACE, NULL, sizeof *next_place);
     uint64_t *written = lend(WRITTEN, NULL, sizeof *written);
 
-    ethnl_handle(family, admin, box.lent.roll, box.lent.roll_len, box.lent.debug_names, box.lent.debug_names_len,
-                 box.lent.flag_names, box.lent.flag_names_len, box.lent.settings, box.lent.settings_len, lent_datagram,
-                 datagram.length, position, place, page, page_len, kind, refusal, next, next_place, written);
+    ethnl_handle(family, admin, lent_roll, roll.length, lent_debug, debug_names.length, lent_flags,
+                 flag_names.length, lent_settings, settings.length, lent_datagram, datagram.length, position, place,
+                 page, page_len, kind, refusal, next, next_place, written);
     judge(*kind == expected_kind && *refusal == expected_refusal && *next == expected_next &&
               *next_place == expected_next_place && *written == answer.length && page_holds(page, page_len, answer) &&
-              same_box(&box, settings_after) && same(lent_datagram, datagram),
+              same(lent_settings, settings_after) && same(lent_roll, roll) && same(lent_debug, debug_names) &&
+              same(lent_flags, flag_names) && same(lent_datagram, datagram),
           "handle");
-    free_box(&box), free(datagram.at), free(answer.at), free(settings_after.at);
+    free(roll.at), free(debug_names.at), free(flag_names.at), free(settings.at), free(datagram.at);
+    free(answer.at), free(settings_after.at);
 }
 
 static void normalise_case(void)
@@ -176,16 +145,19 @@ static void normalise_case(void)
 static void check_box_case(void)
 {
     uint32_t family = read_u32(), admin = read_u32();
-    struct box_bytes box = take_box(family, admin);
+    struct bytes roll = read_bytes(), debug_names = read_bytes(), flag_names = read_bytes(), settings = read_bytes();
     uint32_t expected = read_u32();
     uint64_t expected_offset = read_u64();
+    uint8_t *lent_roll = lend_bytes(ROLL, roll), *lent_debug = lend_bytes(DEBUG_NAMES, debug_names);
+    uint8_t *lent_flags = lend_bytes(FLAG_NAMES, flag_names), *lent_settings = lend_bytes(SETTINGS, settings);
     uint64_t *offset = lend(OFFSET, NULL, sizeof *offset);
-    uint32_t part = ethnl_check_box(family, admin, box.lent.roll, box.lent.roll_len, box.lent.debug_names,
-                                    box.lent.debug_names_len, box.lent.flag_names, box.lent.flag_names_len,
-                                    box.lent.settings, box.lent.settings_len, offset);
+    uint32_t part = ethnl_check_box(family, admin, lent_roll, roll.length, lent_debug, debug_names.length, lent_flags,
+                                    flag_names.length, lent_settings, settings.length, offset);
 
-    judge(part == expected && *offset == expected_offset && same_box(&box, box.settings), "check_box");
-    free_box(&box);
+    judge(part == expected && *offset == expected_offset && same(lent_roll, roll) && same(lent_debug, debug_names) &&
+              same(lent_flags, flag_names) && same(lent_settings, settings),
+          "check_box");
+    free(roll.at), free(debug_names.at), free(flag_names.at), free(settings.at);
 }
 
 static void find_case(void)
@@ -204,18 +176,6 @@ static void find_case(void)
     free(names.at), free(name.at);
 }
 
-static void regroup_case(const char *call, uint32_t (*convert)(const struct ethnl_box *, uint8_t *, size_t))
-{
-    struct box_bytes box = take_box(0, 0);
-    uint32_t out_len = read_u32(), expected = read_u32();
-    struct bytes converted = read_bytes();
-    uint8_t *out = lend_page(out_len);
-    uint32_t number = convert(&box.lent, out, out_len);
-
-    judge(number == expected && page_holds(out, out_len, converted) && same_box(&box, box.settings), call);
-    free_box(&box), free(converted.at);
-}
-
 /* Takes up a case of the given sort; 0 if there is none such. */
 static int take_case(uint32_t sort)
 {
@@ -227,10 +187,6 @@ static int take_case(uint32_t sort)
         check_box_case();
     else if (sort == 4)
         find_case();
-    else if (sort == 5)
-        regroup_case("group", ethnl_box_group);
-    else if (sort == 6)
-        regroup_case("ungroup", ethnl_box_ungroup);
     else
         return 0;
     return 1;

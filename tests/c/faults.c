@@ -119,28 +119,17 @@ static void words(void)
     expect("settings one byte short, and a bit past N", ETHNL_PART_SETTINGS, 2 * PORT_SETTINGS - 1);
     box.settings_len = 2 * PORT_SETTINGS + 4;
     expect("settings one word too long", ETHNL_PART_SETTINGS, 2 * PORT_SETTINGS);
-}
-
-/* The debug sets of the two ports are the words at 0 and 4, their flags those from 8 and from 16 on. */
-static void bits_past_n(void)
-{
-    settings[0] = settings[4] = 7;
-    memset(settings + 8, 0xFF, 4);
-    memset(settings + 16, 0xFF, 4);
-    settings[12] = settings[20] = 1;
+    memset(settings + 4, 0xFF, 4);
+    settings[8] = 1;
+    settings[PORT_SETTINGS] = 7;
     expect("all bits below N on", ETHNL_PART_NONE, 0);
     settings[0] = 8;
     expect("debug bit 3 of the first port", ETHNL_PART_SETTINGS, 0);
-    settings[7] = 0x80;
-    settings[15] = 0x80;
-    expect("debug bit 31 of the second port, then a flag of the first", ETHNL_PART_SETTINGS, 4);
-    settings[15] = 0x80;
-    settings[20] = 0xFF;
-    expect("flag 63 of the first port, then another", ETHNL_PART_SETTINGS, 12);
-    settings[20] = 2;
-    expect("flag 33 of the second port", ETHNL_PART_SETTINGS, 20);
-    memset(settings + 4, 0xFF, 4);
-    expect("the first port's flags where they lay by port", ETHNL_PART_SETTINGS, 4);
+    settings[11] = 0x80;
+    settings[PORT_SETTINGS] = 0xFF;
+    expect("flag 63 of the first port, then another", ETHNL_PART_SETTINGS, 8);
+    settings[PORT_SETTINGS + 8] = 2;
+    expect("flag 33 of the second port", ETHNL_PART_SETTINGS, PORT_SETTINGS + 8);
 }
 
 int main(int argc, char **argv)
@@ -153,6 +142,5 @@ int main(int argc, char **argv)
     roll_values();
     lists();
     words();
-    bits_past_n();
     return checked();
 }

@@ -19,10 +19,9 @@ installs install DESTDIR="$stage"
 check "make install into DESTDIR" $?
 check_same "  its files" "$(files "$stage/usr/local")" "./include/ethnl.h ./include/ethnl_box.h ./lib/libethnl.a \
 ./lib/pkgconfig/ethnl.pc ./share/doc/ethnl/LICENSE ./share/doc/ethnl/examples/box.c ./share/doc/ethnl/examples/box.h \
-./share/doc/ethnl/examples/daemon.c ./share/doc/ethnl/examples/quay.box ./share/doc/ethnl/examples/regroup.c \
-./share/doc/ethnl/examples/same.c ./share/man/man3/ethnl.3 ./share/man/man3/ethnl_check_box.3 \
-./share/man/man3/ethnl_find.3 ./share/man/man3/ethnl_group.3 ./share/man/man3/ethnl_handle.3 \
-./share/man/man3/ethnl_normalise.3 ./share/man/man3/ethnl_ungroup.3 "
+./share/doc/ethnl/examples/daemon.c ./share/doc/ethnl/examples/quay.box ./share/doc/ethnl/examples/same.c \
+./share/man/man3/ethnl.3 ./share/man/man3/ethnl_check_box.3 ./share/man/man3/ethnl_find.3 \
+./share/man/man3/ethnl_handle.3 ./share/man/man3/ethnl_normalise.3 "
 installs uninstall DESTDIR="$stage"
 check_same "make uninstall leaves none of them" "$(files "$stage")" ""
 
@@ -61,13 +60,9 @@ if command -v pkg-config >/dev/null; then
     check_same "pkg-config tells the version of the header" "$(asked --modversion)" "$version"
     check_same "pkg-config tells the directories" "$(asked --cflags --libs | sed 's/ $//')" \
         "-I$out/prefix/include -L$out/prefix/lib64 -lethnl"
-    for example in daemon regroup; do
-        (cd "$out/prefix/share/doc/ethnl/examples" &&
-            gcc $warnings -o "$out/$example-installed" $example.c box.c $(asked --cflags --libs))
-        check "the installed $example.c builds with the flags of pkg-config" $?
-    done
+    (cd "$out/prefix/share/doc/ethnl/examples" && gcc $warnings -o "$out/daemon-installed" daemon.c box.c $(asked --cflags --libs))
+    check "the installed example builds with the flags of pkg-config" $?
     serves daemon-installed
-    converts regroup-installed
 else
     skip "no pkg-config to ask for flags"
 fi

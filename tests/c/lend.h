@@ -8,7 +8,7 @@
 /* What each buffer of a call is for; a slot is lent once in a case. */
 enum slot {
     ROLL, DEBUG_NAMES, FLAG_NAMES, SETTINGS, DATAGRAM, PAGE, KIND, REFUSAL, NEXT, NEXT_PLACE, WRITTEN, OFFSET,
-    SOUGHT, FOUND, COMPARED, OUT, SLOTS
+    SOUGHT, FOUND, COMPARED, SLOTS
 };
 
 /*

@@ -28,7 +28,7 @@ static void box_of_names(size_t classes, size_t last)
     fill_names(debug_names, classes, last);
     box.flag_names_len = ETHNL_BITS_MAX * NAME;
     box.debug_names_len = classes * NAME;
-    box.settings_len = ETHNL_SETTINGS_LEN(2, classes, ETHNL_BITS_MAX);
+    box.settings_len = 2 * (ETHNL_SET_LEN(classes) + ETHNL_SET_LEN(ETHNL_BITS_MAX));
 }
 
 /*

@@ -9,7 +9,7 @@
 #include <string.h>
 
 enum { DEBUG_BITS = 3, FLAG_BITS = 33, PORT = ETHNL_ROLL_RECORD, NAME = ETHNL_NAME_LEN };
-enum { PORT_SETTINGS = ETHNL_SETTINGS_LEN(1, DEBUG_BITS, FLAG_BITS) };
+enum { PORT_SETTINGS = ETHNL_SET_LEN(DEBUG_BITS) + ETHNL_SET_LEN(FLAG_BITS) };
 
 static uint8_t roll[(ETHNL_PORTS_MAX + 1) * PORT];
 static uint8_t debug_names[(ETHNL_BITS_MAX + 1) * NAME], flag_names[(ETHNL_BITS_MAX + 1) * NAME];
@@ -40,22 +40,6 @@ static inline void right_box(void)
     strcpy((char *)flag_names + 2 * NAME, "link");
     box = (struct ethnl_box){25, 1, roll, 2 * PORT, debug_names, DEBUG_BITS * NAME, flag_names, FLAG_BITS * NAME,
                              settings, 2 * PORT_SETTINGS};
-}
-
-static inline size_t ports(void)
-{
-    return box.roll_len / PORT;
-}
-
-/* Where the sets of a port lie among the settings of the box as it stands. */
-static inline uint8_t *debug_of(size_t port)
-{
-    return settings + ETHNL_DEBUG_AT(port, box.debug_names_len / NAME);
-}
-
-static inline uint8_t *flags_of(size_t port)
-{
-    return settings + ETHNL_FLAGS_AT(port, ports(), box.debug_names_len / NAME, box.flag_names_len / NAME);
 }
 
 /* The box in buffers of exactly its lengths. */

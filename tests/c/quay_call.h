@@ -19,6 +19,11 @@ static size_t page_len = ETHNL_PAGE_MIN;
 /* Whether the call left alone all that it may only read; of a SET that was done the settings are taken over. */
 static int kept;
 
+static size_t ports(void)
+{
+    return box.roll_len / PORT;
+}
+
 /* So many ports, with indexes that fall where the roll goes on, and sets of their own. */
 static inline void box_of(size_t count)
 {
@@ -26,10 +31,11 @@ static inline void box_of(size_t count)
     box.roll_len = count * PORT;
     box.settings_len = count * PORT_SETTINGS;
     for (size_t port = 0; port < count; port++) {
+        uint8_t *sets = settings + port * PORT_SETTINGS;
         roll[port * PORT + 1] = (uint8_t)(200 - port);
-        debug_of(port)[0] = (uint8_t)(port % 8);
-        flags_of(port)[0] = (uint8_t)(3 * port + 1);
-        flags_of(port)[4] = port % 2;
+        sets[0] = (uint8_t)(port % 8);
+        sets[4] = (uint8_t)(3 * port + 1);
+        sets[8] = port % 2;
     }
 }
 

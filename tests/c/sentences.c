@@ -12,7 +12,7 @@ struct row {
 static const struct row refusals[] = {
     {0, "no refusal"},
     {ETHNL_REFUSAL_BOX, "breaks a rule, or the place"},
-    {ETHNL_REFUSAL_PAGE, "page is too short, or the output"},
+    {ETHNL_REFUSAL_PAGE, "page"},
     {ETHNL_REFUSAL_DATAGRAM, "datagram is too long"},
     {ETHNL_REFUSAL_MESSAGE_LEN, "message's length"},
     {ETHNL_REFUSAL_FAMILY, "family"},

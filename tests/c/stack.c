@@ -17,8 +17,7 @@ enum { PAINT = 0xA5, OWN_FRAME = 256, LAST = ETHNL_PORTS_MAX };
 static uint8_t stack[1 << 20] __attribute__((aligned(4096)));
 static uint8_t roll[ETHNL_PORTS_MAX * ETHNL_ROLL_RECORD + 1];
 static uint8_t names[ETHNL_BITS_MAX * ETHNL_NAME_LEN + 1];
-static uint8_t settings[ETHNL_SETTINGS_LEN(ETHNL_PORTS_MAX, ETHNL_BITS_MAX, ETHNL_BITS_MAX)];
-static uint8_t out[sizeof settings + 1];
+static uint8_t settings[ETHNL_PORTS_MAX * 2 * ETHNL_SET_LEN(ETHNL_BITS_MAX)];
 static uint8_t page[ETHNL_PAGE_MIN];
 static struct ethnl_box box;
 static struct message request, contents;
@@ -79,18 +78,6 @@ static void check_box(void)
 static void find(void)
 {
     number_back = ethnl_find_name(box.flag_names, box.flag_names_len, "the-name-of-the-bit-number-x511").refusal;
-}
-
-static size_t out_len = sizeof settings;
-
-static void group(void)
-{
-    number_back = ethnl_box_group(&box, out, out_len);
-}
-
-static void ungroup(void)
-{
-    number_back = ethnl_box_ungroup(&box, out, out_len);
 }
 
 /* Bytes below the caller's frame that a call writes. */
@@ -190,29 +177,14 @@ static void requests(void)
     set("a SET whose last attribute is cut short", ETHNL_REFUSAL_ATTRIBUTE_LEN);
 }
 
-/* Both ways of converting the settings as they stand. */
-static void conversions(const char *what, uint32_t expected)
-{
-    char line[60];
-
-    snprintf(line, sizeof line, "settings grouped, %s", what);
-    measure(line, group, expected);
-    snprintf(line, sizeof line, "settings ungrouped, %s", what);
-    measure(line, ungroup, expected);
-}
-
 /* The faults come last in the box, so that all that is right is looked at first. */
 static void boxes(void)
 {
     measure("a right box", check_box, ETHNL_PART_NONE);
     measure("a name that is not in its list", find, 0);
-    conversions("of this box", 0);
-    out_len++;
-    conversions("one byte too much room", ETHNL_REFUSAL_PAGE);
     box.flag_names_len -= ETHNL_NAME_LEN;
     measure("a bit past the end of each set", check_box, ETHNL_PART_SETTINGS);
     measure("a request to this box", handle, ETHNL_REFUSAL_BOX);
-    conversions("of this box", ETHNL_REFUSAL_BOX);
     box.flag_names_len += ETHNL_NAME_LEN + 1;
     measure("a list that is one byte too long", check_box, ETHNL_PART_FLAG_NAMES);
     measure("a name that is not in this list", find, ETHNL_REFUSAL_BOX);

@@ -1,6 +1,6 @@
 /*
- * A library that touches one byte too far, to show that `exact`, `faults`, `find` and `regroup` tell: past the end of a
- * buffer, or before its start (-DPAST_END=1, 0).
+ * A library that touches one byte too far, to show that `exact`, `faults` and `find` tell: past the end of a buffer, or
+ * before its start (-DPAST_END=1, 0).
  */
 #include "ethnl.h"
 
@@ -48,28 +48,4 @@ uint32_t ethnl_check_box(uint32_t family, uint32_t admin, const uint8_t *roll, s
     (void)settings, (void)settings_len;
     *offset = too_far(roll, roll_len);
     return 0;
-}
-
-/* Writes one byte too far; nothing that may only be read is touched. */
-static uint32_t put_too_far(volatile uint8_t *out, size_t out_len)
-{
-    out[PAST_END ? out_len : (size_t)-1] = 0;
-    return 0;
-}
-
-uint32_t ethnl_group(const uint8_t *roll, size_t roll_len, const uint8_t *debug_names, size_t debug_names_len,
-                     const uint8_t *flag_names, size_t flag_names_len, const uint8_t *settings, size_t settings_len,
-                     uint8_t *out, size_t out_len)
-{
-    (void)roll, (void)roll_len, (void)debug_names, (void)debug_names_len, (void)flag_names, (void)flag_names_len;
-    (void)settings, (void)settings_len;
-    return put_too_far(out, out_len);
-}
-
-uint32_t ethnl_ungroup(const uint8_t *roll, size_t roll_len, const uint8_t *debug_names, size_t debug_names_len,
-                       const uint8_t *flag_names, size_t flag_names_len, const uint8_t *settings, size_t settings_len,
-                       uint8_t *out, size_t out_len)
-{
-    return ethnl_group(roll, roll_len, debug_names, debug_names_len, flag_names, flag_names_len, settings,
-                       settings_len, out, out_len);
 }

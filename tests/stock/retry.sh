@@ -29,5 +29,5 @@ storm-guard: on" --show-priv-flags quay$port
 done
 expect 0 "Private flags for quay6:
 vlan-filter: on" --show-priv-flags quay6
-check "stored words of quay1 to quay8, all levels, then all flags" "$(od -An -v -tu4 -w64 "$ETHNL_STATE" | tr -s ' ')" \
-    " 7 7 7 7 7 7 7 7 5 5 5 5 5 2 5 5"
+check "stored words of quay1 to quay8, levels and flags" "$(od -An -v -tu4 -w64 "$ETHNL_STATE" | tr -s ' ')" \
+    " 7 5 7 5 7 5 7 5 7 5 7 2 7 5 7 5"

@@ -5,8 +5,8 @@
  * there when the request has been sent, and each further one is made when the tool reads it.
  *
  *   ETHNL_BOX       the box, in the format of examples/quay.box
- *   ETHNL_STATE     its settings, as ethnl.h orders them: read before each call of the library and written after it, so
- *                   that several tools at once have one box
+ *   ETHNL_STATE     its settings: read before each call of the library and written after it, so that several tools at
+ *                   once have one box
  *   ETHNL_SENT      gets each ethtool datagram that is sent, its 32-bit length before it
  *   ETHNL_REFUSALS  gets the number of each refusal, one a line
  *   ETHNL_OUTSIDE   gets a line "ioctl" or "rtnetlink" for each time that the machine's own cards would have been asked

@@ -25,5 +25,5 @@ unfolding port_roll program_box byte_at P.port_count P.ports_of P.record_ports P
 one-port = refl
 
 pub box-right : (at place : ℕ) → place ≤ 1 → box_right program_box first_state (call_at at place) ≡ true
-unfolding box_right lists_right family_right admin_right place_right port_roll debug_names flag_names first_words program_box first_state all byte_at u32_at part_of R.roll_right R.port_right R.ports_distinct R.is_new R.another P.ports_listed P.all_whole P.port_count P.ports_of P.record_ports P.port_at P.index_of P.name_of P.records P.records_up_to P.record_at P.record_size M.name_at M.name_right U.nul_then_nul N.names_right N.right_at N.entry_right E.entry_at E.entries_distinct E.entry_new E.differs E.same_entry U.same_byte S.settings_right S.port_clear S.set_clear L.list_of L.size_of L.every_set L.port_words L.first_of L.total_words L.place_of L.set_at B.none_from B.clear_from B.has
+unfolding box_right lists_right family_right admin_right place_right port_roll debug_names flag_names first_words program_box first_state all byte_at u32_at part_of R.roll_right R.port_right R.ports_distinct R.is_new R.another P.ports_listed P.all_whole P.port_count P.ports_of P.record_ports P.port_at P.index_of P.name_of P.records P.records_up_to P.record_at P.record_size M.name_at M.name_right U.nul_then_nul N.names_right N.right_at N.entry_right E.entry_at E.entries_distinct E.entry_new E.differs E.same_entry U.same_byte S.settings_right S.port_clear S.set_clear L.list_of L.size_of L.every_set L.port_words L.first_of L.total_words L.set_place L.set_at B.none_from B.clear_from B.has
 box-right at place h = rw (le-leb place 1 h) refl

@@ -52,7 +52,7 @@ request =
     ∷ 0x08 ∷ 0x00 ∷ 0x03 ∷ 0x00 ∷ 0x01 ∷ 0x00 ∷ 0x00 ∷ 0x00 ∷ []
 
 first-call : call request first_state 0 0 ≡ A.unchanged (A.response_of Done 40 whole_reply) first_state
-unfolding call K.outcome K.position_outcome K.message_outcome OB.request_outcome OB.header_outcome OB.port_outcome OB.get_bytes OB.content_in X.set_of OB.port_reply A.ack_bytes port_roll debug_names flag_names first_words program_box first_state message_at H.message_header_at H.generic_header_at H.attribute_header_at T.attribute_at T.part_of T.attributes_up_to T.attributes Y.rule_of Y.nul_at Y.is_name_payload Y.plain Y.nested Y.judged W.first_fault W.last_of_type W.walked W.slot_number Q.is_dump Q.no_dump Q.not_permitted Q.permitted Q.admitted C.command_in C.command_of top_policy top_parts header_parts O.nests_of O.top_of HR.flags_judged HR.parts_of HR.header_of G.other_name G.port_by_index G.port_by_name G.port_of I.with_flags I.target_of F.find_port F.has_index F.found_by_index P.port_count P.ports_of P.record_ports P.port_at P.index_of P.name_of P.records P.records_up_to P.record_at P.record_size M.name_at L.list_of L.size_of L.port_words L.first_of L.total_words L.place_of L.set_at byte_at u16_at u32_at all first RM.reply_bytes RM.headers_bytes RM.attributes_bytes RS.set_bytes RS.contents_bytes RS.compact_bytes RS.opening_bytes IN.index_nest IN.index_and_name IN.name_if_any TW.name_bytes TW.nest TW.attr TW.padding HW.message_header_bytes HW.generic_header_bytes HW.attribute_header_bytes bytes_of
+unfolding call K.outcome K.position_outcome K.message_outcome OB.request_outcome OB.header_outcome OB.port_outcome OB.get_bytes OB.content_in X.set_of OB.port_reply A.ack_bytes port_roll debug_names flag_names first_words program_box first_state message_at H.message_header_at H.generic_header_at H.attribute_header_at T.attribute_at T.part_of T.attributes_up_to T.attributes Y.rule_of Y.nul_at Y.is_name_payload Y.plain Y.nested Y.judged W.first_fault W.last_of_type W.walked W.slot_number Q.is_dump Q.no_dump Q.not_permitted Q.permitted Q.admitted C.command_in C.command_of top_policy top_parts header_parts O.nests_of O.top_of HR.flags_judged HR.parts_of HR.header_of G.other_name G.port_by_index G.port_by_name G.port_of I.with_flags I.target_of F.find_port F.has_index F.found_by_index P.port_count P.ports_of P.record_ports P.port_at P.index_of P.name_of P.records P.records_up_to P.record_at P.record_size M.name_at L.list_of L.size_of L.port_words L.first_of L.total_words L.set_place L.set_at byte_at u16_at u32_at all first RM.reply_bytes RM.headers_bytes RM.attributes_bytes RS.set_bytes RS.contents_bytes RS.compact_bytes RS.opening_bytes IN.index_nest IN.index_and_name IN.name_if_any TW.name_bytes TW.nest TW.attr TW.padding HW.message_header_bytes HW.generic_header_bytes HW.attribute_header_bytes bytes_of
 first-call = rw (box-right 0 0 (omega arith)) refl
 
 last-call : call request first_state 40 0 ≡ A.unchanged (A.no_bytes End 40) first_state
@@ -83,7 +83,7 @@ debug_reply =
     ∷ 0x00 ∷ 0x00 ∷ 0x00 ∷ 0x00 ∷ []
 
 debug-call : call debug_request first_state 0 0 ≡ A.unchanged (A.response_of Done 40 debug_reply) first_state
-unfolding call K.outcome K.position_outcome K.message_outcome OB.request_outcome OB.header_outcome OB.port_outcome OB.get_bytes OB.content_in X.set_of OB.port_reply A.ack_bytes port_roll debug_names flag_names first_words program_box first_state message_at H.message_header_at H.generic_header_at H.attribute_header_at T.attribute_at T.part_of T.attributes_up_to T.attributes Y.rule_of Y.nul_at Y.is_name_payload Y.plain Y.nested Y.judged W.first_fault W.last_of_type W.walked W.slot_number Q.is_dump Q.no_dump Q.not_permitted Q.permitted Q.admitted C.command_in C.command_of top_policy top_parts header_parts O.nests_of O.top_of HR.flags_judged HR.parts_of HR.header_of G.other_name G.port_by_index G.port_by_name G.port_of I.with_flags I.target_of F.find_port F.has_index F.found_by_index P.port_count P.ports_of P.record_ports P.port_at P.index_of P.name_of P.records P.records_up_to P.record_at P.record_size M.name_at L.list_of L.size_of L.port_words L.first_of L.total_words L.place_of L.set_at byte_at u16_at u32_at all first RM.reply_bytes RM.headers_bytes RM.attributes_bytes RS.set_bytes RS.contents_bytes RS.compact_bytes RS.opening_bytes IN.index_nest IN.index_and_name IN.name_if_any TW.name_bytes TW.nest TW.attr TW.padding HW.message_header_bytes HW.generic_header_bytes HW.attribute_header_bytes bytes_of
+unfolding call K.outcome K.position_outcome K.message_outcome OB.request_outcome OB.header_outcome OB.port_outcome OB.get_bytes OB.content_in X.set_of OB.port_reply A.ack_bytes port_roll debug_names flag_names first_words program_box first_state message_at H.message_header_at H.generic_header_at H.attribute_header_at T.attribute_at T.part_of T.attributes_up_to T.attributes Y.rule_of Y.nul_at Y.is_name_payload Y.plain Y.nested Y.judged W.first_fault W.last_of_type W.walked W.slot_number Q.is_dump Q.no_dump Q.not_permitted Q.permitted Q.admitted C.command_in C.command_of top_policy top_parts header_parts O.nests_of O.top_of HR.flags_judged HR.parts_of HR.header_of G.other_name G.port_by_index G.port_by_name G.port_of I.with_flags I.target_of F.find_port F.has_index F.found_by_index P.port_count P.ports_of P.record_ports P.port_at P.index_of P.name_of P.records P.records_up_to P.record_at P.record_size M.name_at L.list_of L.size_of L.port_words L.first_of L.total_words L.set_place L.set_at byte_at u16_at u32_at all first RM.reply_bytes RM.headers_bytes RM.attributes_bytes RS.set_bytes RS.contents_bytes RS.compact_bytes RS.opening_bytes IN.index_nest IN.index_and_name IN.name_if_any TW.name_bytes TW.nest TW.attr TW.padding HW.message_header_bytes HW.generic_header_bytes HW.attribute_header_bytes bytes_of
 debug-call = rw (box-right 0 0 (omega arith)) refl
 
 debug-last : call debug_request first_state 40 0 ≡ A.unchanged (A.no_bytes End 40) first_state
@@ -115,7 +115,7 @@ done_reply =
     ∷ 0x00 ∷ 0x00 ∷ 0x00 ∷ 0x00 ∷ []
 
 dump-port : call dump_request first_state 0 0 ≡ A.unchanged (record { kind = Done; next = 0; place = 1; bytes = multi_reply }) first_state
-unfolding call K.outcome K.position_outcome K.message_outcome OB.request_outcome OB.header_outcome OB.dump_response OB.port_response OB.port_reply OB.content_in X.set_of port_roll debug_names flag_names first_words program_box first_state message_at H.message_header_at H.generic_header_at H.attribute_header_at T.attribute_at T.part_of T.attributes_up_to T.attributes Y.rule_of Y.nul_at Y.is_name_payload Y.plain Y.nested Y.judged W.first_fault W.last_of_type W.walked W.slot_number Q.is_dump Q.no_dump Q.not_permitted Q.permitted Q.admitted C.command_in C.command_of top_policy top_parts header_parts O.nests_of O.top_of HR.flags_judged HR.dump_parts_of HR.header_of I.target_of P.port_count P.ports_of P.record_ports P.port_at P.index_of P.name_of P.records P.records_up_to P.record_at P.record_size M.name_at L.list_of L.size_of L.port_words L.first_of L.total_words L.place_of L.set_at byte_at u16_at u32_at all first RM.reply_bytes RM.headers_bytes RM.attributes_bytes RS.set_bytes RS.contents_bytes RS.compact_bytes RS.opening_bytes IN.index_nest IN.index_and_name IN.name_if_any TW.name_bytes TW.nest TW.attr TW.padding HW.message_header_bytes HW.generic_header_bytes HW.attribute_header_bytes bytes_of
+unfolding call K.outcome K.position_outcome K.message_outcome OB.request_outcome OB.header_outcome OB.dump_response OB.port_response OB.port_reply OB.content_in X.set_of port_roll debug_names flag_names first_words program_box first_state message_at H.message_header_at H.generic_header_at H.attribute_header_at T.attribute_at T.part_of T.attributes_up_to T.attributes Y.rule_of Y.nul_at Y.is_name_payload Y.plain Y.nested Y.judged W.first_fault W.last_of_type W.walked W.slot_number Q.is_dump Q.no_dump Q.not_permitted Q.permitted Q.admitted C.command_in C.command_of top_policy top_parts header_parts O.nests_of O.top_of HR.flags_judged HR.dump_parts_of HR.header_of I.target_of P.port_count P.ports_of P.record_ports P.port_at P.index_of P.name_of P.records P.records_up_to P.record_at P.record_size M.name_at L.list_of L.size_of L.port_words L.first_of L.total_words L.set_place L.set_at byte_at u16_at u32_at all first RM.reply_bytes RM.headers_bytes RM.attributes_bytes RS.set_bytes RS.contents_bytes RS.compact_bytes RS.opening_bytes IN.index_nest IN.index_and_name IN.name_if_any TW.name_bytes TW.nest TW.attr TW.padding HW.message_header_bytes HW.generic_header_bytes HW.attribute_header_bytes bytes_of
 dump-port = rw (box-right 0 0 (omega arith)) refl
 
 dump-done : call dump_request first_state 0 1 ≡ A.unchanged (A.response_of Done 32 done_reply) first_state

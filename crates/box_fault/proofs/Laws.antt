@@ -71,7 +71,7 @@ module _ (family admin : ℕ) (roll debug flags settings : List ℕ) (r : Fault)
                 e ∙ rw eo (sym (rw (le-leb _ _ l, le-leb _ _ u, le-leb _ _ a, ← eb, not-false b hb, ← ed, not-false d hd, ← ef, not-true f h)))
 
             pub settings-decide : (t : List ℕ) (sizes : Sizes) → not f ≡ false → TableRead roll t → sizes ≡ sizes_in box
-                → r ≡ settings_fault box.layout.place settings (length t) sizes → r ≡ told
+                → r ≡ settings_fault settings (length t) sizes → r ≡ told
             unfolding box_fault family_right admin_right
             settings-decide t sizes hf rd es e =
                 let ports : length t ≡ ports_in box = (R.right-tabled roll t rd (sym eb ∙ not-false b hb)).count in

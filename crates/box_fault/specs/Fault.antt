@@ -28,4 +28,4 @@ box_fault family admin box settings =
     (cond (not (roll_right box.roll)) (fault_at Roll (right_up_to roll_right box.roll))
     (cond (not (names_right box.names.debug)) (fault_at DebugNames (right_up_to names_right box.names.debug))
     (cond (not (names_right box.names.flags)) (fault_at FlagNames (right_up_to names_right box.names.flags))
-    (settings_fault box.layout.place settings (ports_in box) (sizes_in box))))))
+    (settings_fault settings (ports_in box) (sizes_in box))))))

@@ -3,7 +3,7 @@ use Rattle.std.specs.Prelude.{ℕ, ◌*◌, min, List, Bool, not, cond, length, 
 use Rattle.basics.specs.Put.{put}
 use Rattle.word_bytes.specs.Bytes.{words_in}
 use Rattle.layout.specs.declared.Sizes.{Sizes}
-use Rattle.layout.specs.Layout.{Place, widths_of, total_words}
+use Rattle.layout.specs.Layout.{widths_of, total_words}
 use Rattle.boxes.specs.Settings.{settings_right}
 use Rattle.box_fault.specs.Longest.{right_up_to}
 use Rattle.box_fault.specs.declared.Fault.{Fault}
@@ -23,12 +23,12 @@ unfoldable pub with_zeros : ℕ → Sizes → List ℕ → List ℕ
 with_zeros ports sizes words = put (replicate (total_words ports (widths_of sizes)) 0) words
 
 -- these are right
-unfoldable pub right_with_zeros : Place → ℕ → Sizes → List ℕ → Bool
-right_with_zeros place ports sizes words = settings_right place (with_zeros ports sizes words) ports sizes
+unfoldable pub right_with_zeros : ℕ → Sizes → List ℕ → Bool
+right_with_zeros ports sizes words = settings_right (with_zeros ports sizes words) ports sizes
 
 -- of another length: the smaller of the two lengths; else where the longest beginning of whole words ends that is right with zeros behind it
-unfoldable pub settings_fault : Place → List ℕ → ℕ → Sizes → Fault
-settings_fault place settings ports sizes =
+unfoldable pub settings_fault : List ℕ → ℕ → Sizes → Fault
+settings_fault settings ports sizes =
     cond (not (eqb (length settings) (right_length ports sizes))) (fault_at Settings (min (length settings) (right_length ports sizes)))
-    (cond (not (settings_right place (words_in settings) ports sizes)) (fault_at Settings (right_up_to (right_with_zeros place ports sizes) (words_in settings) * 4))
+    (cond (not (settings_right (words_in settings) ports sizes)) (fault_at Settings (right_up_to (right_with_zeros ports sizes) (words_in settings) * 4))
     (fault_at Sound 0))

@@ -1,40 +1,23 @@
 -- What a call is lent (document 01, "The box a call is given"): the box, which no call changes, and the state, which a call may change.
-use Rattle.std.specs.Prelude.{ℕ, ◌≡◌, List}
+use Rattle.std.specs.Prelude.{ℕ, List}
 use Rattle.entries.specs.Entry.{count}
 use Rattle.roll.specs.Record.{port_count}
-use Rattle.layout.specs.declared.Order.{Order}
-use Rattle.layout.specs.declared.Order.TheVariants.{BySet}
 use Rattle.layout.specs.declared.Set.{Set}
 use Rattle.layout.specs.declared.Sizes.{Sizes}
-use Rattle.layout.specs.Layout.{Names, names_of, of_lists, widths_of, size_of, place_of, set_at}
-use Rattle.layout.specs.Lawful.{Layout}
-use Rattle.layout.proofs.Orders.{lawful}
+use Rattle.layout.specs.Layout.{Names, names_of, of_lists, widths_of, size_of, set_place, set_at}
 
--- what no call changes: the roll, the names of each set, and where the sets lie among the words
+-- what no call changes: the roll and the names of each set
 pub record Box : Type 0 where
   pub roll : List ℕ
   pub names : Names
-  pub layout : Layout
 
 -- what a call may change: the words of all ports' sets
 pub record State : Type 0 where
   pub words : List ℕ
 
--- the layout of an order
-abbrev pub layout_of : Order → Layout
-layout_of order = record { place = place_of order; lawful = lawful order }
-
--- a box whose words lie in an order
-abbrev pub box_by : Order → List ℕ → List ℕ → List ℕ → Box
-box_by order roll debug flags = record { roll = roll; names = names_of debug flags; layout = layout_of order }
-
--- the box, as it is lent; request C-16: "all debug sets, then all flags"
+-- the box, as it is lent
 abbrev pub box_of : List ℕ → List ℕ → List ℕ → Box
-box_of roll debug flags = box_by BySet roll debug flags
-
--- its words lie so
-abbrev pub Grouped : Box → Type 0
-Grouped box = box.layout.place ≡ place_of BySet
+box_of roll debug flags = record { roll = roll; names = names_of debug flags }
 
 -- the state, as it is lent
 abbrev pub state_of : List ℕ → State
@@ -54,7 +37,7 @@ widths_in box = widths_of (sizes_in box)
 
 -- where a set of the port at a position begins
 unfoldable pub place_in : Box → ℕ → Set → ℕ
-place_in box position set = box.layout.place (ports_in box) (widths_in box) position set
+place_in box position set = set_place (ports_in box) (widths_in box) position set
 
 -- how many words a set has
 unfoldable pub width_in : Box → Set → ℕ
@@ -62,4 +45,4 @@ width_in box set = size_of (widths_in box) set
 
 -- the words of a set of the port at a position
 unfoldable pub set_of : Box → State → ℕ → Set → List ℕ
-set_of box state position set = set_at box.layout.place state.words (ports_in box) (widths_in box) position set
+set_of box state position set = set_at state.words (ports_in box) (widths_in box) position set

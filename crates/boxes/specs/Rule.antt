@@ -30,4 +30,4 @@ box_right box state call =
     && (admin_right call.admin
     && (roll_right box.roll
     && (place_right (ports_in box) call.place
-    && (lists_right box.names && settings_right box.layout.place state.words (ports_in box) (sizes_in box)))))
+    && (lists_right box.names && settings_right state.words (ports_in box) (sizes_in box)))))

@@ -4,7 +4,7 @@ pub mod rule;
 pub mod settings;
 
 pub use rule::box_right;
-pub use settings::{set_at, settings_right, words_of};
+pub use settings::{set_at, settings_right};
 
 // The numbers that a call is given. The place is that of a dump: which port is next, or the port count for its end.
 #[derive(Drop)]

@@ -7,7 +7,6 @@ ghost use Rattle.boxes.specs.Rule.{box_right};
 use crate::Call;
 use crate::lists::{lists_right, sizes};
 use crate::settings::settings_right;
-use layout::Order;
 
 // Whether a box breaks no rule. The table is that of its roll.
 pub fn box_right(
@@ -39,5 +38,5 @@ pub fn box_right(
     if !lists_right(debug, flags) {
         return false;
     }
-    settings_right(Order::BySet, settings, ports.len(), sizes(debug, flags))
+    settings_right(settings, ports.len(), sizes(debug, flags))
 }

@@ -3,7 +3,7 @@
 --     kept-rules     where every part keeps its rule the box keeps `StoredRules`, at any position of a datagram
 --     rules-kept     and where it does every part keeps its rule
 use Prim.Native.Nat.{ℕ, suc, ◌*◌, ◌≤◌, ◌<◌, min}
-use mathlib.Core.Path.{◌≡◌, refl, sym, subst}
+use mathlib.Core.Path.{◌≡◌, refl}
 use mathlib.Core.List.{List}
 use mathlib.Core.Bool.{Bool, true, false, not, cond}
 use mathlib.Core.Logic.{⊎_elim}
@@ -17,9 +17,6 @@ use Rattle.word_bytes.specs.Bytes.{words_in}
 use Rattle.word_bytes.proofs.WordBytes.{length-words_in}
 use Rattle.names.specs.Rule.{names_right}
 use Rattle.roll_rule.specs.Rule.{roll_right}
-use Rattle.layout.specs.declared.Order.TheVariants.{BySet}
-use Rattle.layout.specs.Layout as L
-use Rattle.layout.specs.Layout.{place_of}
 use Rattle.boxes.specs.Box.{Box, ports_in, sizes_in}
 use Rattle.boxes.specs.Rule.{family_right, admin_right}
 use Rattle.boxes.specs.Settings.{settings_right}
@@ -185,21 +182,21 @@ module _ (c : BoxParts) where
   abbrev Lent : ℕ → ℕ → ℕ → Type 0
   Lent ports debug flags = Settings ports debug flags (words_in stored)
 
-  kept-settings : Kept c 6 → (length stored ≡ right_length (ports_in box) (sizes_in box)) × (settings_right (place_of BySet) (words_in stored) (ports_in box) (sizes_in box) ≡ true)
+  kept-settings : Kept c 6 → (length stored ≡ right_length (ports_in box) (sizes_in box)) × (settings_right (words_in stored) (ports_in box) (sizes_in box) ≡ true)
   kept-settings (settings-kept roll debug flags whole s) =
       let r = counted box roll debug flags Lent s in
       let exact = r.exact in
       (omega (arith, length-words_in stored, right-long (ports_in box) (sizes_in box)), (settings-exactly (words_in stored) (ports_in box) (sizes_in box)).1 r)
 
-  by-set : Before 6 → Tells (settings_fault (place_of BySet) stored (ports_in box) (sizes_in box))
+  from-settings : Before 6 → Tells (settings_fault stored (ports_in box) (sizes_in box))
   unfolding settings_fault
-  by-set b =
-      go (eqb (length stored) (right_length (ports_in box) (sizes_in box))) (settings_right (place_of BySet) (words_in stored) (ports_in box) (sizes_in box)) refl refl
+  from-settings b =
+      go (eqb (length stored) (right_length (ports_in box) (sizes_in box))) (settings_right (words_in stored) (ports_in box) (sizes_in box)) refl refl
     where
       placed : (o : ℕ) → SettingsPlace (ports_in box) (sizes_in box).debug (sizes_in box).flags stored o → Place c 6 o
       placed o p = settings-place o (λ roll debug flags. told box roll debug flags (λ x y z. SettingsPlace x y z stored o) p)
 
-      all-kept : length stored ≡ right_length (ports_in box) (sizes_in box) → settings_right (place_of BySet) (words_in stored) (ports_in box) (sizes_in box) ≡ true → AllKept c
+      all-kept : length stored ≡ right_length (ports_in box) (sizes_in box) → settings_right (words_in stored) (ports_in box) (sizes_in box) ≡ true → AllKept c
       all-kept e h n l u =
           let roll = roll-of (b 3 (omega arith) (omega arith)) in
           let debug = debug-of (b 4 (omega arith) (omega arith)) in
@@ -207,9 +204,9 @@ module _ (c : BoxParts) where
           let right = told box roll debug flags Lent ((settings-exactly (words_in stored) (ports_in box) (sizes_in box)).0 h) in
           before-next 6 b (settings-kept roll debug flags (omega (arith, right-long (ports_in box) (sizes_in box))) right) n l (omega arith)
 
-      go : (t u : Bool) → eqb (length stored) (right_length (ports_in box) (sizes_in box)) ≡ t → settings_right (place_of BySet) (words_in stored) (ports_in box) (sizes_in box) ≡ u
+      go : (t u : Bool) → eqb (length stored) (right_length (ports_in box) (sizes_in box)) ≡ t → settings_right (words_in stored) (ports_in box) (sizes_in box) ≡ u
           → Tells (cond (not t) (fault_at P.Settings (min (length stored) (right_length (ports_in box) (sizes_in box))))
-          (cond (not u) (fault_at P.Settings (right_up_to (right_with_zeros (place_of BySet) (ports_in box) (sizes_in box)) (words_in stored) * 4)) (fault_at P.Sound 0)))
+          (cond (not u) (fault_at P.Settings (right_up_to (right_with_zeros (ports_in box) (sizes_in box)) (words_in stored) * 4)) (fault_at P.Sound 0)))
       go false u et eu =
           let n = eqb-false _ _ et in
           first-told 6 _ (omega arith) (omega arith) (b, λ k. n (kept-settings k).0) (placed _ (place_other (ports_in box) (sizes_in box) stored n))
@@ -217,9 +214,6 @@ module _ (c : BoxParts) where
           first-told 6 _ (omega arith) (omega arith) (b, λ k. clash (kept-settings k).1 eu)
           (placed _ (place-exact (ports_in box) (sizes_in box) stored (eqb-true _ _ et) eu))
       go true true et eu = sound-told (all-kept (eqb-true _ _ et) eu)
-
-  from-settings : Before 6 → Tells (settings_fault box.layout.place stored (ports_in box) (sizes_in box))
-  from-settings b = subst (λ (x : L.Place). Tells (settings_fault x stored (ports_in box) (sizes_in box))) (sym c.grouped) (by-set b)
 
   pub fault-told : Tells (box_fault c.family c.admin box stored)
   unfolding box_fault

@@ -18,8 +18,7 @@ use Rattle.word_bytes.proofs.WordBytes.{length-words_in}
 use Rattle.names.specs.Rule.{names_right}
 use Rattle.roll_rule.specs.Rule.{roll_right}
 use Rattle.layout.specs.declared.Sizes.{Sizes}
-use Rattle.layout.specs.declared.Order.TheVariants.{BySet}
-use Rattle.layout.specs.Layout.{port_words, total_words, place_of}
+use Rattle.layout.specs.Layout.{port_words, total_words}
 use Rattle.boxes.specs.Settings.{settings_right}
 use Rattle.box_fault.specs.Longest.{right_up_to}
 use Rattle.box_fault.specs.Settings.{right_length, with_zeros, right_with_zeros}
@@ -69,7 +68,7 @@ module _ (ports : ℕ) (sizes : Sizes) where
   unfolding with_zeros zeros_behind put total_words port_words
   zeros-are words = ap (λ (l : List ℕ). words ++ l) (drop-zeros (length words) all)
 
-  begins-exactly : (words : List ℕ) → Exactly (right_with_zeros (place_of BySet) ports sizes words ≡ true) (Begins words)
+  begins-exactly : (words : List ℕ) → Exactly (right_with_zeros ports sizes words ≡ true) (Begins words)
   unfolding right_with_zeros
   begins-exactly words = rw (zeros-are words) (settings-exactly (zeros_behind all words) ports sizes)
 
@@ -84,19 +83,19 @@ module _ (ports : ℕ) (sizes : Sizes) where
         let l = right-long in
         record { inside = omega arith; other = λ z. ap (min (length settings)) l; exact = λ e. absurd (n (e ∙ sym l)) }
 
-    pub place-exact : length settings ≡ right_length ports sizes → settings_right (place_of BySet) (words_in settings) ports sizes ≡ false
-        → SettingsPlace ports sizes.debug sizes.flags settings (right_up_to (right_with_zeros (place_of BySet) ports sizes) (words_in settings) * 4)
+    pub place-exact : length settings ≡ right_length ports sizes → settings_right (words_in settings) ports sizes ≡ false
+        → SettingsPlace ports sizes.debug sizes.flags settings (right_up_to (right_with_zeros ports sizes) (words_in settings) * 4)
     place-exact e h =
         let exact : length settings ≡ all * 4 = e ∙ right-long in
         let words : length (words_in settings) ≡ all = omega (arith, length-words_in settings) in
-        let longest = longest-right (right_with_zeros (place_of BySet) ports sizes) Begins begins-exactly 1 (λ k l. omega arith)
+        let longest = longest-right (right_with_zeros ports sizes) Begins begins-exactly 1 (λ k l. omega arith)
         (λ s r k l u. settings-beginning ports sizes.debug sizes.flags s r (k * 1) u) (words_in settings) in
         let inside = longest.inside in
         record {
           inside = omega arith;
           other = λ n. absurd (n exact);
           exact = λ z. (
-            right_up_to (right_with_zeros (place_of BySet) ports sizes) (words_in settings),
+            right_up_to (right_with_zeros ports sizes) (words_in settings),
             refl,
             first_word ports sizes.debug sizes.flags (words_in settings) words (λ r. clash ((settings-exactly (words_in settings) ports sizes).1 r) h) _ longest,
           );

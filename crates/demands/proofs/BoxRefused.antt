@@ -14,7 +14,7 @@ use Rattle.names.specs.Rule.{names_right}
 use Rattle.refusal.specs.Refusal.{number_of}
 use Rattle.refusal.specs.declared.Refusal.{Refusal}
 use Rattle.refusal.specs.declared.Refusal.TheVariants as R
-use Rattle.boxes.specs.Box.{Box, Grouped}
+use Rattle.boxes.specs.Box.{Box}
 use Rattle.boxes.specs.declared.Call.{Call}
 use Rattle.normal.specs.Normal.{NormalAnswer, normalised}
 use Rattle.response.specs.declared.Kind.TheVariants.{Refused}
@@ -63,20 +63,20 @@ module _ (box : Box) (stored : Stored) (call : Call) (datagram : List ℕ) (room
       (row Second _ _ (omega arith) (row Second _ _ (omega arith) (weaker Late Second (λ why n. omega arith) (message-late box call _ _))))))))
 
   -- a box that keeps the rules is not refused by 1
-  pub kept_second : Grouped box → StoredRules box stored call → (why : Refusal) → (bytes_outcome box stored call datagram room).response.kind ≡ Refused why → 2 ≤ number_of why
-  kept_second grouped kept why e =
-      let right = (stored-exactly box grouped stored call).1 kept in
+  pub kept_second : StoredRules box stored call → (why : Refusal) → (bytes_outcome box stored call datagram room).response.kind ≡ Refused why → 2 ≤ number_of why
+  kept_second kept why e =
+      let right = (stored-exactly box stored call).1 kept in
       first-every Second why (rw right at ((refused-exactly box stored call datagram room why).0 e)) right-rows
 
   first-broken : stored_right box stored call ≡ false → FirstIs R.Box (call_checks (stored_right box stored call) box call datagram room)
   unfolding call_checks refuse_if
   first-broken wrong = rw wrong here
 
-  pub broken-exactly : Grouped box → ((bytes_outcome box stored call datagram room).response.kind ≡ Refused R.Box → StoredRules box stored call → ⊥)
+  pub broken-exactly : ((bytes_outcome box stored call datagram room).response.kind ≡ Refused R.Box → StoredRules box stored call → ⊥)
       × ((StoredRules box stored call → ⊥) → (bytes_outcome box stored call datagram room).response.kind ≡ Refused R.Box)
-  broken-exactly grouped = (
-    λ e kept. let n = kept_second grouped kept R.Box e in omega arith,
-    λ n. (refused-exactly box stored call datagram room R.Box).1 (first-broken (false_of _ (λ right. n ((stored-exactly box grouped stored call).0 right)))),
+  broken-exactly = (
+    λ e kept. let n = kept_second kept R.Box e in omega arith,
+    λ n. (refused-exactly box stored call datagram room R.Box).1 (first-broken (false_of _ (λ right. n ((stored-exactly box stored call).0 right)))),
   )
 
 module _ (contents names : List ℕ) (room : ℕ) where

@@ -1,8 +1,7 @@
 -- The rules of the box, both ways: what the code calls a right box is what document 01 says of it over bytes and words (`demands` BoxRules).
---     settings-exactly  settings are right exactly when they are the words of all ports, set by set, with no bit at or past N in any set
---     by-port-exactly   so in the order of before, port by port
+--     settings-exactly  settings are right exactly when they are the words of all ports, with no bit at or past N in any set
 --     told, counted     the numbers that roll and lists tell are those by which the code places the sets
---     box-exactly       a box whose words lie set by set is right exactly when it keeps `BoxRules`
+--     box-exactly       a box is right exactly when it keeps `BoxRules`
 --     stored-exactly    so it is over bytes, where the settings are whole words
 use Prim.Native.Nat.{ℕ, ◌+◌, ◌*◌, ◌/◌, ◌%◌, ◌≤◌, ◌<◌}
 use mathlib.Core.Path.{◌≡◌, refl, sym, ap, ◌∙◌}
@@ -18,13 +17,12 @@ use Rattle.bits.specs.Bit.{bit, test}
 use Rattle.bits.specs.Set.{has, none_from, words_for}
 use Rattle.bits.proofs.Bit.{test_zero}
 use Rattle.bits.proofs.Cut.{none_below, below_none}
-use Rattle.layout.specs.declared.Order.TheVariants.{ByPort, BySet}
 use Rattle.layout.specs.declared.Set.{Set}
 use Rattle.layout.specs.declared.Set.TheVariants.{Debug, Flags}
 use Rattle.layout.specs.declared.Sizes.{Sizes}
-use Rattle.layout.specs.Layout.{Place, list_of, size_of, first_of, widths_of, port_words, total_words, place_of, set_at, every_set}
+use Rattle.layout.specs.Layout.{list_of, size_of, first_of, widths_of, port_words, total_words, set_place, set_at, every_set}
 use Rattle.layout.proofs.Laws.{sizes-of, each-every}
-use Rattle.boxes.specs.Box.{Box, Grouped, State, ports_in, sizes_in}
+use Rattle.boxes.specs.Box.{Box, State, ports_in, sizes_in}
 use Rattle.boxes.specs.declared.Call.{Call}
 use Rattle.boxes.specs.Settings.{set_clear, port_clear, settings_right}
 use Rattle.boxes.specs.Rule.{family_right, admin_right, place_right, lists_right, box_right}
@@ -32,7 +30,7 @@ use Rattle.boxes.proofs.rule.Meaning.{box-means}
 use Rattle.boxes.proofs.settings.Laws as S
 use Rattle.handler.specs.Bytes.{Stored, in_words}
 use Rattle.demands.specs.Stored.{stored_right}
-use Rattle.demands.specs.BoxRules.{NameList, PortRoll, ClearFrom, SettingsAt, Settings, SettingsByPort, BoxRules, StoredRules}
+use Rattle.demands.specs.BoxRules.{NameList, PortRoll, ClearFrom, Settings, BoxRules, StoredRules}
 use Rattle.demands.proofs.StoredBox.{part_at, part-past, right-whole, right-box}
 use Rattle.demands.proofs.BoxNames.{list-exactly, list_counted}
 use Rattle.demands.proofs.BoxRoll.{roll-exactly, rules-counted}
@@ -46,22 +44,22 @@ off-bit : (x i : ℕ) → bit x i ≡ 0 → test x i ≡ false
 off-bit x i h = ne_eqb (bit x i) 1 (λ z. omega arith)
 
 -- one set of one port, which begins at a place
-module _ (place : Place) (words : List ℕ) (ports : ℕ) (sizes : Sizes) (position : ℕ) (set : Set) (at : ℕ) (here : place ports (widths_of sizes) position set ≡ at) where
+module _ (words : List ℕ) (ports : ℕ) (sizes : Sizes) (position : ℕ) (set : Set) (at : ℕ) (here : set_place ports (widths_of sizes) position set ≡ at) where
   abbrev held : List ℕ
-  held = set_at place words ports (widths_of sizes) position set
+  held = set_at words ports (widths_of sizes) position set
 
   has_in : (i : ℕ) → i < words_for (size_of sizes set) * 32 → has held i ≡ test (get_or words (at + i / 32) 0) (i % 32)
   unfolding has set_at
   has_in i l =
       let w = sizes-of words_for sizes set in
-      ap (λ (x : ℕ). test x (i % 32)) (part_at place words ports (widths_of sizes) position set words (i / 32) (omega arith))
+      ap (λ (x : ℕ). test x (i % 32)) (part_at words ports (widths_of sizes) position set words (i / 32) (omega arith))
       ∙ ap (λ (x : ℕ). test (get_or words (x + i / 32) 0) (i % 32)) here
 
   has-out : (i : ℕ) → words_for (size_of sizes set) * 32 ≤ i → has held i ≡ false
   unfolding has set_at
   has-out i l =
       let w = sizes-of words_for sizes set in
-      ap (λ (x : ℕ). test x (i % 32)) (part-past place words ports (widths_of sizes) position set words (i / 32) (omega arith)) ∙ test_zero (i % 32)
+      ap (λ (x : ℕ). test x (i % 32)) (part-past words ports (widths_of sizes) position set words (i / 32) (omega arith)) ∙ test_zero (i % 32)
 
   none-clear : none_from held (size_of sizes set) ≡ true → ClearFrom (size_of sizes set) words at
   none-clear h i l u = bit-off _ (i % 32) (sym (has_in i u) ∙ none_below held (size_of sizes set) h i l)
@@ -74,62 +72,35 @@ module _ (place : Place) (words : List ℕ) (ports : ℕ) (sizes : Sizes) (posit
       (λ (u : words_for (size_of sizes set) * 32 ≤ i). has-out i u)
       (lt-or-ge i (words_for (size_of sizes set) * 32)))
 
--- all sets of all ports, which begin at these places
-module _ (place : Place) (words : List ℕ) (ports : ℕ) (sizes : Sizes) (debug-at flags-at : ℕ → ℕ)
-    (hd : (p : ℕ) → place ports (widths_of sizes) p Debug ≡ debug-at p) (hf : (p : ℕ) → place ports (widths_of sizes) p Flags ≡ flags-at p) where
-  abbrev AtThem : Type 0
-  AtThem = SettingsAt debug-at flags-at ports sizes.debug sizes.flags words
-
-  means-at : settings_right place words ports sizes ≡ true → AtThem
-  unfolding total_words port_words size_of
-  means-at h =
-      let r = S.right-means place words ports sizes h in
+-- all sets of all ports
+module _ (words : List ℕ) (ports : ℕ) (sizes : Sizes) where
+  settings-means : settings_right words ports sizes ≡ true → Settings ports sizes.debug sizes.flags words
+  unfolding total_words port_words set_place first_of size_of
+  settings-means h =
+      let r = S.right-means words ports sizes h in
       record {
         exact = r.exact;
-        debug-clear = λ p l. none-clear place words ports sizes p Debug _ (hd p) (r.clear p l Debug);
-        flags-clear = λ p l. none-clear place words ports sizes p Flags _ (hf p) (r.clear p l Flags);
+        debug-clear = λ p l. none-clear words ports sizes p Debug _ (omega arith) (r.clear p l Debug);
+        flags-clear = λ p l. none-clear words ports sizes p Flags _ refl (r.clear p l Flags);
       }
 
-  module _ (r : AtThem) where
-    clear_at : (p : ℕ) → p < ports → (set : Set) → set_clear place words ports sizes p set ≡ true
-    unfolding set_clear size_of
-    clear_at p l Debug = clear_none place words ports sizes p Debug _ (hd p) (r.debug-clear p l)
-    clear_at p l Flags = clear_none place words ports sizes p Flags _ (hf p) (r.flags-clear p l)
+  module _ (r : Settings ports sizes.debug sizes.flags words) where
+    clear_at : (p : ℕ) → p < ports → (set : Set) → set_clear words ports sizes p set ≡ true
+    unfolding set_clear port_words set_place first_of size_of
+    clear_at p l Debug = clear_none words ports sizes p Debug _ (omega arith) (r.debug-clear p l)
+    clear_at p l Flags = clear_none words ports sizes p Flags _ refl (r.flags-clear p l)
 
-    port-at : (p : ℕ) → p < ports → port_clear place words ports sizes p ≡ true
+    port-at : (p : ℕ) → p < ports → port_clear words ports sizes p ≡ true
     unfolding port_clear
-    port-at p l = each-every (set_clear place words ports sizes p) (clear_at p l)
+    port-at p l = each-every (set_clear words ports sizes p) (clear_at p l)
 
-    at-means : settings_right place words ports sizes ≡ true
+    means-settings : settings_right words ports sizes ≡ true
     unfolding settings_right total_words port_words
-    at-means = rw (eq-eqb _ _ r.exact, all_of (port_clear place words ports sizes) ports port-at)
+    means-settings = rw (eq-eqb _ _ r.exact, all_of (port_clear words ports sizes) ports port-at)
 
-  exactly-at : (settings_right place words ports sizes ≡ true → AtThem) × (AtThem → settings_right place words ports sizes ≡ true)
-  exactly-at = (means-at, at-means)
-
--- in each order
-module _ (words : List ℕ) (ports : ℕ) (sizes : Sizes) where
-  pub settings-exactly : (settings_right (place_of BySet) words ports sizes ≡ true → Settings ports sizes.debug sizes.flags words)
-      × (Settings ports sizes.debug sizes.flags words → settings_right (place_of BySet) words ports sizes ≡ true)
-  unfolding place_of first_of size_of
-  settings-exactly = exactly-at (place_of BySet) words ports sizes _ _ debug-here flags-here
-    where
-      debug-here : (p : ℕ) → place_of BySet ports (widths_of sizes) p Debug ≡ p * words_for sizes.debug
-      debug-here p = omega arith
-
-      flags-here : (p : ℕ) → place_of BySet ports (widths_of sizes) p Flags ≡ ports * words_for sizes.debug + p * words_for sizes.flags
-      flags-here p = refl
-
-  pub by-port-exactly : (settings_right (place_of ByPort) words ports sizes ≡ true → SettingsByPort ports sizes.debug sizes.flags words)
-      × (SettingsByPort ports sizes.debug sizes.flags words → settings_right (place_of ByPort) words ports sizes ≡ true)
-  unfolding place_of first_of port_words
-  by-port-exactly = exactly-at (place_of ByPort) words ports sizes _ _ debug-here flags-here
-    where
-      debug-here : (p : ℕ) → place_of ByPort ports (widths_of sizes) p Debug ≡ p * (words_for sizes.debug + words_for sizes.flags)
-      debug-here p = omega arith
-
-      flags-here : (p : ℕ) → place_of ByPort ports (widths_of sizes) p Flags ≡ p * (words_for sizes.debug + words_for sizes.flags) + words_for sizes.debug
-      flags-here p = refl
+  pub settings-exactly : (settings_right words ports sizes ≡ true → Settings ports sizes.debug sizes.flags words)
+      × (Settings ports sizes.debug sizes.flags words → settings_right words ports sizes ≡ true)
+  settings-exactly = (settings-means, means-settings)
 
 -- what holds of the numbers that roll and lists tell, and of those by which the code places the sets
 module _ (box : Box) (roll : PortRoll box.roll) (debug : NameList box.names.debug) (flags : NameList box.names.flags) (P : ℕ → ℕ → ℕ → Type 0) where
@@ -140,7 +111,7 @@ module _ (box : Box) (roll : PortRoll box.roll) (debug : NameList box.names.debu
   counted s = rw (rules-counted box.roll roll, list_counted box.names.debug debug, list_counted box.names.flags flags) s
 
 -- the box
-module _ (box : Box) (grouped : Grouped box) (state : State) (call : Call) where
+module _ (box : Box) (state : State) (call : Call) where
   abbrev Sets : ℕ → ℕ → ℕ → Type 0
   Sets ports debug flags = Settings ports debug flags state.words
 
@@ -159,7 +130,7 @@ module _ (box : Box) (grouped : Grouped box) (state : State) (call : Call) where
         place = rw (← rules-counted box.roll roll) r.place-counted;
         debug = debug;
         flags = flags;
-        settings = told box roll debug flags Sets ((settings-exactly state.words (ports_in box) (sizes_in box)).0 (rw grouped at r.settings-right));
+        settings = told box roll debug flags Sets (settings-means state.words (ports_in box) (sizes_in box) r.settings-right);
       }
 
   of-rules : BoxRules box state call → box_right box state call ≡ true
@@ -171,17 +142,17 @@ module _ (box : Box) (grouped : Grouped box) (state : State) (call : Call) where
       let place = le-leb call.place (ports_in box) (rw (rules-counted box.roll r.roll) r.place) in
       let debug = (list-exactly box.names.debug).1 r.debug in
       let flags = (list-exactly box.names.flags).1 r.flags in
-      rw (low, high, admin, (roll-exactly box.roll).1 r.roll, place, debug, flags, grouped)
-      ((settings-exactly state.words (ports_in box) (sizes_in box)).1 (counted box r.roll r.debug r.flags Sets r.settings))
+      rw (low, high, admin, (roll-exactly box.roll).1 r.roll, place, debug, flags)
+      (means-settings state.words (ports_in box) (sizes_in box) (counted box r.roll r.debug r.flags Sets r.settings))
 
   pub box-exactly : (box_right box state call ≡ true → BoxRules box state call) × (BoxRules box state call → box_right box state call ≡ true)
   box-exactly = (rules-of, of-rules)
 
 -- over bytes
-pub stored-exactly : (box : Box) → Grouped box → (stored : Stored) (call : Call)
+pub stored-exactly : (box : Box) (stored : Stored) (call : Call)
     → (stored_right box stored call ≡ true → StoredRules box stored call) × (StoredRules box stored call → stored_right box stored call ≡ true)
 unfolding stored_right
-stored-exactly box grouped stored call = (
-  λ h. (right-whole box stored call h, (box-exactly box grouped (in_words stored) call).0 (right-box box stored call h)),
-  λ r. rw (eq-eqb _ 0 r.0, (box-exactly box grouped (in_words stored) call).1 r.1),
+stored-exactly box stored call = (
+  λ h. (right-whole box stored call h, (box-exactly box (in_words stored) call).0 (right-box box stored call h)),
+  λ r. rw (eq-eqb _ 0 r.0, (box-exactly box (in_words stored) call).1 r.1),
 )

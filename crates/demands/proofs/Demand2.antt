@@ -97,7 +97,7 @@ module _ (box : Box) (state : State) (call : Call) (right : box_right box state 
   stored-long : length stored ≡ words_for (size_of (sizes_in box) set)
   unfolding set_of
   stored-long =
-      set-length box.layout.place box.layout.lawful (ports_in box) (widths_in box) position set inside state.words rules.settings.exact
+      set-length (ports_in box) (widths_in box) position set inside state.words rules.settings.exact
       ∙ sizes-of words_for (sizes_in box) set
 
   stored-below : Below (size_of (sizes_in box) set) (has stored)

@@ -9,7 +9,7 @@ use mathlib.Core.List.{List, ◌∷◌, ◌++◌, append-nil}
 use mathlib.Core.Bool.{Bool, true, false, not}
 use native.Mathlib.Omega.{arith}
 use Rattle.basics.specs.Numbers.{byte_at}
-use borrow.Author.Tests.{eq-eqb, ltb-false, eqb-true, not-false}
+use borrow.Author.Tests.{ltb-false, eqb-true, not-false}
 use Rattle.basics.proofs.Truth.{false_of}
 use Rattle.bits.specs.Set.{has}
 use Rattle.bits.specs.Change.{Same}
@@ -33,11 +33,11 @@ use Rattle.reply.specs.Message.{heading_of, Content, reply_bytes}
 use Rattle.reply.specs.declared.message.Heading.{Heading}
 use Rattle.boxes.specs.Box.{Box, State, ports_in, set_of}
 use Rattle.boxes.specs.declared.Call.{Call}
-use Rattle.boxes.proofs.rule.Meaning.{Right, box-means, box-at}
 use Rattle.response.specs.Answer.{Response, Outcome}
 use Rattle.response.specs.declared.Kind.TheVariants.{Done}
 use Rattle.handler.specs.Bytes.{Stored, in_words, bytes_outcome}
 use Rattle.demands.specs.Answer.{ack_if_asked, with_multi}
+use Rattle.demands.specs.BoxRules.{StoredRules}
 use Rattle.demands.specs.Check.{Check, refuse_if, first_kind}
 use Rattle.demands.specs.Check.Check.{passes, refuses, ends, skips}
 use Rattle.demands.specs.PortChecks.{no_port}
@@ -48,17 +48,30 @@ use Rattle.demands.specs.Done.{content_about, reply_about, DoneSet, DoneGet, Don
 use Rattle.demands.specs.Stored.{stored_right, as_words}
 use Rattle.demands.specs.Dump.{at_place, HandledGet, header_of_get, AsksOne, RepliesAlike, get_one, call_one, AsGetOne, WholeDump, Point, point_after, DumpCalls}
 use Rattle.demands.specs.Run.{after}
-use Rattle.demands.proofs.BoxRoll.{roll-exactly, one_index}
+use Rattle.demands.proofs.BoxRoll.{roll-exactly, rules-counted, one_index}
 use Rattle.demands.proofs.GetOne.{kind-is, sequence-is, port-is, asks-one, one-get, one-about-port, no-ack, names-one, one_passes}
 use Rattle.demands.proofs.Missing.{index-missing}
-use Rattle.demands.proofs.StoredBox.{right-whole, right-box}
+use Rattle.demands.proofs.BoxRules.{stored-exactly}
 use Rattle.demands.proofs.Stored as S
 
 -- a box that is right at a place is right at every place up to the port count
 right-at : (box : Box) (stored : Stored) (call : Call) (k : ℕ) → stored_right box stored call ≡ true → k ≤ ports_in box → stored_right box stored (at_place call k) ≡ true
-unfolding stored_right
 right-at box stored call k right few =
-    rw (eq-eqb _ 0 (right-whole box stored call right), box-at box (in_words stored) call (at_place call k) (right-box box stored call right) refl refl few)
+    let kept = (stored-exactly box stored call).0 right in
+    let rules = kept.1 in
+    (stored-exactly box stored (at_place call k)).1 (
+      kept.0,
+      record {
+        family-low = rules.family-low;
+        family-high = rules.family-high;
+        admin = rules.admin;
+        roll = rules.roll;
+        place = rw (← rules-counted box.roll rules.roll) few;
+        debug = rules.debug;
+        flags = rules.flags;
+        settings = rules.settings;
+      },
+    )
 
 -- of a right box the checks look at neither the place nor the settings
 checks-same : (box : Box) (call : Call) (k : ℕ) (datagram : List ℕ) (room : ℕ)
@@ -182,12 +195,12 @@ module _ (box : Box) (call : Call) (datagram : List ℕ) (room : ℕ) (found : �
     abbrev got : Outcome Stored
     got = bytes_outcome box (found k) one g room
 
-    rules : Right box (in_words (found k)) (at_place call 0)
-    rules = box-means box (in_words (found k)) (at_place call 0) (right-box box (found k) (at_place call 0) (right k))
+    rules : StoredRules box (found k) (at_place call 0)
+    rules = (stored-exactly box (found k) (at_place call 0)).0 (right k)
 
     index-small : index < 4294967296
     unfolding index_of
-    index-small = let s = (port-right box.roll rules.roll-right k l).small in omega arith
+    index-small = let s = (port-right box.roll ((roll-exactly box.roll).1 rules.1.roll) k l).small in omega arith
 
     known : no_port (found_by_index box.roll index) ≡ false
     known = false_of (no_port (found_by_index box.roll index)) (λ e. index-missing box.roll k l index e refl)
@@ -206,8 +219,8 @@ module _ (box : Box) (call : Call) (datagram : List ℕ) (room : ℕ) (found : �
 
     done-one : got.response.kind ≡ Done
     done-one =
-        let low = rules.family-low in
-        let high = rules.family-high in
+        let low = rules.1.family-low in
+        let high = rules.1.family-high in
         let same = facts.1 in
         S.exact box (found k) one g room ∙ ap (λ (t : Bool). first_kind Done (call_checks t box one g room)) (right-one box (found k) call (right k))
         ∙ sym (one_passes h command index first.flags box call.family call.admin 0 room (omega arith) (omega arith) same facts.0
@@ -227,12 +240,12 @@ module _ (box : Box) (call : Call) (datagram : List ℕ) (room : ℕ) (found : �
     asked =
         let n = get-of.named in
         let same = facts.1 in
-        let high = rules.family-high in
+        let high = rules.1.family-high in
         let is = names-one h command index first.flags box.roll n get-of.is_get first.flags-few index-small in
         record {
           command = let q = sym is.0 ∙ first.listed in cc;
           flags = is.1;
-          port = one_index box.roll ((roll-exactly box.roll).0 rules.roll-right) n.target.position k n.port.inside l is.2;
+          port = one_index box.roll rules.1.roll n.target.position k n.port.inside l is.2;
           family = kind-is h command index first.flags (omega arith);
           sequence = sequence-is h command index first.flags sequence;
           port-id = port-is h command index first.flags port-id;

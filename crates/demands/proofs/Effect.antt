@@ -21,7 +21,7 @@ use Rattle.boxes.specs.declared.Call.{Call}
 use Rattle.boxes.specs.Rule.{box_right}
 use Rattle.layout.specs.Layout.{size_of, set_at}
 use Rattle.layout.specs.declared.Set.{Set}
-use Rattle.layout.proofs.Laws.{sizes-of}
+use Rattle.layout.proofs.Laws.{sizes-of, place_inside}
 use Rattle.layout.proofs.Kept.{splice-below, splice-above, change-length, change-own, change-other}
 use Rattle.boxes.proofs.rule.Meaning.{Right, box-means, box-keeps}
 use Rattle.boxes.proofs.settings.Laws as S
@@ -53,7 +53,7 @@ module _ (box : Box) (state : State) (call : Call) (right : box_right box state 
   rules : Right box state call
   rules = box-means box state call right
 
-  settings : S.Right box.layout.place state.words (ports_in box) (sizes_in box)
+  settings : S.Right state.words (ports_in box) (sizes_in box)
   settings = rules.settings
 
   held_below : Below n (has held)
@@ -78,19 +78,19 @@ module _ (box : Box) (state : State) (call : Call) (right : box_right box state 
   unfolding set_of place_in with_set with_effect
   set_own i =
       ap (λ (l : List ℕ). has l i)
-      (change-own box.layout.place box.layout.lawful state.words (ports_in box) (widths_in box) settings.exact position here set new new-long)
+      (change-own state.words (ports_in box) (widths_in box) settings.exact position here set new new-long)
       ∙ has_all (width_in box set) (effect b (has held)) effect-fits i
 
   pub set-others : (p : ℕ) (s : Set) → p < ports_in box → (position ≡ p → set ≡ s → ⊥) → set_of box after p s ≡ set_of box state p s
   unfolding set_of place_in with_set with_effect
   set-others p s l apart =
-      change-other box.layout.place box.layout.lawful state.words (ports_in box) (widths_in box) settings.exact position here set new new-long p s l apart
+      change-other state.words (ports_in box) (widths_in box) settings.exact position here set new new-long p s l apart
 
   pub set-elsewhere : (k : ℕ) → (k < place_in box position set) ⊎ (place_in box position set + width_in box set ≤ k)
       → get_or after.words k 0 ≡ get_or state.words k 0
   unfolding place_in width_in with_set with_effect
   set-elsewhere k =
-      let inside = box.layout.lawful.inside (ports_in box) (widths_in box) position set here in
+      let inside = place_inside (ports_in box) (widths_in box) position set here in
       let room : place_in box position set + length new ≤ length state.words = let e = settings.exact in let l = new-long in omega arith in
       ⊎_elim (λ l. splice-below state.words new (place_in box position set) room k l)
       (λ l. splice-above state.words new (place_in box position set) room k (let e = new-long in omega arith))
@@ -98,7 +98,7 @@ module _ (box : Box) (state : State) (call : Call) (right : box_right box state 
   -- the words after it: as many as before, and of 32 bits where they were
   set-length : length after.words ≡ length state.words
   unfolding place_in with_set with_effect
-  set-length = change-length box.layout.place box.layout.lawful state.words (ports_in box) (widths_in box) settings.exact position here set new new-long
+  set-length = change-length state.words (ports_in box) (widths_in box) settings.exact position here set new new-long
 
   own-word : (j : ℕ) → j < width_in box set → get_or after.words (place_in box position set + j) 0 ≡ get_or new j 0
   unfolding set_at place_in width_in with_set with_effect
@@ -106,7 +106,7 @@ module _ (box : Box) (state : State) (call : Call) (right : box_right box state 
       let at = place_in box position set in
       sym (get_or-take (width_in box set) (drop at after.words) j 0 l ∙ get_or-drop at after.words j 0)
       ∙ ap (λ (ws : List ℕ). get_or ws j 0)
-      (change-own box.layout.place box.layout.lawful state.words (ports_in box) (widths_in box) settings.exact position here set new new-long)
+      (change-own state.words (ports_in box) (widths_in box) settings.exact position here set new new-long)
 
   pub set-small : Small state.words → Small after.words
   set-small small k l =
@@ -127,4 +127,4 @@ module _ (box : Box) (state : State) (call : Call) (right : box_right box state 
   unfolding place_in with_set with_effect
   set-right =
       box-keeps box state after call right
-      (change-right box.layout.place box.layout.lawful state.words (ports_in box) (sizes_in box) rules.settings-right position here set new new-long new-clear)
+      (change-right state.words (ports_in box) (sizes_in box) rules.settings-right position here set new new-long new-clear)

@@ -83,5 +83,5 @@ pub example-run : (handled first_settings 0 0 ≡ answered Done 88 debug_set_ack
     × (handled fourth_settings 364 3 ≡ answered (Refused Box) 364 [] fourth_settings)
     × (handled fourth_settings 396 0 ≡ answered (Refused Dump) 428 named_dump_error fourth_settings)
     × (handled fourth_settings 428 0 ≡ answered End 428 [] fourth_settings)
-unfolding example_roll example_debug example_flags example_box NB.byte_at NB.u16_at NB.u32_at SC.all SC.any SC.first NU.nul_then_nul NU.same_byte PU.put PU.splice Bi.number BS.has BS.words_of BS.none_from BS.clear_from BS.some_past BS.past BC.applied BC.list_mask BC.list_value Wb.table Wb.words_in Wb.bytes_of EN.entry_at EN.entries_distinct EN.entry_new EN.differs EN.same_entry NR.names_right NR.right_at NR.entry_right NS.is_entry NS.no_name NS.lookup ME.message_at AT.attribute_at AT.part_of AT.attributes_up_to AT.attributes PO.rule_of PO.nul_at PO.is_name_payload PO.plain PO.nested PO.judged WA.first_fault WA.last_of_type WA.walked WA.slot_number HW.message_header_bytes HW.generic_header_bytes HW.attribute_header_bytes AW.padding AW.attr AW.nest AW.name_bytes ER.detail_bytes ER.flags_of ER.negative ER.error_header ER.error_start ER.error_message IN.index_nest IN.index_and_name IN.name_if_any BF.effect BP.bitset_parts BP.bit_parts CO.nomask_reading CO.masked_reading CO.compact_reading BT.bit_by_index BT.bit_by_name BT.identified BT.bit_parts_reading BT.bit_walked BT.bit_reading BL.bits_reading BL.list_reading JU.mixed_at JU.bitset_parts_reading JU.bitset_reading LA.list_of LA.size_of LA.every_set LA.port_words LA.first_of LA.total_words LA.place_of LA.set_at RR.record_size RR.record_at RR.records_up_to RR.records RR.all_whole RR.record_ports RR.ports_of RR.port_count RR.port_at RR.index_of RR.name_of RR.ports_listed RN.name_at RN.same_name RN.holds_name RN.name_right RF.has_index RF.has_name RF.find_port RF.found_by_index RF.found_by_name RU.roll_right RU.port_right RU.ports_distinct RU.is_new RU.another BO.place_in BO.width_in BO.set_of SE.settings_right SE.port_clear SE.set_clear BR.family_right BR.admin_right BR.place_right BR.lists_right BR.box_right AD.is_dump AD.no_dump AD.not_permitted AD.permitted AD.admitted CM.command_in CM.command_of RP.top_policy PA.top_parts PA.header_parts TO.nests_of TO.top_of HE.flags_judged HE.parts_of HE.dump_parts_of HE.header_of PT.other_name PT.port_by_index PT.port_by_name PT.port_of TA.with_flags TA.target_of DU.done_header DU.done_message RM.reply_bytes RM.headers_bytes RM.attributes_bytes Ra.ack_bytes EX.with_set EX.with_effect EX.content_in EX.port_reply EX.get_bytes EX.port_response EX.dump_response EX.set_outcome EX.port_outcome EX.header_outcome EX.request_outcome HC.message_outcome HC.position_outcome HC.outcome HB.words_outcome HB.are_words HB.bytes_outcome ST.opening_bytes ST.compact_bytes ST.verbose_bytes ST.contents_bytes ST.set_bytes LI.bit_in LI.bits_bytes
+unfolding example_roll example_debug example_flags example_box NB.byte_at NB.u16_at NB.u32_at SC.all SC.any SC.first NU.nul_then_nul NU.same_byte PU.put PU.splice Bi.number BS.has BS.words_of BS.none_from BS.clear_from BS.some_past BS.past BC.applied BC.list_mask BC.list_value Wb.table Wb.words_in Wb.bytes_of EN.entry_at EN.entries_distinct EN.entry_new EN.differs EN.same_entry NR.names_right NR.right_at NR.entry_right NS.is_entry NS.no_name NS.lookup ME.message_at AT.attribute_at AT.part_of AT.attributes_up_to AT.attributes PO.rule_of PO.nul_at PO.is_name_payload PO.plain PO.nested PO.judged WA.first_fault WA.last_of_type WA.walked WA.slot_number HW.message_header_bytes HW.generic_header_bytes HW.attribute_header_bytes AW.padding AW.attr AW.nest AW.name_bytes ER.detail_bytes ER.flags_of ER.negative ER.error_header ER.error_start ER.error_message IN.index_nest IN.index_and_name IN.name_if_any BF.effect BP.bitset_parts BP.bit_parts CO.nomask_reading CO.masked_reading CO.compact_reading BT.bit_by_index BT.bit_by_name BT.identified BT.bit_parts_reading BT.bit_walked BT.bit_reading BL.bits_reading BL.list_reading JU.mixed_at JU.bitset_parts_reading JU.bitset_reading LA.list_of LA.size_of LA.every_set LA.port_words LA.first_of LA.total_words LA.set_place LA.set_at RR.record_size RR.record_at RR.records_up_to RR.records RR.all_whole RR.record_ports RR.ports_of RR.port_count RR.port_at RR.index_of RR.name_of RR.ports_listed RN.name_at RN.same_name RN.holds_name RN.name_right RF.has_index RF.has_name RF.find_port RF.found_by_index RF.found_by_name RU.roll_right RU.port_right RU.ports_distinct RU.is_new RU.another BO.place_in BO.width_in BO.set_of SE.settings_right SE.port_clear SE.set_clear BR.family_right BR.admin_right BR.place_right BR.lists_right BR.box_right AD.is_dump AD.no_dump AD.not_permitted AD.permitted AD.admitted CM.command_in CM.command_of RP.top_policy PA.top_parts PA.header_parts TO.nests_of TO.top_of HE.flags_judged HE.parts_of HE.dump_parts_of HE.header_of PT.other_name PT.port_by_index PT.port_by_name PT.port_of TA.with_flags TA.target_of DU.done_header DU.done_message RM.reply_bytes RM.headers_bytes RM.attributes_bytes Ra.ack_bytes EX.with_set EX.with_effect EX.content_in EX.port_reply EX.get_bytes EX.port_response EX.dump_response EX.set_outcome EX.port_outcome EX.header_outcome EX.request_outcome HC.message_outcome HC.position_outcome HC.outcome HB.words_outcome HB.are_words HB.bytes_outcome ST.opening_bytes ST.compact_bytes ST.verbose_bytes ST.contents_bytes ST.set_bytes LI.bit_in LI.bits_bytes
 example-run = (refl, refl, refl, refl, refl, refl, refl, refl, refl, refl, refl, refl)

@@ -50,4 +50,3 @@ pub mod BoxPlace
 pub mod BoxFault
 pub mod GetOne
 pub mod Dump
-pub mod Layouts

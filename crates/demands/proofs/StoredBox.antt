@@ -24,7 +24,7 @@ use Rattle.bits.proofs.Bit.{test_low}
 use Rattle.bits.proofs.Cut.{none_below, below_none}
 use Rattle.word_bytes.specs.Bytes.{words_in, bytes_of}
 use Rattle.word_bytes.proofs.WordBytes.{length-words_in, length-bytes_of, length-again, word-again}
-use Rattle.layout.specs.Layout.{Place, size_of, set_at}
+use Rattle.layout.specs.Layout.{size_of, set_place, set_at}
 use Rattle.layout.specs.declared.Set.{Set}
 use Rattle.layout.specs.declared.Sizes.{Sizes}
 use Rattle.layout.proofs.Laws.{each-every, widths-few, words-few}
@@ -61,30 +61,30 @@ module _ (box : Box) (stored : Stored) (call : Call) (right : stored_right box s
   right-within = rw (eq-eqb _ _ right-whole, le-leb _ _ few_bytes)
 
 -- a set of words that are written as bytes and read again
-module _ (place : Place) (ws : List ℕ) (ports : ℕ) (width : Sizes) (position : ℕ) (set : Set) where
+module _ (ws : List ℕ) (ports : ℕ) (width : Sizes) (position : ℕ) (set : Set) where
   abbrev again : List ℕ
   again = words_in (bytes_of ws)
 
   abbrev part : List ℕ → List ℕ
-  part s = take (size_of width set) (drop (place ports width position set) s)
+  part s = take (size_of width set) (drop (set_place ports width position set) s)
 
-  pub part_at : (s : List ℕ) (j : ℕ) → j < size_of width set → get_or (part s) j 0 ≡ get_or s (place ports width position set + j) 0
+  pub part_at : (s : List ℕ) (j : ℕ) → j < size_of width set → get_or (part s) j 0 ≡ get_or s (set_place ports width position set + j) 0
   part_at s j l =
-      get_or-take (size_of width set) (drop (place ports width position set) s) j 0 l ∙ get_or-drop (place ports width position set) s j 0
+      get_or-take (size_of width set) (drop (set_place ports width position set) s) j 0 l ∙ get_or-drop (set_place ports width position set) s j 0
 
   pub part-past : (s : List ℕ) (j : ℕ) → size_of width set ≤ j → get_or (part s) j 0 ≡ 0
   part-past s j l =
-      get_or-eq_default (part s) 0 (omega (arith, length-take (size_of width set) (drop (place ports width position set) s)))
+      get_or-eq_default (part s) 0 (omega (arith, length-take (size_of width set) (drop (set_place ports width position set) s)))
 
   part-again : (j : ℕ) → get_or (part again) j 0 ≡ get_or (part ws) j 0 % 4294967296
   part-again j =
       ⊎_elim
-      (λ (l : j < size_of width set). part_at again j l ∙ word-again ws (place ports width position set + j)
+      (λ (l : j < size_of width set). part_at again j l ∙ word-again ws (set_place ports width position set + j)
       ∙ ap (λ (x : ℕ). x % 4294967296) (sym (part_at ws j l)))
       (λ (l : size_of width set ≤ j). part-past again j l ∙ ap (λ (x : ℕ). x % 4294967296) (sym (part-past ws j l)))
       (lt-or-ge j (size_of width set))
 
-  set-again : Same (has (set_at place again ports width position set)) (has (set_at place ws ports width position set))
+  set-again : Same (has (set_at again ports width position set)) (has (set_at ws ports width position set))
   unfolding has set_at
   set-again i =
       ap (λ (x : ℕ). test x (i % 32)) (part-again (i / 32)) ∙ test_low 32 (get_or (part ws) (i / 32) 0) (i % 32) (omega arith)
@@ -93,22 +93,22 @@ module _ (box : Box) (state : State) (call : Call) (right : box_right box state 
   abbrev words : List ℕ
   words = words_in (bytes_of state.words)
 
-  settings : S.Right box.layout.place state.words (ports_in box) (sizes_in box)
+  settings : S.Right state.words (ports_in box) (sizes_in box)
   settings = (box-means box state call right).settings
 
-  each-clear : (p : ℕ) → p < ports_in box → (set : Set) → set_clear box.layout.place words (ports_in box) (sizes_in box) p set ≡ true
+  each-clear : (p : ℕ) → p < ports_in box → (set : Set) → set_clear words (ports_in box) (sizes_in box) p set ≡ true
   unfolding set_clear
   each-clear p l set =
-      below_none _ _ (λ i u. set-again box.layout.place state.words (ports_in box) (widths_in box) p set i ∙ none_below _ _ (settings.clear p l set) i u)
+      below_none _ _ (λ i u. set-again state.words (ports_in box) (widths_in box) p set i ∙ none_below _ _ (settings.clear p l set) i u)
 
-  port-clear : (p : ℕ) → p < ports_in box → port_clear box.layout.place words (ports_in box) (sizes_in box) p ≡ true
+  port-clear : (p : ℕ) → p < ports_in box → port_clear words (ports_in box) (sizes_in box) p ≡ true
   unfolding port_clear
-  port-clear p l = each-every (set_clear box.layout.place words (ports_in box) (sizes_in box) p) (each-clear p l)
+  port-clear p l = each-every (set_clear words (ports_in box) (sizes_in box) p) (each-clear p l)
 
-  settings-again : settings_right box.layout.place words (ports_in box) (sizes_in box) ≡ true
+  settings-again : settings_right words (ports_in box) (sizes_in box) ≡ true
   unfolding settings_right
   settings-again =
-      rw (eq-eqb _ _ (length-again state.words ∙ settings.exact), all_of (port_clear box.layout.place words (ports_in box) (sizes_in box)) (ports_in box) port-clear)
+      rw (eq-eqb _ _ (length-again state.words ∙ settings.exact), all_of (port_clear words (ports_in box) (sizes_in box)) (ports_in box) port-clear)
 
   pub right-again : stored_right box (as_stored state) call ≡ true
   unfolding stored_right

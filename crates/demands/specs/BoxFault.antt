@@ -3,7 +3,7 @@
 use Rattle.std.specs.Prelude.{ℕ, ◌+◌, ◌-◌, ◌*◌, ◌/◌, ◌%◌, ◌≤◌, ◌<◌, min, ◌≡◌, List, ◌++◌, length, take, get_or, replicate}
 use Rattle.bits.specs.Bit.{bit}
 use Rattle.word_bytes.specs.Bytes.{words_in}
-use Rattle.boxes.specs.Box.{Box, Grouped}
+use Rattle.boxes.specs.Box.{Box}
 use Rattle.boxes.specs.declared.Call.{Call}
 use Rattle.handler.specs.Bytes.{Stored}
 use Rattle.demands.specs.BoxRules.{NameList, PortRoll, Settings}
@@ -13,7 +13,6 @@ pub record BoxParts : Type 0 where
   pub family : ℕ
   pub admin : ℕ
   pub box : Box
-  pub grouped : Grouped box
   pub settings : Stored
 
 -- a call that is lent them, at a position and a place
@@ -67,8 +66,8 @@ ClearAt N words at j = (i : ℕ) → N ≤ i → i < (N + 31) / 32 * 32 → at +
 
 -- word j holds no bit at or past N of its set
 pub record ClearWord (ports debug flags : ℕ) (words : List ℕ) (j : ℕ) : Type 0 where
-  pub debug-clear : (p : ℕ) → p < ports → ClearAt debug words (p * ((debug + 31) / 32)) j
-  pub flags-clear : (p : ℕ) → p < ports → ClearAt flags words (ports * ((debug + 31) / 32) + p * ((flags + 31) / 32)) j
+  pub debug-clear : (p : ℕ) → p < ports → ClearAt debug words (p * ((debug + 31) / 32 + (flags + 31) / 32)) j
+  pub flags-clear : (p : ℕ) → p < ports → ClearAt flags words (p * ((debug + 31) / 32 + (flags + 31) / 32) + (debug + 31) / 32) j
 
 -- the first word at fault: behind the longest beginning of whole words that is right with zeros behind it; it is the first that holds a bit at or past N of its set
 pub record FirstWord (ports debug flags : ℕ) (words : List ℕ) (n : ℕ) : Type 0 where

@@ -1,4 +1,4 @@
--- The rules of the box once more, each as document 01, "The box a call is given", and the requests C-11 and C-16 have it: over bytes and words alone, without the definitions by which
+-- The rules of the box once more, each as document 01, "The box a call is given", and request C-11 have it: over bytes and words alone, without the definitions by which
 -- the code is judged. `box-exactly` (demands/proofs/BoxRules) shows that a box is right exactly when it keeps these.
 use Rattle.std.specs.Prelude.{ℕ, ◌+◌, ◌*◌, ◌/◌, ◌%◌, ◌≤◌, ◌<◌, ◌≡◌, List, length, get_or}
 use Rattle.basics.specs.Numbers.{u32_at}
@@ -52,20 +52,11 @@ pub record PortRoll (roll : List ℕ) : Type 0 where
 abbrev pub ClearFrom : ℕ → List ℕ → ℕ → Type 0
 ClearFrom N words at = (i : ℕ) → N ≤ i → i < (N + 31) / 32 * 32 → bit (get_or words (at + i / 32) 0) (i % 32) ≡ 0
 
--- the words of all ports and no more: for each port a set of `debug` bits and one of `flags` bits, which begin at places
-pub record SettingsAt (debug-at flags-at : ℕ → ℕ) (ports debug flags : ℕ) (words : List ℕ) : Type 0 where
+-- the words of all ports and no more: for each port a set of `debug` bits, then one of `flags` bits
+pub record Settings (ports debug flags : ℕ) (words : List ℕ) : Type 0 where
   pub exact : length words ≡ ports * ((debug + 31) / 32 + (flags + 31) / 32)
-  pub debug-clear : (p : ℕ) → p < ports → ClearFrom debug words (debug-at p)
-  pub flags-clear : (p : ℕ) → p < ports → ClearFrom flags words (flags-at p)
-
--- request C-16: the debug sets of all ports, then the flags of all ports, "each part in roll order"
-abbrev pub Settings : ℕ → ℕ → ℕ → List ℕ → Type 0
-Settings ports debug flags words = SettingsAt (λ p. p * ((debug + 31) / 32)) (λ p. ports * ((debug + 31) / 32) + p * ((flags + 31) / 32)) ports debug flags words
-
--- the order of before: "for each port in roll order its debug set, then its flags"
-abbrev pub SettingsByPort : ℕ → ℕ → ℕ → List ℕ → Type 0
-SettingsByPort ports debug flags words =
-    SettingsAt (λ p. p * ((debug + 31) / 32 + (flags + 31) / 32)) (λ p. p * ((debug + 31) / 32 + (flags + 31) / 32) + (debug + 31) / 32) ports debug flags words
+  pub debug-clear : (p : ℕ) → p < ports → ClearFrom debug words (p * ((debug + 31) / 32 + (flags + 31) / 32))
+  pub flags-clear : (p : ℕ) → p < ports → ClearFrom flags words (p * ((debug + 31) / 32 + (flags + 31) / 32) + (debug + 31) / 32)
 
 -- the rules of the box: family 16 to 65,535, admin 0 or 1, the roll, a place no higher than the port count, both name lists, the settings
 pub record BoxRules (box : Box) (state : State) (call : Call) : Type 0 where

@@ -22,7 +22,6 @@ pub mod Stored
 pub mod Dump
 pub mod BoxRules
 pub mod BoxFault
-pub mod Layouts
 pub mod Change
 pub mod Example
 pub mod ExampleNames

@@ -10,9 +10,8 @@ use Rattle.box_fault.specs.Fault.{part_number}
 use Rattle.box_fault.specs.declared.Fault.{Fault}
 use Rattle.response.specs.Answer.{Outcome, Performs, kind_number, refusal_number}
 use Rattle.response.specs.declared.Answer.{Answer}
-use Rattle.regroup.specs.Regroup.{Converted, Converts}
 use Rattle.handler.specs.Bytes.{Stored}
-use Rattle.ethnl.specs.Exported.{Normalise, Find, CheckBox, Convert, Handle}
+use Rattle.ethnl.specs.Exported.{Normalise, Find, CheckBox, Handle}
 
 pub normalise-returns : (o : N.NormalAnswer) (P Q : List ℕ) (x : Normal) → N.Normalised o P Q x → Normalise o P Q x.written x.number
 normalise-returns o P Q x h =
@@ -24,9 +23,6 @@ find-returns f x e =
 
 pub check-returns : (f x : Fault) (o r : ℕ) → x ≡ f → o ≡ x.offset → r ≡ part_number x.part → CheckBox f o r
 check-returns f x o r e eo er = record { part = er ∙ ap (λ (y : Fault). part_number y.part) e; place = eo ∙ ap (λ (y : Fault). y.offset) e }
-
-pub convert-returns : (o : Converted) (lent P Q : List ℕ) (r : ℕ) → Bytes lent → Converts o P Q r → Convert o lent P Q r
-convert-returns o lent P Q r bytes h = record { bytes = bytes; converts = h }
 
 pub handle-returns : (o : Outcome Stored) (lent stored : Stored) (P Q : List ℕ) (x : Answer) (k f : ℕ) → Bytes lent.settings → Performs o P Q stored x
     → k ≡ kind_number x.kind → f ≡ refusal_number x.kind → Handle o lent stored P Q k f x.next x.place x.written

@@ -7,7 +7,6 @@ use Rattle.bit_name.specs.declared.Found.{Found}
 use Rattle.box_fault.specs.Fault.{part_number}
 use Rattle.box_fault.specs.declared.Fault.{Fault}
 use Rattle.response.specs.Answer.{Outcome, kind_number, refusal_number}
-use Rattle.regroup.specs.Regroup.{Converted, Converts}
 use Rattle.handler.specs.Bytes.{Stored}
 
 -- ethnl_normalise: the number, the count of bytes written, and those bytes at the front of the page
@@ -26,11 +25,6 @@ pub record Find (f : Found) (found compared r : ℕ) : Type 0 where
 pub record CheckBox (f : Fault) (offset r : ℕ) : Type 0 where
   pub part : r ≡ part_number f.part
   pub place : offset ≡ f.offset
-
--- ethnl_group, ethnl_ungroup: the number, and the output; the settings that are lent are bytes
-pub record Convert (o : Converted) (lent before after : List ℕ) (r : ℕ) : Type 0 where
-  pub bytes : Bytes lent
-  pub converts : Converts o before after r
 
 -- ethnl_handle: kind, refusal number, next position, next place and count behind their pointers; the settings that are lent are bytes
 pub record Handle (o : Outcome Stored) (lent stored : Stored) (before after : List ℕ) (k f n p w : ℕ) : Type 0 where

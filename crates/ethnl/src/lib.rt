@@ -2,18 +2,14 @@
 ghost use Rattle.std.specs.Prelude.{◌≡◌, length};
 ghost use Rattle.bit_name.specs.Find.{name_found};
 ghost use Rattle.normal.specs.Normal.{normalised};
-ghost use Rattle.layout.specs.declared.Order.TheVariants.{ByPort, BySet};
-ghost use Rattle.boxes.specs.Box.{box_by, box_of};
+ghost use Rattle.boxes.specs.Box.{box_of};
 ghost use Rattle.box_fault.specs.Fault.{box_fault};
-ghost use Rattle.regroup.specs.Regroup.{converted};
 ghost use Rattle.handler.specs.Bytes.{stored_of, bytes_outcome};
-ghost use Rattle.ethnl.specs.Exported.{Normalise, Find, CheckBox, Convert, Handle};
+ghost use Rattle.ethnl.specs.Exported.{Normalise, Find, CheckBox, Handle};
 
 use box_fault::box_fault;
 use boxes::Call;
 use handler::bytes::handle_bytes;
-use layout::Order;
-use regroup::convert;
 
 // Writes the normal form of a bitset's contents to the page. Returns document 01's number, 0 if accepted.
 #[unsafe(no_mangle)]
@@ -59,50 +55,6 @@ pub extern "C" fn ethnl_check_box(
     let part = fault.part;
     *offset = fault.offset as u64;
     part.number()
-}
-
-// Writes settings that lie port by port, the order of before, set by set. Returns document 01's number, 0 if done.
-#[unsafe(no_mangle)]
-pub extern "C" fn ethnl_group(
-    roll: &[u8],
-    debug: &[u8],
-    flags: &[u8],
-    settings: &[u8],
-    out: &mut [u8],
-) -> u32
-    ensures { Convert (converted (box_by ByPort roll.now debug.now flags.now) BySet settings.now (length out.old)) settings.now out.old out.new result }
-{
-    convert(
-        Order::ByPort,
-        Order::BySet,
-        roll,
-        debug,
-        flags,
-        settings,
-        out,
-    )
-}
-
-// Writes settings that lie set by set port by port again.
-#[unsafe(no_mangle)]
-pub extern "C" fn ethnl_ungroup(
-    roll: &[u8],
-    debug: &[u8],
-    flags: &[u8],
-    settings: &[u8],
-    out: &mut [u8],
-) -> u32
-    ensures { Convert (converted (box_by BySet roll.now debug.now flags.now) ByPort settings.now (length out.old)) settings.now out.old out.new result }
-{
-    convert(
-        Order::BySet,
-        Order::ByPort,
-        roll,
-        debug,
-        flags,
-        settings,
-        out,
-    )
 }
 
 // Takes one message from a datagram, answers it, and keeps the settings, which are the little-endian bytes of their words. Settings that are

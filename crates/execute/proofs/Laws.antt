@@ -11,11 +11,11 @@ use Rattle.bits.specs.Change.{merge}
 use Rattle.refusal.specs.declared.Refusal.{Refusal}
 use Rattle.roll.specs.Record.{port_count, index_of, name_of}
 use Rattle.roll.proofs.table.Laws.{name-long}
-use Rattle.layout.specs.Layout.{list_of, size_of, widths_of, total_words, set_at}
+use Rattle.layout.specs.Layout.{list_of, size_of, widths_of, total_words, set_place, set_at}
 use Rattle.layout.specs.AtMost.{AtMost}
 use Rattle.layout.specs.declared.Set.{Set}
 use Rattle.layout.specs.declared.Sizes.{Sizes}
-use Rattle.layout.proofs.Laws.{sizes-of, size_few, widths-few}
+use Rattle.layout.proofs.Laws.{sizes-of, size_few, widths-few, place_inside, set-length}
 use Rattle.boxes.specs.Box.{Box, State, state_of, ports_in, sizes_in, widths_in, place_in, width_in, set_of}
 use Rattle.bitset_form.specs.declared.Form.{Form}
 use Rattle.response.specs.Answer.{Response, response_of, error_response, ack_bytes, unchanged, Responds, Performs}
@@ -47,7 +47,7 @@ module _ (box : Box) (state : State) (fit : Fit box state) (sizes width : Sizes)
     pub exact-by : (ws : List ℕ) → ws ≡ state.words → length ws ≡ total_words ports width
     exact-by ws e = ap length e ∙ rw (ep, ew, es) fit.exact
 
-    pub stored-words-are : (h : List ℕ) (position : ℕ) (set : Set) → h ≡ set_at box.layout.place state.words ports width position set → h ≡ set_of box state position set
+    pub stored-words-are : (h : List ℕ) (position : ℕ) (set : Set) → h ≡ set_at state.words ports width position set → h ≡ set_of box state position set
     unfolding set_of
     stored-words-are h position set e = e ∙ rw (ep, ew, es)
 
@@ -62,20 +62,21 @@ module _ (box : Box) (state : State) (fit : Fit box state) (sizes width : Sizes)
   pub apply-width : w ≤ 16
   apply-width = rw en (size_few 16 width set (few-by box state fit sizes width es ew))
 
-  module _ (ports : ℕ) (ep : ports ≡ ports_in box) (position at : ℕ) (ea : at ≡ box.layout.place ports width position set) where
+  module _ (ports position at : ℕ) (ea : at ≡ set_place ports width position set) where
     pub apply-room : position < ports_in box → (ws : List ℕ) → ws ≡ state.words → at + w ≤ length ws
+    unfolding set_place
     apply-room here ws e =
-        let i = box.layout.lawful.inside ports width position set (rw ep here) in
-        let l = exact-by box state fit sizes width es ew ports ep ws e in
+        let i = place_inside (ports_in box) width position set here in
+        let l = exact-by box state fit sizes width es ew (ports_in box) refl ws e in
         omega arith
 
     pub change-is : (form : Form) (new : List ℕ)
         → new ≡ splice at state.words (words_of w (merge (has (take w form.mask)) (has (take w form.value)) (has (take w (drop at state.words)))))
         → state_of new ≡ changed_by box state position set form
-    unfolding changed_by with_set place_in width_in
-    change-is form new e = ap state_of (e ∙ rw (ea, en, ep, ew, es))
+    unfolding changed_by with_set place_in width_in set_place
+    change-is form new e = ap state_of (e ∙ rw (ea, en, ew, es))
 
-pub ruleset change-laws = (few-by, ports-few, port-here, apply-width, apply-room, change-is)
+pub ruleset change-laws = (few-by, apply-width, apply-room, change-is)
 
 -- a decision carried out
 module _ (box : Box) (state : State) (m : List ℕ) (request : Request) (d : Decision) (P Q : List ℕ) (r : Answer) where

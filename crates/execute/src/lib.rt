@@ -18,9 +18,10 @@ use bitset_form::Form;
 use boxes::lists::sizes;
 use decision::{Decision, Plan, decide};
 use layout::change::apply;
-use layout::{Order, Set, set_place, size_of, widths};
+use layout::{Set, set_place, size_of, widths};
 use netlink_headers::headers::MessageHeader;
 use response::{Answer, acknowledge, refuse};
+use roll::table::PORTS;
 
 // An admitted request: its header, its position and the one after it, the place that a dump has come to, and its command.
 #[derive(Drop)]
@@ -36,7 +37,6 @@ pub struct Request {
 fn change(
     settings: &mut [u32],
     roll: &[u8],
-    ports: &[u64],
     debug: &[u8],
     flags: &[u8],
     position: usize,
@@ -44,12 +44,12 @@ fn change(
     form: Form,
 )
     requires position_bound { position < port_count roll.now }
-    requires tabled { Tabled roll.now ports.now }
     requires fit { Fit (box_of roll.now debug.now flags.now) (state_of settings.old) }
     ensures { state_of settings.new ≡ changed_by (box_of roll.now debug.now flags.now) (state_of settings.old) position set form }
 {
     let width = widths(sizes(debug, flags));
-    let at = set_place(Order::BySet, ports.len(), width, position, set);
+    // Where a set lies does not depend on how many ports follow.
+    let at = set_place(PORTS, width, position, set);
     let w = size_of(width, set);
     let mask = form.mask;
     let value = form.value;
@@ -91,7 +91,7 @@ fn carry_out<'a>(
             let command = request.command;
             let set = command.set;
             let form = decision.form;
-            change(settings, roll, ports, debug, flags, position, set, form);
+            change(settings, roll, debug, flags, position, set, form);
             let h = request.header;
             return acknowledge(page, m, h, request.next);
         }

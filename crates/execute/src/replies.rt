@@ -12,7 +12,7 @@ ghost use Rattle.execute.specs.Fit.{Fit};
 use crate::Request;
 use boxes::lists::sizes;
 use boxes::settings::set_at;
-use layout::{Order, Set, names_of, size_of, widths};
+use layout::{Set, names_of, size_of, widths};
 use netlink_dump::{MULTI, put_done};
 use reply::message::{heading_of, put_reply};
 use request::target::Target;
@@ -38,7 +38,7 @@ fn stored_words<'s>(
     ensures { result.now ≡ set_of (box_of roll.now debug.now flags.now) (state_of settings.now) position set }
 {
     let width = widths(sizes(debug, flags));
-    set_at(Order::BySet, settings, ports.len(), width, position, set)
+    set_at(settings, ports.len(), width, position, set)
 }
 
 // The reply to a request about a port, with message flags.

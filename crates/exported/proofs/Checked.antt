@@ -40,12 +40,12 @@ module _ (c : BoxParts) (r : CheckLeft) (h : CheckLeaves c r) where
         go Skipped e = omega (arith, one, l.refusal ∙ ap refusal_number e)
         go Done e = omega (arith, one, l.refusal ∙ ap refusal_number e)
         go (Refused why) e =
-            let n = kept_second c.box c.settings (call_at c position place) datagram (length page) c.grouped (rules.0 z position place few) why e in
+            let n = kept_second c.box c.settings (call_at c position place) datagram (length page) (rules.0 z position place few) why e in
             omega (arith, n, one, l.refusal ∙ ap refusal_number e)
 
     broken : (StoredRules c.box c.settings (call_at c position place) → ⊥) → (left.kind ≡ 3) × (left.refusal ≡ 1)
     broken wrong =
-        let e = (broken-exactly c.box c.settings (call_at c position place) datagram (length page) c.grouped).1 wrong in
+        let e = (broken-exactly c.box c.settings (call_at c position place) datagram (length page)).1 wrong in
         (l.kind ∙ ap kind_number e, l.refusal ∙ ap refusal_number e)
 
     refused : 0 < r.number → (left.kind ≡ 3) × (left.refusal ≡ 1)

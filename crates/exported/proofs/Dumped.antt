@@ -34,7 +34,7 @@ module _ (c : Lent) (settings : ℕ → Stored) (pages : ℕ → List ℕ) (left
   whole : WholeDump c.box c.call c.datagram (length c.page) settings
   whole =
       whole-dump c.box c.call c.datagram (length c.page) settings (λ k. (leaves k).bytes)
-      (λ k. (stored-exactly c.box c.grouped (settings k) (at_place c.call 0)).1 (rules k)) all
+      (λ k. (stored-exactly c.box (settings k) (at_place c.call 0)).1 (rules k)) all
       (ap (λ (o : Outcome Stored). o.response.kind) (sym (same 0)) ∙ is-done (lent 0) (left 0) (leaves 0) begun)
 
   -- what the pointers tell of it

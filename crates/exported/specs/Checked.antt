@@ -19,7 +19,7 @@ CheckLeaves c r = CheckBox (box_fault c.family c.admin c.box c.settings.settings
 -- a call of `ethnl_handle` that is lent the same parts, at a position and a place
 abbrev pub lent_with : BoxParts → ℕ → ℕ → List ℕ → List ℕ → Lent
 lent_with c position place datagram page =
-    record { box = c.box; grouped = c.grouped; settings = c.settings; call = call_at c position place; datagram = datagram; page = page }
+    record { box = c.box; settings = c.settings; call = call_at c position place; datagram = datagram; page = page }
 
 -- what C gets back: number and offset as `FaultTold` says; 0 exactly where the box keeps the rules of document 01, and exactly where `ethnl_handle`, at a place up to the port
 -- count and whatever else it is lent, does not refuse by 1; where it is not 0 every such call is refused by 1, and where the place is above the port count too

@@ -14,14 +14,13 @@ use Rattle.exported.specs.Returned.{Lent, Left, Leaves, message_in, header_in, W
 
 -- the same call at a place, with the settings and the page that it finds
 abbrev pub lent_at : Lent → (ℕ → Stored) → (ℕ → List ℕ) → ℕ → Lent
-lent_at c settings pages k = record { box = c.box; grouped = c.grouped; settings = settings k; call = at_place c.call k; datagram = c.datagram; page = pages k }
+lent_at c settings pages k = record { box = c.box; settings = settings k; call = at_place c.call k; datagram = c.datagram; page = pages k }
 
 -- a call that is lent a GET of the port with an index as a datagram of its own, by the same sender, with settings and a page
 abbrev pub lent_one : Lent → ℕ → ℕ → Stored → List ℕ → Lent
 lent_one c flags index settings page =
     record {
       box = c.box;
-      grouped = c.grouped;
       settings = settings;
       call = call_one c.call;
       datagram = get_one (header_in c) (byte_at (message_in c) 16) index flags;

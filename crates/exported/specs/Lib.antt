@@ -3,4 +3,3 @@ pub mod Dumped
 pub mod Normalised
 pub mod Checked
 pub mod Found
-pub mod Converted

@@ -6,7 +6,7 @@ use Rattle.netlink_headers.specs.Headers.{message_header}
 use Rattle.netlink_headers.specs.declared.headers.MessageHeader.{MessageHeader}
 use Rattle.refusal.specs.Refusal.{number_of}
 use Rattle.refusal.specs.declared.Refusal.{Refusal}
-use Rattle.boxes.specs.Box.{Box, Grouped, ports_in}
+use Rattle.boxes.specs.Box.{Box, ports_in}
 use Rattle.boxes.specs.declared.Call.{Call}
 use Rattle.admission.specs.Commands.{command_of}
 use Rattle.response.specs.Answer.{Response}
@@ -20,10 +20,9 @@ use Rattle.demands.specs.Stored.{stored_right, as_words, DoneSetStored}
 use Rattle.demands.specs.OwnNames.{RequestOwnNames}
 use Rattle.ethnl.specs.Exported.{Handle}
 
--- what a call of `ethnl_handle` is lent: the words of its settings lie set by set
+-- what a call of `ethnl_handle` is lent
 pub record Lent : Type 0 where
   pub box : Box
-  pub grouped : Grouped box
   pub settings : Stored
   pub call : Call
   pub datagram : List ℕ

@@ -1,39 +1,19 @@
--- Laws of sets and of their places: how they are computed, and how long a set is.
+-- Laws of places: how they are computed, and that a set lies inside the settings.
 use Prim.Native.Nat.{ℕ, ◌+◌, ◌-◌, ◌*◌, ◌≤◌, ◌<◌}
 use mathlib.Core.Path.{◌≡◌, refl, sym, ap, ◌∙◌}
 use mathlib.Core.List.{List}
 use mathlib.Core.Bool.{Bool, true}
-use mathlib.Core.Logic.{◌⊎◌, inl, inr, ⊎_elim}
 use native.Mathlib.Nat.{mul-le-mul, mul-le-mul_right, add-mul}
 use native.Mathlib.Omega.{arith}
 use lib.ListN.{length, take, drop, length-drop}
 use lib.Seq.{length-take-le}
-use Rattle.basics.proofs.Order.{lt-or-ge}
 use Rattle.basics.proofs.Truth.{both_true}
 use Rattle.bits.specs.Set.{words_for}
-use Rattle.layout.specs.declared.Order.{Order}
-use Rattle.layout.specs.declared.Order.TheVariants.{ByPort, BySet}
 use Rattle.layout.specs.declared.Set.{Set}
 use Rattle.layout.specs.declared.Set.TheVariants.{Debug, Flags}
 use Rattle.layout.specs.declared.Sizes.{Sizes}
-use Rattle.layout.specs.Layout.{Names, names_of, list_of, size_of, of_lists, of_sizes, widths_of, every_set, port_words, first_of, total_words, Place, place_of, set_at}
-use Rattle.layout.specs.Lawful.{Lawful}
+use Rattle.layout.specs.Layout.{Names, names_of, list_of, size_of, of_lists, of_sizes, widths_of, every_set, port_words, first_of, total_words, set_place, set_at}
 use Rattle.layout.specs.AtMost.{AtMost}
-
--- two sets are the same or not
-pub same_set : (s t : Set) → (s ≡ t) ⊎ (s ≡ t → ⊥)
-same_set Debug Debug = inl refl
-same_set Debug Flags = inr (λ e. let z : ◌≡◌ {A = ℕ} 0 1 = cc in omega arith)
-same_set Flags Debug = inr (λ e. let z : ◌≡◌ {A = ℕ} 0 1 = cc in omega arith)
-same_set Flags Flags = inl refl
-
--- and two positions
-pub same_number : (p q : ℕ) → (p ≡ q) ⊎ (p ≡ q → ⊥)
-same_number p q =
-    ⊎_elim
-    (λ (h : p < q). inr (λ (e : p ≡ q). omega arith))
-    (λ (h : q ≤ p). ⊎_elim (λ (l : q < p). inr (λ (e : p ≡ q). omega arith)) (λ (l : p ≤ q). inl (omega arith)) (lt-or-ge q p))
-    (lt-or-ge p q)
 
 -- the set's own
 module _ (set : Set) (debug flags : List ℕ) where
@@ -116,10 +96,6 @@ unfolding first_of
 first-few width Debug few = omega arith
 first-few width Flags few = few.debug
 
--- the words of one set of some ports
-pub part-few : (ports : ℕ) {n k : ℕ} → ports ≤ 64 → n ≡ k → k ≤ 16 → ports * n ≤ 1024
-part-few ports h e few = rw e (mul-le-mul h few)
-
 pub words-is : (ports : ℕ) (width : Sizes) (n r : ℕ) → n ≡ port_words width → r ≡ ports * n → r ≡ total_words ports width
 unfolding total_words
 words-is ports width n r en er = rw (er, en)
@@ -137,31 +113,28 @@ unfolding first_of size_of port_words
 in-port width Debug = omega arith
 in-port width Flags = omega arith
 
--- a set is as long as its widths say
-module _ (place : Place) (lawful : Lawful place) (ports : ℕ) (width : Sizes) (position : ℕ) (set : Set) (h : position < ports) (settings : List ℕ)
-    (e : length settings ≡ total_words ports width) where
-  pub set-length : length (set_at place settings ports width position set) ≡ size_of width set
-  unfolding set_at
-  set-length =
-      length-take-le (size_of width set) (drop (place ports width position set) settings)
-      (rw (length-drop (place ports width position set) settings) (let i = lawful.inside ports width position set h in omega arith))
+-- inside: the words of a set lie in those of all ports
+module _ (ports : ℕ) (width : Sizes) (position : ℕ) (set : Set) (h : position < ports) where
+  pub place_inside : set_place ports width position set + size_of width set ≤ total_words ports width
+  unfolding set_place total_words
+  place_inside = omega (arith, port-step (port_words width) position ports h, in-port width set)
 
--- a place by what the code has computed of it
-module _ (order : Order) (ports : ℕ) (width : Sizes) (position : ℕ) (set : Set) (first : ℕ) (ef : first ≡ first_of width set) where
-  pub place-by-port : (before r : ℕ) → order ≡ ByPort → before ≡ total_words position width → r ≡ before + first → r ≡ place_of order ports width position set
-  unfolding place_of total_words
-  place-by-port before r eo eb er = sym (rw (eo, er, ef, eb))
+  module _ (settings : List ℕ) (e : length settings ≡ total_words ports width) where
+    pub set-length : length (set_at settings ports width position set) ≡ size_of width set
+    unfolding set_at
+    set-length =
+        length-take-le (size_of width set) (drop (set_place ports width position set) settings)
+        (rw (length-drop (set_place ports width position set) settings) (let i = place_inside in omega arith))
 
-  pub place-by-set : (size r : ℕ) → order ≡ BySet → size ≡ size_of width set → r ≡ ports * first + position * size → r ≡ place_of order ports width position set
-  unfolding place_of
-  place-by-set size r eo es er = sym (rw (eo, er, ef, es))
-
-pub ruleset place-laws = (place-by-port, place-by-set)
+pub place_is : (ports : ℕ) (width : Sizes) (position : ℕ) (set : Set) (first before r : ℕ) → first ≡ first_of width set → before ≡ total_words position width → r ≡ before + first
+    → r ≡ set_place ports width position set
+unfolding set_place total_words
+place_is ports width position set first before r ef eb er = rw (er, ef, eb)
 
 -- the part from a set's first word to its end is that set
-pub set_is : (place : Place) (settings : List ℕ) (ports : ℕ) (width : Sizes) (position : ℕ) (set : Set) (at w end : ℕ) → at ≡ place ports width position set → w ≡ size_of width set
-    → end ≡ at + w → take (end - at) (drop at settings) ≡ set_at place settings ports width position set
+pub set_is : (settings : List ℕ) (ports : ℕ) (width : Sizes) (position : ℕ) (set : Set) (at w end : ℕ) → at ≡ set_place ports width position set → w ≡ size_of width set
+    → end ≡ at + w → take (end - at) (drop at settings) ≡ set_at settings ports width position set
 unfolding set_at
-set_is place settings ports width position set at w end ea ew ee =
+set_is settings ports width position set at w end ea ew ee =
     let k : end - at ≡ w = omega arith in
     ap (λ (n : ℕ). take n (drop at settings)) (k ∙ ew) ∙ ap (λ (n : ℕ). take (size_of width set) (drop n settings)) ea

@@ -1,3 +1,3 @@
 pub mod Laws
-pub mod Orders
+pub mod Apart
 pub mod Kept

@@ -1,9 +1,7 @@
--- Where a set lies, in the order of document 01, "The box a call is given" ("for each port in roll order its debug set, then its flags"), and in that of request C-16
--- ("all debug sets, then all flags .. each part in roll order"). No other definition by which the code is judged says so.
+-- Where a set lies (document 01, "The box a call is given": "Port settings are lent as 32-bit words: for each port in roll order its debug set, then its flags").
+-- No other definition says so.
 use Rattle.std.specs.Prelude.{ℕ, ◌+◌, ◌*◌, List, Bool, ◌&&◌, take, drop}
 use Rattle.bits.specs.Set.{words_for}
-use Rattle.layout.specs.declared.Order.{Order}
-use Rattle.layout.specs.declared.Order.TheVariants.{ByPort, BySet}
 use Rattle.layout.specs.declared.Set.{Set}
 use Rattle.layout.specs.declared.Set.TheVariants.{Debug, Flags}
 use Rattle.layout.specs.declared.Sizes.{Sizes}
@@ -47,7 +45,7 @@ widths_of sizes = of_sizes words_for sizes
 unfoldable pub port_words : Sizes → ℕ
 port_words width = width.debug + width.flags
 
--- the words that a port's sets before this one take
+-- the first word of a set among those of its port
 unfoldable pub first_of : Sizes → Set → ℕ
 first_of width Debug = 0
 first_of width Flags = width.debug
@@ -56,15 +54,10 @@ first_of width Flags = width.debug
 unfoldable pub total_words : ℕ → Sizes → ℕ
 total_words ports width = ports * port_words width
 
--- where the sets lie: the first word of a set of the port at a position, by the count of ports and the words that each set takes
-abbrev pub Place : Type 0
-Place = ℕ → Sizes → ℕ → Set → ℕ
-
--- that of an order: the words of the ports before it and those of its port's sets before it; or those of all ports' sets before it and those of this set of the ports before it
-unfoldable pub place_of : Order → Place
-place_of ByPort ports width position set = position * port_words width + first_of width set
-place_of BySet ports width position set = ports * first_of width set + position * size_of width set
+-- the first word of a set of the port at a position; in this order of the sets the count of ports does not matter
+unfoldable pub set_place : ℕ → Sizes → ℕ → Set → ℕ
+set_place ports width position set = position * port_words width + first_of width set
 
 -- the words of that set
-unfoldable pub set_at : Place → List ℕ → ℕ → Sizes → ℕ → Set → List ℕ
-set_at place settings ports width position set = take (size_of width set) (drop (place ports width position set) settings)
+unfoldable pub set_at : List ℕ → ℕ → Sizes → ℕ → Set → List ℕ
+set_at settings ports width position set = take (size_of width set) (drop (set_place ports width position set) settings)

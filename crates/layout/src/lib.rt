@@ -1,16 +1,9 @@
-// Where the sets of the ports lie in the settings.
+// Where the sets of the ports lie in the settings: for each port in roll order its debug set, then its flags.
 ghost use Rattle.std.specs.Prelude.{◌≡◌, ◌≤◌, ◌<◌};
-ghost use Rattle.layout.specs.Layout.{names_of, list_of, size_of, widths_of, port_words, first_of, total_words as words_of, place_of};
+ghost use Rattle.layout.specs.Layout.{names_of, list_of, size_of, widths_of, port_words, first_of, total_words as words_of, set_place as place_of};
 ghost use Rattle.layout.specs.AtMost.{AtMost};
 
 pub mod change;
-
-// The order in which they lie: for each port in roll order its debug set, then its flags; or the debug sets of all ports, then the flags of all ports, each part in roll order.
-#[derive(Drop)]
-pub enum Order {
-    ByPort,
-    BySet,
-}
 
 // The two sets of a port.
 #[derive(Drop)]
@@ -72,7 +65,7 @@ fn port_words(width: Sizes) -> usize
     width.debug + width.flags
 }
 
-// The words that a port's sets before this one take.
+// The first word of a set in those of its port.
 fn first_word(width: Sizes, set: Set) -> usize
     ensures { result ≡ first_of width set }
 {
@@ -95,17 +88,9 @@ pub fn total_words(ports: usize, width: Sizes) -> usize
 }
 
 // The first word of a set of the port at a position.
-pub fn set_place(order: Order, ports: usize, width: Sizes, position: usize, set: Set) -> usize
+pub fn set_place(ports: usize, width: Sizes, position: usize, set: Set) -> usize
     requires { (position < ports) × (ports ≤ 64) × AtMost 16 width }
-    ensures { result ≡ place_of order ports width position set }
+    ensures { result ≡ place_of ports width position set }
 {
-    let first = first_word(width, set);
-    match order {
-        Order::ByPort => {
-            return total_words(position, width) + first;
-        }
-        Order::BySet => {
-            return ports * first + position * size_of(width, set);
-        }
-    }
+    total_words(position, width) + first_word(width, set)
 }

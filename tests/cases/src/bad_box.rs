@@ -1,7 +1,6 @@
 //! Boxes that break one rule (document 01, "The box a call is given"): 1.
 
-use super::boxes::{list_bytes, record, BoxBytes, Model, Port};
-use super::orders::Order;
+use super::boxes::{list_bytes, record, set, BoxBytes, Model, Port};
 use super::rng::Rng;
 
 /// One damage to the box; everything else stays as it is.
@@ -78,16 +77,12 @@ pub fn repeated_port(rng: &mut Rng, given: &mut BoxBytes, model: &Model) {
     add_port(rng, given, model, &double);
 }
 
-/// Puts a port's record after the others, and its sets where they belong in the order of the settings.
+/// Puts a port's record and settings after the others.
 fn add_port(rng: &mut Rng, given: &mut BoxBytes, model: &Model, port: &Port) {
-    let [debug, flags] = model.sets(rng).map(|set| set.into_iter().flat_map(u32::to_le_bytes).collect::<Vec<u8>>());
-    let debug_end = match given.order {
-        Order::ByPort => given.settings.len(),
-        Order::BySet => given.settings.len().min(given.roll.len() / 21 * debug.len()),
-    };
-    given.settings.splice(debug_end..debug_end, debug);
-    given.settings.extend(flags);
     given.roll.extend(record(port));
+    for list in &model.lists {
+        given.settings.extend(set(rng, list.len()).into_iter().flat_map(u32::to_le_bytes));
+    }
 }
 
 /// 65 ports or more, with all their settings.
@@ -109,10 +104,11 @@ pub fn settings_length(rng: &mut Rng, settings: &mut Vec<u8>) {
 
 /// A bit at or past N in some set of some port, where a word has room for one.
 pub fn settings_bit(rng: &mut Rng, given: &mut BoxBytes, model: &Model) {
+    let words = model.lists.each_ref().map(|list| list.len().div_ceil(32));
     let port = rng.below(model.ports.len());
-    let list = rng.below(2);
-    let bits = model.lists[list].len();
-    let start = 32 * given.order.start(model.ports.len(), model.words(), port, list);
+    let set = rng.below(2);
+    let bits = model.lists[set].len();
+    let start = 32 * (port * (words[0] + words[1]) + set * words[0]);
     if !bits.is_multiple_of(32) {
         let bit = start + rng.pick(&[bits, bits.next_multiple_of(32) - 1]);
         if let Some(byte) = given.settings.get_mut(bit / 8) {

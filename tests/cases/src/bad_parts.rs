@@ -17,7 +17,7 @@ pub fn damage(rng: &mut Rng, given: &mut BoxBytes, model: &Model) {
 }
 
 /// A record that is of unknown kind or cut short, has a bad index or name, repeats one before it, or is the 65th.
-pub fn roll(rng: &mut Rng, given: &mut BoxBytes, model: &Model) {
+fn roll(rng: &mut Rng, given: &mut BoxBytes, model: &Model) {
     let records = given.roll.len() / 21;
     match rng.below(12) {
         0..3 if records > 0 => bad_box::records(rng, &mut given.roll),
@@ -36,7 +36,7 @@ fn repeated_field(rng: &mut Rng, roll: &mut [u8]) {
 }
 
 /// Settings that end too early or too late, by a little or by much.
-pub fn settings_length(rng: &mut Rng, settings: &mut Vec<u8>) {
+fn settings_length(rng: &mut Rng, settings: &mut Vec<u8>) {
     match rng.below(3) {
         0 => settings.truncate(rng.below(settings.len() + 1)),
         1 => {
@@ -48,7 +48,7 @@ pub fn settings_length(rng: &mut Rng, settings: &mut Vec<u8>) {
 }
 
 /// Bits at or past N in some sets.
-pub fn settings_bits(rng: &mut Rng, given: &mut BoxBytes, model: &Model) {
+fn settings_bits(rng: &mut Rng, given: &mut BoxBytes, model: &Model) {
     for _ in 0..rng.within(1, 3) {
         bad_box::settings_bit(rng, given, model);
     }

@@ -3,7 +3,6 @@
 use super::alike;
 use super::long_lists;
 use super::names;
-use super::orders::{set, Order, Sets};
 use super::rng::Rng;
 
 pub struct Port {
@@ -26,8 +25,6 @@ pub struct BoxBytes {
     pub roll: Vec<u8>,
     pub lists: [Vec<u8>; 2],
     pub settings: Vec<u8>,
-    /// The order in which the settings lie.
-    pub order: Order,
 }
 
 /// The number of bits of a list: those at the edges of words, and now and then a long one.
@@ -102,23 +99,6 @@ impl Model {
         Self::of(rng, family, count)
     }
 
-    /// A box for a converter: mostly of several ports, with sets of different widths whose last words are seldom full.
-    pub fn of_regroup(rng: &mut Rng) -> Self {
-        let count = match rng.below(40) {
-            0..3 => 64,
-            3 | 4 => rng.within(9, 63),
-            5..13 => 1,
-            13..24 => 2,
-            _ => rng.within(3, 8),
-        };
-        let lists = [(); 2].map(|()| {
-            let words = rng.pick(&[1, 1, 1, 2, 2, 2, 3, 4, 16]);
-            let bits = 32 * (words - 1) + if rng.per_mille(150) { 32 } else { rng.within(1, 31) };
-            list(rng, bits)
-        });
-        Model { family: 25, ports: ports(rng, count), lists }
-    }
-
     /// A box of one port whose reply about both lists is just not too long, or just too long.
     pub fn of_long_lists(rng: &mut Rng) -> Self {
         let ports = ports(rng, 1);
@@ -135,29 +115,14 @@ impl Model {
 
     /// The box's bytes with settings of its own.
     pub fn lend(&self, rng: &mut Rng) -> BoxBytes {
-        let sets: Vec<Sets> = self.ports.iter().map(|_| self.sets(rng)).collect();
-        self.lend_with(&sets, Order::BySet)
-    }
-
-    /// Sets of one port.
-    pub fn sets(&self, rng: &mut Rng) -> Sets {
-        self.lists.each_ref().map(|list| set(rng, list.len()))
-    }
-
-    /// The words of a debug set and of a port's flags.
-    pub fn words(&self) -> [usize; 2] {
-        self.lists.each_ref().map(|list| list.len().div_ceil(32))
-    }
-
-    /// The box's bytes with these sets of its ports, in an order.
-    pub fn lend_with(&self, sets: &[Sets], order: Order) -> BoxBytes {
+        let sets = self.ports.iter().flat_map(|_| self.lists.iter().map(Vec::len));
+        let settings = sets.flat_map(|bits| set(rng, bits)).flat_map(u32::to_le_bytes).collect();
         BoxBytes {
             family: u32::from(self.family),
             admin: 1,
             roll: self.ports.iter().flat_map(record).collect(),
             lists: [list_bytes(&self.lists[0]), list_bytes(&self.lists[1])],
-            settings: order.lay(sets),
-            order,
+            settings,
         }
     }
 }
@@ -194,4 +159,20 @@ pub fn list_bytes(names: &[Vec<u8>]) -> Vec<u8> {
         entry[..name.len()].copy_from_slice(name);
     }
     bytes
+}
+
+/// The words of a set of N bits: empty, full or anything.
+pub fn set(rng: &mut Rng, bits: usize) -> Vec<u32> {
+    let style = rng.below(6);
+    let mut words: Vec<u32> = (0..bits.div_ceil(32))
+        .map(|_| match style {
+            0 => 0,
+            1 => u32::MAX,
+            _ => rng.word(),
+        })
+        .collect();
+    if !bits.is_multiple_of(32) {
+        words[bits / 32] &= (1 << (bits % 32)) - 1;
+    }
+    words
 }

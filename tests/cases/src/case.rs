@@ -47,17 +47,6 @@ pub struct FindCase {
     pub name: Vec<u8>,
 }
 
-/// Inputs of a converter.
-#[derive(Clone, Debug, PartialEq, Eq)]
-pub struct RegroupCase {
-    pub roll: Vec<u8>,
-    pub debug_names: Vec<u8>,
-    pub flag_names: Vec<u8>,
-    pub settings: Vec<u8>,
-    /// The output as it is before the call.
-    pub out: Vec<u8>,
-}
-
 /// One call.
 #[derive(Clone, Debug, PartialEq, Eq)]
 pub enum Case {
@@ -65,10 +54,6 @@ pub enum Case {
     Normalise(NormaliseCase),
     CheckBox(CheckBoxCase),
     Find(FindCase),
-    /// From document 01's order to the one grouped by set.
-    Group(RegroupCase),
-    /// The other way.
-    Ungroup(RegroupCase),
 }
 
 /// The box of a case.
@@ -130,16 +115,6 @@ impl Display for FindCase {
     }
 }
 
-impl Display for RegroupCase {
-    fn fmt(&self, out: &mut Formatter) -> Result {
-        writeln!(out, "roll {}", hex(&self.roll))?;
-        writeln!(out, "debug_names {}", hex(&self.debug_names))?;
-        writeln!(out, "flag_names {}", hex(&self.flag_names))?;
-        writeln!(out, "settings {}", hex(&self.settings))?;
-        writeln!(out, "out {} bytes, {}", self.out.len(), hex(&self.out))
-    }
-}
-
 impl Display for Case {
     fn fmt(&self, out: &mut Formatter) -> Result {
         match self {
@@ -147,8 +122,6 @@ impl Display for Case {
             Case::Normalise(case) => case.fmt(out),
             Case::CheckBox(case) => write!(out, "check_box\n{}", GivenBox::from(case)),
             Case::Find(case) => case.fmt(out),
-            Case::Group(case) => write!(out, "group\n{case}"),
-            Case::Ungroup(case) => write!(out, "ungroup\n{case}"),
         }
     }
 }

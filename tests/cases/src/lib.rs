@@ -1,5 +1,5 @@
-//! Cases for the handler, the normaliser, the check of a box, the search for a bit name and the two converters of
-//! settings, each made from a seed and its number alone.
+//! Cases for the handler, the normaliser, the check of a box and the search for a bit name, each made from a seed and its
+//! number alone.
 //!
 //! A case begins as a right box and a valid request of one of the five commands, in one of its many forms, dumps among
 //! them. Then it is damaged none to three times: in the tree of attributes, in what the attributes say, in the message,
@@ -7,9 +7,7 @@
 //! one too, and all now and then one above the port count. Small boxes dominate; every hundredth or so is large, and
 //! some have names whose reply is just not too long, or just too long. A case for the check of a box has no request, more
 //! ports, and damage in any part and at any place of it. A case for the search has a list, mostly one of which many names
-//! have one length and one last byte, and a name that is in it or nearly is, or one that no list has. A case for a converter
-//! has mostly several ports whose sets differ in width, damage in any part that it looks at, settings that lie in the other
-//! order, and outputs of another length among them.
+//! have one length and one last byte, and a name that is in it or nearly is, or one that no list has.
 
 #![forbid(unsafe_code)]
 
@@ -28,15 +26,13 @@ mod hex;
 mod long_lists;
 mod making;
 mod names;
-mod orders;
 mod places;
-mod regroup;
 pub mod requests;
 mod rng;
 pub mod strsets;
 pub mod tree;
 mod wanted;
 
-pub use case::{Case, CheckBoxCase, FindCase, GivenBox, HandleCase, NormaliseCase, RegroupCase};
+pub use case::{Case, CheckBoxCase, FindCase, GivenBox, HandleCase, NormaliseCase};
 pub use hex::hex;
 pub use making::case;

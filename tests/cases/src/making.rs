@@ -3,11 +3,10 @@
 use super::boxes::{self, BoxBytes, Model};
 use super::case::{Case, CheckBoxCase, FindCase, HandleCase, NormaliseCase};
 use super::datagrams;
-use super::orders::Order;
 use super::requests::Request;
 use super::rng::Rng;
 use super::tree::write_all;
-use super::{alike, bad_box, bad_message, bad_parts, bad_tree, bad_words, bitsets, places, regroup, wanted};
+use super::{alike, bad_box, bad_message, bad_parts, bad_tree, bad_words, bitsets, places, wanted};
 
 /// Shortest answer page of the handler.
 const ANSWER_PAGE: usize = 32_768;
@@ -23,14 +22,12 @@ pub fn case(seed: u64, number: u64) -> Case {
         0..150 => Case::Normalise(normalise(&mut rng)),
         150..250 => Case::CheckBox(check_box(&mut rng)),
         250..310 => Case::Find(find(&mut rng)),
-        310..345 => Case::Group(regroup::case(&mut rng, Order::ByPort)),
-        345..380 => Case::Ungroup(regroup::case(&mut rng, Order::BySet)),
         _ => Case::Handle(handle(&mut rng)),
     }
 }
 
 /// How often a case is damaged.
-pub fn damages(rng: &mut Rng) -> usize {
+fn damages(rng: &mut Rng) -> usize {
     rng.weighted(&[(30, 0), (42, 1), (18, 2), (10, 3)])
 }
 
@@ -124,8 +121,8 @@ fn short_page(rng: &mut Rng) -> usize {
     rng.pick(&[ANSWER_PAGE - 1, ANSWER_PAGE - 1, ANSWER_PAGE - 4, 24_684, 144, 36, 1, 0])
 }
 
-/// The bytes of a page or an output before the call: a pattern that no answer leaves by chance.
-pub fn contents_of_page(rng: &mut Rng, length: usize) -> Vec<u8> {
+/// A page's bytes before the call: a pattern that no answer leaves by chance.
+fn contents_of_page(rng: &mut Rng, length: usize) -> Vec<u8> {
     let pattern = rng.bytes(61);
     let mut page = Vec::with_capacity(length + pattern.len());
     while page.len() < length {
@@ -164,7 +161,7 @@ fn check_box(rng: &mut Rng) -> CheckBoxCase {
     for _ in 0..damages(rng) {
         bad_parts::damage(rng, &mut given, &model);
     }
-    let BoxBytes { family, admin, roll, lists: [debug_names, flag_names], settings, .. } = given;
+    let BoxBytes { family, admin, roll, lists: [debug_names, flag_names], settings } = given;
     CheckBoxCase { family, admin, roll, debug_names, flag_names, settings }
 }
 

@@ -1,7 +1,7 @@
-//! What is compared: anything that answers the calls of the handler, of the normaliser, of the check of a box, of the
-//! search for a bit name and of the two converters of settings.
+//! What is compared: anything that answers the calls of the handler, of the normaliser, of the check of a box and of the
+//! search for a bit name.
 
-use cases::{FindCase, GivenBox, HandleCase, NormaliseCase, RegroupCase};
+use cases::{FindCase, GivenBox, HandleCase, NormaliseCase};
 use reader::Answer;
 
 /// An implementation of document 01 and its later requests.
@@ -17,12 +17,6 @@ pub trait Implementation {
 
     /// Gives the number (0 if the list is right), the bit found and how many entries were compared further.
     fn find(&self, case: &FindCase) -> (u32, u32, u64);
-
-    /// Gives the number; the output is that of the case, to be written in place.
-    fn group(&self, case: &RegroupCase, out: &mut [u8]) -> u32;
-
-    /// The same of the way back.
-    fn ungroup(&self, case: &RegroupCase, out: &mut [u8]) -> u32;
 }
 
 /// The reader of this workspace.
@@ -55,13 +49,5 @@ impl Implementation for Reader {
 
     fn find(&self, case: &FindCase) -> (u32, u32, u64) {
         reader::find(&case.names, &case.name)
-    }
-
-    fn group(&self, case: &RegroupCase, out: &mut [u8]) -> u32 {
-        reader::group(&case.roll, &case.debug_names, &case.flag_names, &case.settings, out)
-    }
-
-    fn ungroup(&self, case: &RegroupCase, out: &mut [u8]) -> u32 {
-        reader::ungroup(&case.roll, &case.debug_names, &case.flag_names, &case.settings, out)
     }
 }

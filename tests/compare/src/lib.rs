@@ -1,15 +1,13 @@
 //! Two implementations of document 01 over the same cases: kind, number, next position, next place, count, every byte
 //! of the page and every byte of the settings; part and offset that the check of a box tells, and that the handler
 //! refuses by 1 exactly where it tells of a part or the place is above the port count; number, bit and count of a search
-//! for a bit name; number and every byte of the output of a converter, and the bytes around it.
+//! for a bit name.
 
 mod attributes;
 mod finds;
 mod implementation;
 mod name_lists;
 mod outcome;
-mod port_sets;
-mod regrouped;
 mod tally;
 
 #[cfg(feature = "normaliser")]
@@ -20,7 +18,6 @@ pub use implementation::{Implementation, Reader};
 #[cfg(feature = "normaliser")]
 pub use library::Library;
 pub use outcome::{outcome, Outcome};
-pub use port_sets::{PortSets, Ports};
 pub use tally::Tally;
 
 use cases::Case;

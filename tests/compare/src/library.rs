@@ -1,8 +1,7 @@
-//! The proved library behind its C boundary (`ethnl_handle`, `ethnl_normalise`, `ethnl_check_box`, `ethnl_find`,
-//! `ethnl_group`, `ethnl_ungroup`).
+//! The proved library behind its C boundary (`ethnl_handle`, `ethnl_normalise`, `ethnl_check_box`, `ethnl_find`).
 
 use super::Implementation;
-use cases::{FindCase, GivenBox, HandleCase, NormaliseCase, RegroupCase};
+use cases::{FindCase, GivenBox, HandleCase, NormaliseCase};
 use reader::Answer;
 
 #[cfg(feature = "library")]
@@ -52,32 +51,6 @@ extern "C" {
         name_len: usize,
         found: *mut u32,
         compared: *mut u64,
-    ) -> u32;
-
-    fn ethnl_group(
-        roll: *const u8,
-        roll_len: usize,
-        debug_names: *const u8,
-        debug_names_len: usize,
-        flag_names: *const u8,
-        flag_names_len: usize,
-        settings: *const u8,
-        settings_len: usize,
-        out: *mut u8,
-        out_len: usize,
-    ) -> u32;
-
-    fn ethnl_ungroup(
-        roll: *const u8,
-        roll_len: usize,
-        debug_names: *const u8,
-        debug_names_len: usize,
-        flag_names: *const u8,
-        flag_names_len: usize,
-        settings: *const u8,
-        settings_len: usize,
-        out: *mut u8,
-        out_len: usize,
     ) -> u32;
 }
 
@@ -202,53 +175,5 @@ impl Implementation for Library {
             )
         };
         (number, found, compared)
-    }
-
-    #[cfg(not(feature = "library"))]
-    fn group(&self, case: &RegroupCase, out: &mut [u8]) -> u32 {
-        super::Reader.group(case, out)
-    }
-
-    #[cfg(feature = "library")]
-    fn group(&self, case: &RegroupCase, out: &mut [u8]) -> u32 {
-        // SAFETY: each pointer comes from a live slice and is followed by that slice's length.
-        unsafe {
-            ethnl_group(
-                case.roll.as_ptr(),
-                case.roll.len(),
-                case.debug_names.as_ptr(),
-                case.debug_names.len(),
-                case.flag_names.as_ptr(),
-                case.flag_names.len(),
-                case.settings.as_ptr(),
-                case.settings.len(),
-                out.as_mut_ptr(),
-                out.len(),
-            )
-        }
-    }
-
-    #[cfg(not(feature = "library"))]
-    fn ungroup(&self, case: &RegroupCase, out: &mut [u8]) -> u32 {
-        super::Reader.ungroup(case, out)
-    }
-
-    #[cfg(feature = "library")]
-    fn ungroup(&self, case: &RegroupCase, out: &mut [u8]) -> u32 {
-        // SAFETY: each pointer comes from a live slice and is followed by that slice's length.
-        unsafe {
-            ethnl_ungroup(
-                case.roll.as_ptr(),
-                case.roll.len(),
-                case.debug_names.as_ptr(),
-                case.debug_names.len(),
-                case.flag_names.as_ptr(),
-                case.flag_names.len(),
-                case.settings.as_ptr(),
-                case.settings.len(),
-                out.as_mut_ptr(),
-                out.len(),
-            )
-        }
     }
 }

@@ -1,6 +1,5 @@
 //! All that a call leaves behind.
 
-use super::regrouped::regrouped;
 use super::Implementation;
 use cases::{hex, Case, CheckBoxCase, HandleCase};
 use reader::Answer;
@@ -32,11 +31,6 @@ pub enum Outcome {
         found: u32,
         compared: u64,
     },
-    /// `out` is the output with the bytes around it.
-    Regrouped {
-        number: u32,
-        out: Vec<u8>,
-    },
 }
 
 impl Outcome {
@@ -47,7 +41,7 @@ impl Outcome {
             Outcome::Handled { answer, part, .. } | Outcome::Checked { answer, part, .. } => {
                 (answer.refusal == 1) == (*part != 0 || !has_place(case))
             }
-            Outcome::Normalised { .. } | Outcome::Found { .. } | Outcome::Regrouped { .. } => true,
+            Outcome::Normalised { .. } | Outcome::Found { .. } => true,
         }
     }
 }
@@ -56,11 +50,11 @@ impl Outcome {
 fn has_place(case: &Case) -> bool {
     match case {
         Case::Handle(HandleCase { roll, place, .. }) => *place <= roll.len() as u64 / 21,
-        _ => true,
+        Case::Normalise(_) | Case::CheckBox(_) | Case::Find(_) => true,
     }
 }
 
-/// Runs a case on copies of its settings, page and output.
+/// Runs a case on copies of its settings and page.
 pub fn outcome(implementation: &dyn Implementation, case: &Case) -> Outcome {
     match case {
         Case::Handle(case) => {
@@ -81,14 +75,6 @@ pub fn outcome(implementation: &dyn Implementation, case: &Case) -> Outcome {
         Case::Find(case) => {
             let (number, found, compared) = implementation.find(case);
             Outcome::Found { number, found, compared }
-        }
-        Case::Group(case) => {
-            let (number, out) = regrouped(case, |case, out| implementation.group(case, out));
-            Outcome::Regrouped { number, out }
-        }
-        Case::Ungroup(case) => {
-            let (number, out) = regrouped(case, |case, out| implementation.ungroup(case, out));
-            Outcome::Regrouped { number, out }
         }
     }
 }
@@ -136,10 +122,6 @@ impl Display for Outcome {
             }
             Outcome::Found { number, found, compared } => {
                 writeln!(out, "number {number}, found {found}, compared {compared}")
-            }
-            Outcome::Regrouped { number, out: left } => {
-                writeln!(out, "number {number}")?;
-                writeln!(out, "out, with the bytes around it {}", hex(left))
             }
         }
     }

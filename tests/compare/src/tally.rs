@@ -13,8 +13,6 @@ const NORMALISER: [usize; 14] = [0, 1, 2, 3, 10, 11, 12, 13, 18, 19, 20, 21, 22,
 const LAST_PART: usize = 6;
 /// The largest number of a search for a name.
 const LAST_OF_FIND: usize = 1;
-/// The largest number of a converter.
-const LAST_OF_REGROUP: usize = 2;
 
 /// Counts of kinds and numbers.
 #[derive(Default)]
@@ -26,8 +24,6 @@ pub struct Tally {
     /// Replies of ports in dumps, and DONE behind them.
     dumped: [u64; 2],
     found: [u64; LAST_OF_FIND + 1],
-    grouped: [u64; LAST_OF_REGROUP + 1],
-    ungrouped: [u64; LAST_OF_REGROUP + 1],
     /// Ways of a done STRSET_GET.
     listed: [u64; name_lists::WAYS.len()],
     /// Ways of a search for a name.
@@ -68,10 +64,6 @@ impl Tally {
                     self.searched.iter_mut().zip(ways).for_each(|(count, way)| *count += u64::from(way));
                 }
             }
-            Outcome::Regrouped { number, .. } => match case {
-                Case::Group(_) => add(&mut self.grouped, *number),
-                _ => add(&mut self.ungrouped, *number),
-            },
         }
     }
 
@@ -83,19 +75,16 @@ impl Tally {
     }
 
     /// What was reached fewer times than it should: kinds, refusals of the handler, numbers of the normaliser, of the
-    /// check of a box, of a search for a name and of each converter, the two messages of dumps, the ways of a done
-    /// STRSET_GET and of a search.
+    /// check of a box and of a search for a name, the two messages of dumps, the ways of a done STRSET_GET and of a
+    /// search.
     pub fn rare(&self, least: u64) -> Vec<String> {
         let kinds = (0..4).map(|kind| (format!("kind {kind}"), self.kinds[kind]));
         let handled = (0..=LAST).map(|number| (format!("handle {number}"), self.handled[number]));
         let normalised = NORMALISER.map(|number| (format!("normalise {number}"), self.normalised[number]));
         let checked = (0..=LAST_PART).map(|part| (format!("check_box {part}"), self.checked[part]));
         let found = (0..=LAST_OF_FIND).map(|number| (format!("find {number}"), self.found[number]));
-        let grouped = (0..=LAST_OF_REGROUP).map(|number| (format!("group {number}"), self.grouped[number]));
-        let ungrouped = (0..=LAST_OF_REGROUP).map(|number| (format!("ungroup {number}"), self.ungrouped[number]));
         let dumped = (0..2).map(|which| (DUMPED[which].to_string(), self.dumped[which]));
-        let numbers = handled.chain(normalised).chain(checked).chain(found).chain(grouped).chain(ungrouped);
-        let all = kinds.chain(numbers).chain(dumped).chain(self.ways());
+        let all = kinds.chain(handled).chain(normalised).chain(checked).chain(found).chain(dumped).chain(self.ways());
         all.filter(|(_, count)| *count < least).map(|(name, count)| format!("{name}: {count}")).collect()
     }
 }
@@ -108,17 +97,15 @@ impl Display for Tally {
         for (way, count) in self.ways() {
             writeln!(out, "{way} {count}")?;
         }
-        writeln!(out, "number    handle normalise check_box      find     group   ungroup")?;
+        writeln!(out, "number    handle normalise check_box      find")?;
         for number in 0..=LAST {
             let normalised = match NORMALISER.contains(&number) {
                 true => self.normalised[number].to_string(),
                 false => "-".to_string(),
             };
             let told = |counts: &[u64]| counts.get(number).map_or("-".to_string(), u64::to_string);
-            let (handled, checked, found) = (self.handled[number], told(&self.checked), told(&self.found));
-            let (grouped, ungrouped) = (told(&self.grouped), told(&self.ungrouped));
-            write!(out, "{number:6} {handled:9} {normalised:>9} {checked:>9} {found:>9}")?;
-            writeln!(out, " {grouped:>9} {ungrouped:>9}")?;
+            let (checked, found) = (told(&self.checked), told(&self.found));
+            writeln!(out, "{number:6} {:9} {normalised:>9} {checked:>9} {found:>9}", self.handled[number])?;
         }
         Ok(())
     }

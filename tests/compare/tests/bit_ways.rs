@@ -142,7 +142,7 @@ fn every_way_is_met_100_times_in_200_000_cases() {
         let (call, judged) = match &case {
             Case::Handle(case) => ("handle", handled(case)),
             Case::Normalise(case) => ("normalise", normalised(case)),
-            _ => continue,
+            Case::CheckBox(_) | Case::Find(_) => continue,
         };
         if let Some((contents, names, told)) = judged {
             reached.count(call, contents, names, told);

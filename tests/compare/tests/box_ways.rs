@@ -40,11 +40,10 @@ fn of_list(list: &[u8], offset: usize) -> &'static str {
 /// What is wrong with settings at an offset, roll and lists being right.
 fn of_settings(case: &CheckBoxCase, offset: usize) -> &'static str {
     let [debug, flags] = [&case.debug_names, &case.flag_names].map(|list| 4 * list.len().div_ceil(32 * 32));
-    let ports = case.roll.len() / 21;
-    match case.settings.len().cmp(&(ports * (debug + flags))) {
+    match case.settings.len().cmp(&(case.roll.len() / 21 * (debug + flags))) {
         Ordering::Less => "shorter",
         Ordering::Greater => "longer",
-        Ordering::Equal if offset < ports * debug => "a bit past a debug set",
+        Ordering::Equal if offset % (debug + flags) < debug => "a bit past a debug set",
         Ordering::Equal => "a bit past a port's flags",
     }
 }

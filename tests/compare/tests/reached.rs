@@ -1,7 +1,7 @@
 //! The cases reach every answer, are the same on every run, and a difference is seen wherever it is.
 
-use cases::{Case, FindCase, GivenBox, HandleCase, NormaliseCase, RegroupCase};
-use compare::{compare, outcome, Implementation, Outcome, Reader, Tally};
+use cases::{Case, FindCase, GivenBox, HandleCase, NormaliseCase};
+use compare::{compare, outcome, Implementation, Reader, Tally};
 use reader::Answer;
 use std::io::{stdout, Write};
 
@@ -43,30 +43,14 @@ fn large_and_small_boxes_appear() {
 }
 
 type Alteration = fn(&mut Answer, &mut [u8], &mut [u8]);
-/// Number, bit and count of a search.
-type Found = (u32, u32, u64);
 
-/// The reader with some of what its calls come to changed.
-struct Altered {
-    handled: Alteration,
-    checked: fn((u32, u64)) -> (u32, u64),
-    found: fn(Found) -> Found,
-    /// Number and output of `group`, and of `ungroup`.
-    regrouped: [fn(u32, &mut [u8]) -> u32; 2],
-}
-
-/// Nothing changed.
-const AS_IT_IS: Altered = Altered {
-    handled: |_, _, _| {},
-    checked: |told| told,
-    found: |found| found,
-    regrouped: [|number, _| number, |number, _| number],
-};
+/// The reader with one thing of its outcome changed.
+struct Altered(Alteration);
 
 impl Implementation for Altered {
     fn handle(&self, case: &HandleCase, settings: &mut [u8], page: &mut [u8]) -> Answer {
         let mut answer = Reader.handle(case, settings, page);
-        (self.handled)(&mut answer, settings, page);
+        (self.0)(&mut answer, settings, page);
         answer
     }
 
@@ -75,25 +59,57 @@ impl Implementation for Altered {
     }
 
     fn check_box(&self, given: GivenBox) -> (u32, u64) {
-        (self.checked)(Reader.check_box(given))
+        Reader.check_box(given)
     }
 
     fn find(&self, case: &FindCase) -> (u32, u32, u64) {
-        (self.found)(Reader.find(case))
-    }
-
-    fn group(&self, case: &RegroupCase, out: &mut [u8]) -> u32 {
-        (self.regrouped[0])(Reader.group(case, out), out)
-    }
-
-    fn ungroup(&self, case: &RegroupCase, out: &mut [u8]) -> u32 {
-        (self.regrouped[1])(Reader.ungroup(case, out), out)
+        Reader.find(case)
     }
 }
 
-/// Whether so many cases tell an implementation from the reader.
-fn is_told(other: &Altered, cases: u64) -> bool {
-    compare(other, &Reader, 1, cases, &mut Tally::default()).is_some()
+/// The reader with another check of a box.
+struct OtherCheck(fn(GivenBox) -> (u32, u64));
+
+impl Implementation for OtherCheck {
+    fn handle(&self, case: &HandleCase, settings: &mut [u8], page: &mut [u8]) -> Answer {
+        Reader.handle(case, settings, page)
+    }
+
+    fn normalise(&self, case: &NormaliseCase, page: &mut [u8]) -> (u32, u64) {
+        Reader.normalise(case, page)
+    }
+
+    fn check_box(&self, given: GivenBox) -> (u32, u64) {
+        (self.0)(given)
+    }
+
+    fn find(&self, case: &FindCase) -> (u32, u32, u64) {
+        Reader.find(case)
+    }
+}
+
+/// Number, bit and count of a search.
+type Found = (u32, u32, u64);
+
+/// The reader with another search for a name.
+struct OtherFind(fn(Found) -> Found);
+
+impl Implementation for OtherFind {
+    fn handle(&self, case: &HandleCase, settings: &mut [u8], page: &mut [u8]) -> Answer {
+        Reader.handle(case, settings, page)
+    }
+
+    fn normalise(&self, case: &NormaliseCase, page: &mut [u8]) -> (u32, u64) {
+        Reader.normalise(case, page)
+    }
+
+    fn check_box(&self, given: GivenBox) -> (u32, u64) {
+        Reader.check_box(given)
+    }
+
+    fn find(&self, case: &FindCase) -> (u32, u32, u64) {
+        (self.0)(Reader.find(case))
+    }
 }
 
 #[test]
@@ -107,77 +123,36 @@ fn every_part_of_an_outcome_is_compared() {
         |_, settings, _| settings.iter_mut().last().map_or((), |byte| *byte ^= 1),
         |_, _, page| page.iter_mut().last().map_or((), |byte| *byte ^= 1),
     ];
-    for handled in alterations {
-        assert!(is_told(&Altered { handled, ..AS_IT_IS }, 20));
+    for alteration in alterations {
+        assert!(compare(&Altered(alteration), &Reader, 1, 20, &mut Tally::default()).is_some());
     }
-    assert!(!is_told(&AS_IT_IS, 1000));
 }
 
 #[test]
 fn part_and_offset_of_a_checked_box_are_compared() {
-    let others: [fn((u32, u64)) -> (u32, u64); 2] =
-        [|(part, offset)| (part ^ 8, offset), |(part, offset)| (part, offset ^ 1 << 40)];
-    for checked in others {
-        assert!(is_told(&Altered { checked, ..AS_IT_IS }, 200));
+    let other_part = OtherCheck(|given| (Reader.check_box(given).0 ^ 8, Reader.check_box(given).1));
+    let other_offset = OtherCheck(|given| (Reader.check_box(given).0, Reader.check_box(given).1 ^ 1 << 40));
+    for other in [other_part, other_offset] {
+        assert!(compare(&other, &Reader, 1, 200, &mut Tally::default()).is_some());
     }
 }
 
 #[test]
 fn number_bit_and_count_of_a_search_are_compared() {
-    let others: [fn(Found) -> Found; 3] = [
-        |(number, found, compared)| (number ^ 1, found, compared),
-        |(number, found, compared)| (number, found ^ 1 << 20, compared),
-        |(number, found, compared)| (number, found, compared ^ 1 << 40),
+    let others = [
+        OtherFind(|(number, found, compared)| (number ^ 1, found, compared)),
+        OtherFind(|(number, found, compared)| (number, found ^ 1 << 20, compared)),
+        OtherFind(|(number, found, compared)| (number, found, compared ^ 1 << 40)),
     ];
-    for found in others {
-        assert!(is_told(&Altered { found, ..AS_IT_IS }, 200));
-    }
-}
-
-#[test]
-fn number_and_output_of_each_converter_are_compared() {
-    let others: [fn(u32, &mut [u8]) -> u32; 3] = [
-        |number, _| number ^ 1,
-        |number, out| {
-            out.iter_mut().rev().take(1).for_each(|byte| *byte ^= 1);
-            number
-        },
-        |number, out| {
-            out.iter_mut().take(1).for_each(|byte| *byte ^= 1);
-            number
-        },
-    ];
-    let [as_it_is, _] = AS_IT_IS.regrouped;
     for other in others {
-        for regrouped in [[other, as_it_is], [as_it_is, other]] {
-            assert!(is_told(&Altered { regrouped, ..AS_IT_IS }, 500));
-        }
+        assert!(compare(&other, &Reader, 1, 200, &mut Tally::default()).is_some());
     }
-}
-
-#[test]
-fn bytes_around_an_output_belong_to_what_is_compared() {
-    let mut met = 0;
-    for number in 0..2_000 {
-        let case = cases::case(5, number);
-        if let (Case::Group(call) | Case::Ungroup(call), Outcome::Regrouped { number, out }) =
-            (&case, outcome(&Reader, &case))
-        {
-            let (before, rest) = out.split_at(64);
-            let (output, behind) = rest.split_at(call.out.len());
-            assert!(before.iter().chain(behind).all(|byte| *byte == 0x5A) && behind.len() >= 64 + call.settings.len());
-            assert!(number == 0 || output == call.out);
-            met += 1;
-        }
-    }
-    assert!(met > 80, "{met}");
 }
 
 #[test]
 fn a_check_that_does_not_agree_with_the_handler_is_seen() {
-    let others: [fn((u32, u64)) -> (u32, u64); 2] = [|_| (0, 0), |_| (3, 0)];
-    for checked in others {
-        let constant = Altered { checked, ..AS_IT_IS };
+    for answer in [|_: GivenBox| (0, 0), |_: GivenBox| (3, 0)] {
+        let constant = OtherCheck(answer);
         assert!(compare(&constant, &constant, 1, 200, &mut Tally::default()).is_some());
     }
 }

@@ -8,11 +8,9 @@
 //! 3 check_box: family, admin (u32); roll, debug names, flag names, settings (bytes); then the part at fault (u32) and the
 //!   offset (u64).
 //! 4 find: names, name (bytes); then the number, the bit found (u32) and the count of entries compared further (u64).
-//! 5 group, 6 ungroup: roll, debug names, flag names, settings (bytes); length of the output (u32); then the number (u32)
-//!   and the output (bytes), none where it is refused.
 //! 0 no more cases.
 
-use cases::{Case, CheckBoxCase, FindCase, HandleCase, NormaliseCase, RegroupCase};
+use cases::{Case, CheckBoxCase, FindCase, HandleCase, NormaliseCase};
 use std::env;
 use std::io::{self, BufWriter, Write};
 use std::process::ExitCode;
@@ -53,8 +51,6 @@ fn dump(out: &mut impl Write, cases: u64, seed: u64) -> io::Result<()> {
             Case::Normalise(case) => normalised(out, case)?,
             Case::CheckBox(case) => checked(out, &case)?,
             Case::Find(case) => searched(out, &case)?,
-            Case::Group(case) => regrouped(out, 5, reader::group, case)?,
-            Case::Ungroup(case) => regrouped(out, 6, reader::ungroup, case)?,
         }
     }
     put_u32(out, 0)?;
@@ -131,19 +127,4 @@ fn searched(out: &mut impl Write, case: &FindCase) -> io::Result<()> {
     put_u32(out, number)?;
     put_u32(out, found)?;
     out.write_all(&compared.to_le_bytes())
-}
-
-/// `reader::group` or `reader::ungroup`.
-type Converter = fn(&[u8], &[u8], &[u8], &[u8], &mut [u8]) -> u32;
-
-fn regrouped(out: &mut impl Write, kind: u32, convert: Converter, case: RegroupCase) -> io::Result<()> {
-    let RegroupCase { roll, debug_names, flag_names, settings, out: mut output } = case;
-    put_u32(out, kind)?;
-    for bytes in [&roll, &debug_names, &flag_names, &settings] {
-        put_bytes(out, bytes)?;
-    }
-    put_u32(out, output.len() as u32)?;
-    let number = convert(&roll, &debug_names, &flag_names, &settings, &mut output);
-    put_u32(out, number)?;
-    put_bytes(out, if number == 0 { &output } else { &[] })
 }

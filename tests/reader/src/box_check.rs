@@ -1,7 +1,6 @@
 //! Which part of a box breaks a rule, and where: the words of `ethnl_check_box`. The rules themselves are those of
 //! document 01, "The box a call is given"; they are read here once more, apart from the handler's check.
 
-use super::order::Order;
 use std::collections::HashSet;
 
 /// A port's record: kind, index (4 bytes), name (16 bytes).
@@ -34,23 +33,23 @@ pub fn check_box(
     }
 }
 
-fn first_fault(family: u32, admin: u32, roll: &[u8], lists: [&[u8]; 2], settings: &[u8]) -> Result<(), (u32, usize)> {
+fn first_fault(
+    family: u32,
+    admin: u32,
+    roll: &[u8],
+    [debug_names, flag_names]: [&[u8]; 2],
+    settings: &[u8],
+) -> Result<(), (u32, usize)> {
     if !(16..=65_535).contains(&family) {
         return Err((FAMILY, 0));
     }
     if admin != 0 && admin != 1 {
         return Err((ADMIN, 0));
     }
-    let (ports, bits) = counts(roll, lists)?;
-    Order::BySet.judge(settings, ports, bits).map_err(|end| (SETTINGS, end))
-}
-
-/// The number of ports, and the bits of each list, where roll and lists keep their rules; else the part and its offset.
-pub fn counts(roll: &[u8], [debug_names, flag_names]: [&[u8]; 2]) -> Result<(usize, [usize; 2]), (u32, usize)> {
     let ports = whole(roll, RECORD, right_records(roll)).map_err(|end| (ROLL, end))?;
     let debug_bits = whole(debug_names, ENTRY, right_entries(debug_names)).map_err(|end| (DEBUG_NAMES, end))?;
     let flag_bits = whole(flag_names, ENTRY, right_entries(flag_names)).map_err(|end| (FLAG_NAMES, end))?;
-    Ok((ports, [debug_bits, flag_bits]))
+    right_settings(settings, ports, [debug_bits, flag_bits]).map_err(|end| (SETTINGS, end))
 }
 
 /// The number of items, if they are all there is and at least one; else where the longest right beginning ends.
@@ -102,4 +101,26 @@ fn is_name(bytes: &[u8]) -> bool {
 /// A word from its little-endian bytes.
 fn number(bytes: &[u8]) -> u32 {
     bytes.iter().rev().fold(0, |number, byte| number << 8 | u32::from(*byte))
+}
+
+/// Judges the settings of so many ports with sets of so many bits; tells the length or the word at fault.
+fn right_settings(settings: &[u8], ports: usize, bits: [usize; 2]) -> Result<(), usize> {
+    let may_hold: Vec<u32> = bits.into_iter().flat_map(words).collect();
+    let length = 4 * ports * may_hold.len();
+    if settings.len() != length {
+        return Err(settings.len().min(length));
+    }
+    let mut all = settings.chunks(4).zip(may_hold.iter().cycle());
+    match all.position(|(word, may_hold)| number(word) & !may_hold != 0) {
+        Some(word) => Err(4 * word),
+        None => Ok(()),
+    }
+}
+
+/// The words of a set of N bits, each with every bit that it may hold.
+fn words(bits: usize) -> impl Iterator<Item = u32> {
+    (0..bits.div_ceil(32)).map(move |word| match bits - 32 * word {
+        left @ 1..32 => (1 << left) - 1,
+        _ => u32::MAX,
+    })
 }

@@ -1,10 +1,10 @@
 //! An independent reader of ethtool netlink requests, written from document 01 and its later requests C-11 to
-//! C-14 and C-16 alone.
+//! C-14 alone.
 //!
 //! It answers the same calls as the proved library: one message at a time ([`handle`]), one bitset at a time
-//! ([`normalise`]), one box at a time ([`check_box`]), one bit name at a time ([`find`]), all settings at once from one
-//! order into the other ([`group`], [`ungroup`]), or a whole datagram for a fixed box ([`run`]). Inputs are plain numbers
-//! and byte slices; every input has an answer. [`handle`] and [`normalise`] allocate nothing.
+//! ([`normalise`]), one box at a time ([`check_box`]), one bit name at a time ([`find`]), or a whole datagram for a fixed
+//! box ([`run`]). Inputs are plain numbers and byte slices; every input has an answer. [`handle`] and [`normalise`]
+//! allocate nothing.
 
 #![forbid(unsafe_code)]
 
@@ -19,11 +19,9 @@ mod framing;
 mod handler;
 mod name_list;
 mod normaliser;
-mod order;
 mod page;
 mod port_header;
 mod program;
-mod regroup;
 mod reply;
 mod roll;
 mod slots;
@@ -38,4 +36,3 @@ pub use find::{find, NOT_FOUND};
 pub use handler::{handle, Answer, DONE, END, REFUSED, SKIPPED};
 pub use normaliser::normalise;
 pub use program::{answers, answers_to, run};
-pub use regroup::{group, ungroup};

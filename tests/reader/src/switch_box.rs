@@ -87,12 +87,13 @@ impl<'a> SwitchBox<'a> {
         }
     }
 
-    /// Where a port's set begins in the settings, in bytes: the debug sets of all ports, then all flags (request C-16).
+    /// Where a port's set begins in the settings, in bytes: for each port its debug set, then its flags.
     #[inline]
     fn start(&self, port: usize, set: Set) -> usize {
+        let before = port * (self.debug.words() + self.flags.words());
         match set {
-            Set::Debug => 4 * port * self.debug.words(),
-            Set::Flags => 4 * (self.roll.count() * self.debug.words() + port * self.flags.words()),
+            Set::Debug => 4 * before,
+            Set::Flags => 4 * (before + self.debug.words()),
         }
     }
 

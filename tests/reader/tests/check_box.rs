@@ -179,9 +179,9 @@ fn settings_of_another_length_are_told_before_a_bit_past_n() {
 
 #[test]
 fn word_with_a_bit_at_or_past_n() {
-    let full = [[u32::MAX, 0xFF].repeat(3), [u32::MAX, 1].repeat(3)].concat();
+    let full = [u32::MAX, 0xFF, u32::MAX, 1].repeat(3);
     assert_eq!(told(|setup| setup.set_words(&full)), (0, 0));
-    for (word, bit) in [(1, 8), (1, 31), (3, 8), (5, 31), (7, 1), (9, 20), (11, 1)] {
+    for (word, bit) in [(1, 8), (1, 31), (3, 1), (5, 8), (7, 31), (9, 20), (11, 1)] {
         let mut words = full.clone();
         words[word] |= 1 << bit;
         assert_eq!(told(|setup| setup.set_words(&words)), (6, 4 * word as u64), "{word} {bit}");

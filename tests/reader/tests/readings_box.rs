@@ -17,7 +17,7 @@ fn number_of(change: impl FnOnce(&mut Setup)) -> u32 {
 fn with_roll(ports: &[Vec<u8>]) -> u32 {
     number_of(|setup| {
         setup.roll = ports.concat();
-        setup.set_words(&[[0u32, 0], [1, 2]].map(|set| set.repeat(ports.len())).concat());
+        setup.set_words(&[0u32, 0, 1, 2].repeat(ports.len()));
     })
 }
 

@@ -186,7 +186,7 @@ fn set_changes_only_the_named_set_of_the_named_port() {
     assert_eq!(setup.call(&message(PRIVFLAGS_SET, REQUEST, &[by_index(3), list.clone()])).refusal, 0);
     assert_eq!(setup.call(&message(DEBUG_SET, REQUEST, &[by_index(1), list])).refusal, 0);
     let mut expected = [0; 15];
-    expected[9 + 2 + 1] = 0x80;
-    expected[6 + 1] = 0x80;
+    expected[5 + 3 + 1] = 0x80;
+    expected[10 + 1] = 0x80;
     assert_eq!(setup.words(), expected);
 }

@@ -1,6 +1,6 @@
 //! Altered readers: each is the reader with one usual mistake or other reading put in (`edits/`).
 
-use cases::{FindCase, GivenBox, HandleCase, NormaliseCase, RegroupCase};
+use cases::{FindCase, GivenBox, HandleCase, NormaliseCase};
 use compare::Implementation;
 use reader::Answer;
 
@@ -13,8 +13,6 @@ pub struct Slip {
     normalise: fn(&NormaliseCase, &mut [u8]) -> (u32, u64),
     check_box: fn(GivenBox) -> (u32, u64),
     find: fn(&FindCase) -> (u32, u32, u64),
-    group: fn(&RegroupCase, &mut [u8]) -> u32,
-    ungroup: fn(&RegroupCase, &mut [u8]) -> u32,
 }
 
 impl Implementation for Slip {
@@ -32,14 +30,6 @@ impl Implementation for Slip {
 
     fn find(&self, case: &FindCase) -> (u32, u32, u64) {
         (self.find)(case)
-    }
-
-    fn group(&self, case: &RegroupCase, out: &mut [u8]) -> u32 {
-        (self.group)(case, out)
-    }
-
-    fn ungroup(&self, case: &RegroupCase, out: &mut [u8]) -> u32 {
-        (self.ungroup)(case, out)
     }
 }
 
@@ -72,14 +62,6 @@ macro_rules! slip {
                 $module::check_box(family, admin, roll, debug_names, flag_names, settings)
             },
             find: |case| $module::find(&case.names, &case.name),
-            group: |case, out| {
-                let RegroupCase { roll, debug_names, flag_names, settings, .. } = case;
-                $module::group(roll, debug_names, flag_names, settings, out)
-            },
-            ungroup: |case, out| {
-                let RegroupCase { roll, debug_names, flag_names, settings, .. } = case;
-                $module::ungroup(roll, debug_names, flag_names, settings, out)
-            },
         }
     };
 }

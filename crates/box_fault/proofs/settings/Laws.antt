@@ -12,14 +12,16 @@ use Rattle.basics.proofs.Put.{put_whole, put-snoc, get_or-put}
 use Rattle.word_bytes.specs.Bytes.{words_in}
 use Rattle.word_bytes.proofs.WordBytes.{length-words_in}
 use Rattle.layout.specs.declared.Sizes.{Sizes}
-use Rattle.layout.specs.Layout.{Place, widths_of, total_words}
+use Rattle.layout.specs.Layout.{widths_of, total_words}
+use Rattle.layout.specs.AtMost.{AtMost}
+use Rattle.layout.proofs.Laws.{widths-few, words-few}
 use Rattle.boxes.specs.Settings.{settings_right}
 use Rattle.box_fault.specs.Longest.{right_up_to}
 use Rattle.box_fault.specs.Settings.{right_length, with_zeros, right_with_zeros, settings_fault}
 use Rattle.box_fault.specs.declared.Part.TheVariants.{Sound, Settings}
 
 -- words that are cleared one by one, from the end
-module _ (place : Place) (ports : ℕ) (sizes : Sizes) (ws : List ℕ) (exact : length ws ≡ total_words ports (widths_of sizes)) where
+module _ (ports : ℕ) (sizes : Sizes) (ws : List ℕ) (exact : length ws ≡ total_words ports (widths_of sizes)) where
   abbrev zeros : List ℕ
   zeros = replicate (total_words ports (widths_of sizes)) 0
 
@@ -34,9 +36,9 @@ module _ (place : Place) (ports : ℕ) (sizes : Sizes) (ws : List ℕ) (exact : 
       ∙ put_whole zeros ws (omega (arith, zeros-long)))
 
   module _ (words : List ℕ) (n : ℕ) (inv : words ≡ with_zeros ports sizes (take n ws)) where
-    pub zeros-right : (b : Bool) → b ≡ settings_right place words ports sizes → b ≡ right_with_zeros place ports sizes (take n ws)
+    pub zeros-right : (b : Bool) → b ≡ settings_right words ports sizes → b ≡ right_with_zeros ports sizes (take n ws)
     unfolding right_with_zeros
-    zeros-right b e = e ∙ ap (λ (x : List ℕ). settings_right place x ports sizes) inv
+    zeros-right b e = e ∙ ap (λ (x : List ℕ). settings_right x ports sizes) inv
 
     module _ (l : 0 < n) (u : n ≤ length ws) where
       abbrev k : ℕ
@@ -69,16 +71,26 @@ module _ (place : Place) (ports : ℕ) (sizes : Sizes) (ws : List ℕ) (exact : 
 
 pub ruleset zeros-laws = (zeros-start, zeros-right, zeros-down)
 
+-- the words of all ports, of which there are at most 2,048
+module _ (ports : ℕ) (sizes width : Sizes) (n : ℕ) (ew : width ≡ widths_of sizes) (en : n ≡ total_words ports width) where
+  pub words_are : n ≡ total_words ports (widths_of sizes)
+  words_are = rw ew at en
+
+  pub words-room : ports ≤ 64 → AtMost 512 sizes → n ≤ 2048
+  words-room h few = let l = words-few ports width h (widths-few sizes width ew few) in omega arith
+
+pub ruleset count-laws = (words_are, words-room)
+
 -- settings of another length
-module _ (place : Place) (settings : List ℕ) (ports : ℕ) (sizes : Sizes) where
+module _ (settings : List ℕ) (ports : ℕ) (sizes : Sizes) where
   module _ (n right : ℕ) (en : n ≡ total_words ports (widths_of sizes)) (er : right ≡ n * 4) where
-    pub fault-short : length settings < right → record { part = Settings; offset = length settings } ≡ settings_fault place settings ports sizes
+    pub fault-short : length settings < right → record { part = Settings; offset = length settings } ≡ settings_fault settings ports sizes
     unfolding settings_fault
     fault-short h =
         let q : min (length settings) (right_length ports sizes) ≡ length settings = omega arith in
         sym (rw (ne_eqb (length settings) (right_length ports sizes) (λ z. omega arith), q))
 
-    pub fault-long : right < length settings → record { part = Settings; offset = right } ≡ settings_fault place settings ports sizes
+    pub fault-long : right < length settings → record { part = Settings; offset = right } ≡ settings_fault settings ports sizes
     unfolding settings_fault
     fault-long h =
         let q : min (length settings) (right_length ports sizes) ≡ right = omega arith in
@@ -89,13 +101,13 @@ module _ (place : Place) (settings : List ℕ) (ports : ℕ) (sizes : Sizes) whe
     pub words-read : (room ws : List ℕ) → length room ≡ total_words ports (widths_of sizes) → ws ≡ put room (words_in settings) → ws ≡ words_in settings
     words-read room ws l e = e ∙ put_whole room (words_in settings) (let w = length-words_in settings in omega arith)
 
-    module _ (ws : List ℕ) (ew : ws ≡ words_in settings) (b : Bool) (eb : b ≡ settings_right place ws ports sizes) where
-      pub fault-none : b ≡ true → record { part = Sound; offset = 0 } ≡ settings_fault place settings ports sizes
+    module _ (ws : List ℕ) (ew : ws ≡ words_in settings) (b : Bool) (eb : b ≡ settings_right ws ports sizes) where
+      pub fault-none : b ≡ true → record { part = Sound; offset = 0 } ≡ settings_fault settings ports sizes
       unfolding settings_fault
       fault-none h = sym (rw (eq-eqb _ _ exact, ← ew, ← eb, h))
 
-      pub fault-words : (n o : ℕ) → b ≡ false → n ≡ right_up_to (right_with_zeros place ports sizes) ws → o ≡ n * 4
-          → record { part = Settings; offset = o } ≡ settings_fault place settings ports sizes
+      pub fault-words : (n o : ℕ) → b ≡ false → n ≡ right_up_to (right_with_zeros ports sizes) ws → o ≡ n * 4
+          → record { part = Settings; offset = o } ≡ settings_fault settings ports sizes
       unfolding settings_fault
       fault-words n o h en eo = sym (rw (eq-eqb _ _ exact, ← ew, ← eb, h, eo, en))
 

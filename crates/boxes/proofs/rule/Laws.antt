@@ -47,7 +47,7 @@ module _ (box : Box) (state : State) (call : Call) where
 
       module _ (a : call.admin ≤ 1) where
         by-roll : box_right box state call
-            ≡ roll_right box.roll && (place_right (ports_in box) call.place && (lists_right box.names && settings_right box.layout.place state.words (ports_in box) (sizes_in box)))
+            ≡ roll_right box.roll && (place_right (ports_in box) call.place && (lists_right box.names && settings_right state.words (ports_in box) (sizes_in box)))
         unfolding box_right family_right admin_right
         by-roll = rw (le-leb _ _ l, le-leb _ _ u, le-leb _ _ a)
 
@@ -59,7 +59,7 @@ module _ (box : Box) (state : State) (call : Call) where
             counted : length t ≡ ports_in box
             counted = (roll-tabled box.roll t rd r er hr).count
 
-            by_place : box_right box state call ≡ leb call.place (length t) && (lists_right box.names && settings_right box.layout.place state.words (ports_in box) (sizes_in box))
+            by_place : box_right box state call ≡ leb call.place (length t) && (lists_right box.names && settings_right state.words (ports_in box) (sizes_in box))
             unfolding place_right
             by_place = by-roll ∙ rw (← er, not-false r hr, counted)
 
@@ -67,16 +67,16 @@ module _ (box : Box) (state : State) (call : Call) where
             place-wrong h = sym (by_place ∙ rw (lt-leb _ _ h))
 
             module _ (p : call.place ≤ length t) (n : Bool) (en : n ≡ lists_right box.names) where
-              by-lists : box_right box state call ≡ n && settings_right box.layout.place state.words (ports_in box) (sizes_in box)
+              by-lists : box_right box state call ≡ n && settings_right state.words (ports_in box) (sizes_in box)
               by-lists = by_place ∙ rw (le-leb _ _ p, en)
 
               pub lists-wrong : not n ≡ true → false ≡ box_right box state call
-              lists-wrong h = sym (by-lists ∙ ap (λ (x : Bool). x && settings_right box.layout.place state.words (ports_in box) (sizes_in box)) (not-true n h))
+              lists-wrong h = sym (by-lists ∙ ap (λ (x : Bool). x && settings_right state.words (ports_in box) (sizes_in box)) (not-true n h))
 
-              pub settings-decide : (sizes : Sizes) (b : Bool) → not n ≡ false → sizes ≡ sizes_in box → b ≡ settings_right box.layout.place state.words (length t) sizes
+              pub settings-decide : (sizes : Sizes) (b : Bool) → not n ≡ false → sizes ≡ sizes_in box → b ≡ settings_right state.words (length t) sizes
                   → b ≡ box_right box state call
               settings-decide sizes b h es eb =
-                  eb ∙ ap (λ (x : ℕ). settings_right box.layout.place state.words x sizes) counted
-                  ∙ rw es (sym (by-lists ∙ ap (λ (x : Bool). x && settings_right box.layout.place state.words (ports_in box) (sizes_in box)) (not-false n h)))
+                  eb ∙ ap (λ (x : ℕ). settings_right state.words x sizes) counted
+                  ∙ rw es (sym (by-lists ∙ ap (λ (x : Bool). x && settings_right state.words (ports_in box) (sizes_in box)) (not-false n h)))
 
 pub ruleset box_laws = (family-low, family-high, admin-other, roll-wrong, place-wrong, lists-wrong, settings-decide)

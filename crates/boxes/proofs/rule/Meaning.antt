@@ -30,8 +30,8 @@ pub record Right (box : Box) (state : State) (call : Call) : Type 0 where
   pub lists-right : lists_right box.names ≡ true
   pub names-right : (set : Set) → names_right (list_of box.names set) ≡ true
   pub few : AtMost 512 (sizes_in box)
-  pub settings-right : settings_right box.layout.place state.words (ports_in box) (sizes_in box) ≡ true
-  pub settings : S.Right box.layout.place state.words (ports_in box) (sizes_in box)
+  pub settings-right : settings_right state.words (ports_in box) (sizes_in box) ≡ true
+  pub settings : S.Right state.words (ports_in box) (sizes_in box)
 
 pub box-means : (box : Box) (state : State) (call : Call) → box_right box state call ≡ true → Right box state call
 unfolding box_right family_right admin_right place_right
@@ -55,21 +55,13 @@ box-means box state call h =
       names-right = lists-each box.names e.0;
       few = lists-few box.names e.0;
       settings-right = e.1;
-      settings = S.right-means box.layout.place state.words (ports_in box) (sizes_in box) e.1;
+      settings = S.right-means state.words (ports_in box) (sizes_in box) e.1;
     }
 
 -- settings that are right make a right box again: the other rules do not look at them
 pub box-keeps : (box : Box) (state after : State) (call : Call) → box_right box state call ≡ true
-    → settings_right box.layout.place after.words (ports_in box) (sizes_in box) ≡ true → box_right box after call ≡ true
+    → settings_right after.words (ports_in box) (sizes_in box) ≡ true → box_right box after call ≡ true
 unfolding box_right family_right admin_right place_right
 box-keeps box state after call h s =
     let r = box-means box state call h in
     rw (le-leb 16 call.family r.family-low, le-leb call.family 65535 r.family-high, le-leb call.admin 1 r.admin-bit, r.roll-right, le-leb call.place (ports_in box) r.place-counted, r.lists-right, s)
-
--- and so does another call that differs in its position or in a place up to the port count
-pub box-at : (box : Box) (state : State) (call other : Call) → box_right box state call ≡ true → other.family ≡ call.family → other.admin ≡ call.admin → other.place ≤ ports_in box
-    → box_right box state other ≡ true
-unfolding box_right family_right admin_right place_right
-box-at box state call other h ef ea few =
-    let r = box-means box state call h in
-    rw (ef, ea, le-leb 16 call.family r.family-low, le-leb call.family 65535 r.family-high, le-leb call.admin 1 r.admin-bit, r.roll-right, le-leb other.place (ports_in box) few, r.lists-right, r.settings-right)

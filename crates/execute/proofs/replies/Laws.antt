@@ -35,7 +35,7 @@ module _ (box : Box) (state : State) (fit : Fit box state) (set : Set) (sizes : 
   pub reply-words : (position : ℕ) (held : List ℕ) → position < ports_in box → held ≡ set_of box state position set → length held ≡ words_for n
   unfolding set_of
   reply-words position held here eh =
-      ap length eh ∙ set-length box.layout.place box.layout.lawful (ports_in box) (widths_in box) position set here state.words fit.exact ∙ sizes-of words_for (sizes_in box) set ∙ sym (rw (en, es))
+      ap length eh ∙ set-length (ports_in box) (widths_in box) position set here state.words fit.exact ∙ sizes-of words_for (sizes_in box) set ∙ sym (rw (en, es))
 
   pub reply-few : n ≤ 512
   reply-few = rw (en, es) (size_few 512 (sizes_in box) set fit.few)

@@ -21,7 +21,7 @@ pub const SECOND: &str =
 pub fn two() -> Setup {
     let mut setup = Setup::document();
     setup.roll = [port(3, b"sw0"), port(1, b"eth1")].concat();
-    setup.set_words(&[0, 0, 0x10, 0, 1, 2, 8, 0x80]);
+    setup.set_words(&[0, 0, 1, 2, 0x10, 0, 8, 0x80]);
     setup
 }
 
@@ -29,8 +29,7 @@ pub fn two() -> Setup {
 pub fn sixty_four() -> Setup {
     let mut setup = Setup::document();
     setup.roll = (0..64u32).flat_map(|place| port(100 - place, format!("port-{place}").as_bytes())).collect();
-    let debug_sets = (0..64).flat_map(|place| [place, 0]);
-    setup.set_words(&debug_sets.chain([0; 2 * 64]).collect::<Vec<_>>());
+    setup.set_words(&(0..64).flat_map(|place| [place, 0, 0, 0]).collect::<Vec<_>>());
     setup
 }
 

@@ -2,7 +2,6 @@
 #![allow(dead_code)]
 
 pub mod dumps;
-pub mod orders;
 pub mod strset;
 
 use reader::Answer;
@@ -105,7 +104,6 @@ pub fn names(bits: usize, given: &[(usize, &[u8])]) -> Vec<u8> {
 }
 
 /// A box, a page and the calls on them.
-#[derive(Clone)]
 pub struct Setup {
     pub family: u32,
     pub admin: u32,

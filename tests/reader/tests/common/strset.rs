@@ -39,7 +39,7 @@ pub fn lists() -> Setup {
     setup.roll = [port(3, b"sw0"), port(1, b"eth1")].concat();
     setup.debug_names = names(2, &[(0, b"probe"), (1, b"link")]);
     setup.flag_names = names(3, &[(0, b"lldp"), (2, b"eee")]);
-    setup.set_words(&[1, 3, 2, 4]);
+    setup.set_words(&[1, 2, 3, 4]);
     setup
 }
 

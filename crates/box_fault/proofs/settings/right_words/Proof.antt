@@ -1,8 +1,6 @@
 use lib.ListN.{length, take}
 use Prim.Native.Nat.{◌≤◌}
 use mathlib.Core.Path.{◌≡◌}
-use Rattle.layout.specs.declared.Order.TheVariants.{BySet}
-use Rattle.layout.specs.Layout.{place_of}
 use Rattle.box_fault.specs.Settings.{with_zeros, right_with_zeros}
 use Rattle.box_fault.proofs.longest.Laws.{From, from_all, longest-laws}
 use Rattle.box_fault.proofs.settings.Laws.{zeros-laws}
@@ -11,7 +9,7 @@ use Rattle.box_fault.proofs.settings.right_words.Statement.{statement}
 use Rattle.box_fault.proofs.settings.right_words.Tie as tie
 
 abbrev invariant-loop : tie.invariant-loop
-invariant-loop words₀ ports sizes n₀ words n = (n ≤ length words₀) × (length words ≡ length words₀) × (words ≡ with_zeros ports sizes (take n words₀)) × From (right_with_zeros (place_of BySet) ports sizes) words₀ n
+invariant-loop words₀ ports sizes n₀ words n = (n ≤ length words₀) × (length words ≡ length words₀) × (words ≡ with_zeros ports sizes (take n words₀)) × From (right_with_zeros ports sizes) words₀ n
 
 abbrev decreases-loop : tie.decreases-loop
 decreases-loop words₀ ports sizes n₀ words n = n

@@ -1,6 +1,5 @@
 use native.Mathlib.Omega.{arith}
-use Rattle.layout.proofs.Laws.{words-few, set_is}
-use Rattle.layout.proofs.Orders.{lawful}
+use Rattle.layout.proofs.Laws.{words-few, place_inside, set_is}
 use borrow.Author.Rules.{rules}
 use Rattle.boxes.proofs.settings.set_at.Statement.{statement}
 use Rattle.boxes.proofs.settings.set_at.Tie as tie
@@ -12,10 +11,10 @@ size-of-requires : tie.Need-size-of-requires
 size-of-requires c κs = search rules
 
 add-end : tie.Need-overflow-add-end
-add-end c = let s = c.before.before.before in let a = s.args in let p = s.requires.0 in omega (arith, (lawful a.order).inside a.ports a.width a.position a.set p.0, words-few a.ports a.width p.1 p.2)
+add-end c = let s = c.before.before.before in let a = s.args in let p = s.requires.0 in omega (arith, place_inside a.ports a.width a.position a.set p.0, words-few a.ports a.width p.1 p.2)
 
 mul-result : tie.Need-overflow-mul-result
-mul-result c = let s = c.before.before.before in let a = s.args in let p = s.requires.0 in omega (arith, (lawful a.order).inside a.ports a.width a.position a.set p.0, words-few a.ports a.width p.1 p.2)
+mul-result c = let s = c.before.before.before in let a = s.args in let p = s.requires.0 in omega (arith, place_inside a.ports a.width a.position a.set p.0, words-few a.ports a.width p.1 p.2)
 
 sub-result : tie.Need-overflow-sub-result
 sub-result c = search rules
@@ -24,7 +23,7 @@ part-result-start : tie.Need-slice-bounds-result-start
 part-result-start c = search rules
 
 part-result-end : tie.Need-slice-bounds-result-end
-part-result-end c = let s = c.before.before.before in let a = s.args in let p = s.requires.0 in omega (arith, (lawful a.order).inside a.ports a.width a.position a.set p.0, words-few a.ports a.width p.1 p.2)
+part-result-end c = let s = c.before.before.before in let a = s.args in let p = s.requires.0 in omega (arith, place_inside a.ports a.width a.position a.set p.0, words-few a.ports a.width p.1 p.2)
 
 returns : tie.Need-returns
 returns c = search (rules, set_is)

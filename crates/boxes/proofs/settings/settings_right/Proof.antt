@@ -3,7 +3,6 @@ use mathlib.Core.Path.{◌≡◌}
 use mathlib.Core.Bool.{true}
 use Rattle.basics.specs.Scan.{all}
 use Rattle.boxes.specs.Settings.{port_clear}
-use Rattle.layout.specs.Layout.{place_of}
 use Rattle.layout.proofs.Laws.{widths-few}
 use Rattle.boxes.proofs.settings.Laws.{settings-laws}
 use borrow.Author.Rules.{rules}
@@ -11,10 +10,10 @@ use Rattle.boxes.proofs.settings.settings_right.Statement.{statement}
 use Rattle.boxes.proofs.settings.settings_right.Tie as tie
 
 abbrev invariant-loop : tie.invariant-loop
-invariant-loop order settings ports sizes position₀ position = (position ≤ ports) × (all position (port_clear (place_of order) settings ports sizes) ≡ true)
+invariant-loop settings ports sizes position₀ position = (position ≤ ports) × (all position (port_clear settings ports sizes) ≡ true)
 
 abbrev decreases-loop : tie.decreases-loop
-decreases-loop order settings ports sizes position₀ position = ports - position
+decreases-loop settings ports sizes position₀ position = ports - position
 
 widths-requires : tie.Need-widths-requires invariant-loop decreases-loop
 widths-requires c κs = search (rules, settings-laws)

@@ -1,8 +1,8 @@
 use Rattle.layout.proofs.Laws.{widths-few}
-use Rattle.boxes.proofs.settings.Laws.{count-laws}
+use Rattle.box_fault.proofs.settings.Laws.{count-laws}
 use borrow.Author.Rules.{rules}
-use Rattle.boxes.proofs.settings.words_of.Statement.{statement}
-use Rattle.boxes.proofs.settings.words_of.Tie as tie
+use Rattle.box_fault.proofs.settings.words_of.Statement.{statement}
+use Rattle.box_fault.proofs.settings.words_of.Tie as tie
 
 widths-requires : tie.Need-widths-requires
 widths-requires c κs = search rules

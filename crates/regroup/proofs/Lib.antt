@@ -1,4 +1,0 @@
-pub mod Joined
-pub mod Written
-pub mod Laws
-pub mod Meaning
