@@ -1,4 +1,6 @@
 // Whether a message is taken up, by its two headers: skipped, and refusals 5 to 9.
+#![tactic(auto)]
+
 ghost use Rattle.std.specs.Prelude.{◌≡◌};
 ghost use Rattle.admission.specs.Admission.{is_dump, no_dump, not_permitted, permitted, strset_permitted, admitted};
 

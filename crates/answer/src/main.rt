@@ -1,4 +1,6 @@
 // The program of document 01: standard input is one datagram, the answers go to standard output.
+#![tactic(auto)]
+
 ghost use Rattle.std.specs.Prelude.{◌≡◌, length, take, replicate};
 ghost use Rattle.io.specs.Counts.{IsPrefixLen};
 ghost use Rattle.response.specs.Answer.{Performs};

@@ -1,4 +1,6 @@
 // A bit name looked for by itself: the bit, and how many entries were compared.
+#![tactic(auto)]
+
 ghost use Rattle.std.specs.Prelude.{◌≡◌, ◌≤◌, cond};
 ghost use Rattle.names.specs.Search.{not_sought, lookup};
 ghost use Rattle.bit_name.specs.Find.{bare, told_of, refused_list, name_found};

@@ -1,4 +1,6 @@
 // Sets of bits held in 32-bit words, lowest first: one word, a slice of words.
+#![tactic(auto)]
+
 pub mod set;
 pub mod word;
 

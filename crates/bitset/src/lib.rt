@@ -1,2 +1,4 @@
 // An ethtool bitset: its contents judged, and brought to one form.
+#![tactic(auto)]
+
 pub mod judge;

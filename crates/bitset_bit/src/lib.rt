@@ -1,4 +1,6 @@
 // One BIT of a bit list: walked whole, then judged.
+#![tactic(auto)]
+
 ghost use Rattle.std.specs.Prelude.{◌≡◌};
 ghost use Rattle.bitset_bit.specs.Bit.{bit_by_index, bit_by_name, combined, identified, bit_parts_reading, bit_walked, bit_reading};
 ghost use Rattle.bitset_bit.specs.declared.IdentityRead.TheVariants.{Read};

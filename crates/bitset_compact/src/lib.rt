@@ -1,4 +1,6 @@
 // A compact bitset: SIZE, VALUE and, without NOMASK, MASK.
+#![tactic(auto)]
+
 ghost use Rattle.std.specs.Prelude.{◌≡◌};
 ghost use Rattle.bitset_form.specs.Form.{judged_as};
 ghost use Rattle.bitset_compact.specs.Compact.{nomask_reading, masked_reading, compact_reading};

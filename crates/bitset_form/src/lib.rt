@@ -1,4 +1,6 @@
 // The one form of every change: a mask and the values of its bits.
+#![tactic(auto)]
+
 ghost use Rattle.std.specs.Prelude.{◌≡◌};
 ghost use Rattle.bits.specs.Set.{has, words_of, all_below};
 ghost use Rattle.word_bytes.specs.Bytes.{words_in};

@@ -1,4 +1,6 @@
 // A bit list: BITS, and in it any number of BITs.
+#![tactic(auto)]
+
 ghost use Rattle.std.specs.Prelude.{◌≡◌, ◌-◌, length, ltb};
 ghost use Rattle.netlink_attributes.specs.Attributes.{attributes};
 ghost use Rattle.bitset_form.specs.Form.{judged_as};

@@ -1,4 +1,6 @@
 // Which part of a box breaks a rule first, and where.
+#![tactic(auto)]
+
 pub mod longest;
 pub mod settings;
 

@@ -1,4 +1,6 @@
 // The box that a call is given: the rules that it must keep.
+#![tactic(auto)]
+
 pub mod lists;
 pub mod rule;
 pub mod settings;

@@ -1,4 +1,6 @@
 // What an admitted request asks for: judged level by level, by value. No stage here sees the page or the settings.
+#![tactic(auto)]
+
 ghost use Rattle.std.specs.Prelude.{◌≡◌};
 ghost use Rattle.boxes.specs.Box.{box_of};
 ghost use Rattle.roll.specs.Table.{Tabled};

@@ -1,4 +1,6 @@
 // A made-up family over netlink alone: its one command takes a header nest with a number, and is answered with that number.
+#![tactic(auto)]
+
 ghost use Rattle.std.specs.Prelude.{◌≡◌, ◌≤◌, ◌<◌, length};
 ghost use Rattle.basics.specs.Numbers.{le32};
 ghost use Rattle.page.specs.Page.{Wrote};

@@ -1,4 +1,6 @@
 // Lists of 32-byte entries: how many, each of them, and whether they are distinct.
+#![tactic(auto)]
+
 pub mod chain;
 pub mod length;
 pub mod same;

@@ -1,4 +1,6 @@
 // The functions that C calls, as include/ethnl.h declares them: numbers and byte buffers alone.
+#![tactic(auto)]
+
 ghost use Rattle.std.specs.Prelude.{◌≡◌, length};
 ghost use Rattle.bit_name.specs.Find.{name_found};
 ghost use Rattle.normal.specs.Normal.{normalised};

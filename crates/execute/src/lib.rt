@@ -1,4 +1,6 @@
 // A command that is admitted: decided by value, then carried out.
+#![tactic(auto)]
+
 pub mod replies;
 
 ghost use Rattle.std.specs.Prelude.{◌≡◌, ◌≤◌, ◌<◌, length};

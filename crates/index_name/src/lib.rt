@@ -1,4 +1,6 @@
 // The nest of an index and a name, as a port and a BIT have it. Each function writes at the front of the page that it is lent.
+#![tactic(auto)]
+
 ghost use Rattle.std.specs.Prelude.{◌≡◌, ◌+◌, ◌≤◌, ◌<◌, eqb, length};
 ghost use Rattle.netlink.specs.Policy.{nul_at};
 ghost use Rattle.page.specs.Page.{Wrote};

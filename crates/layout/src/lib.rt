@@ -1,4 +1,6 @@
 // Where the sets of the ports lie in the settings: for each port in roll order its debug set, then its flags.
+#![tactic(auto)]
+
 ghost use Rattle.std.specs.Prelude.{◌≡◌, ◌≤◌, ◌<◌};
 ghost use Rattle.layout.specs.Layout.{names_of, list_of, size_of, widths_of, port_words, first_of, total_words as words_of, set_place as place_of};
 ghost use Rattle.layout.specs.AtMost.{AtMost};

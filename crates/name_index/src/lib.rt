@@ -1,4 +1,6 @@
 // The search by tables that lead to the names of one length and one last byte: head, a place for each of these pairs; links, one for each entry.
+#![tactic(auto)]
+
 ghost use Rattle.std.specs.Prelude.{◌≡◌, ◌/◌, ◌<◌, length, leb};
 ghost use Rattle.entries.specs.Entry.{count as count_of, entry_at};
 ghost use Rattle.names.specs.Search.{lookup};

@@ -1,4 +1,6 @@
 // Lists of names, 32 bytes an entry: their rule, and the search for a name.
+#![tactic(auto)]
+
 pub mod pass;
 pub mod rule;
 

@@ -1,4 +1,6 @@
 // One attribute of a parent. A parent's contents are the bytes of a slice from a position to the slice's end.
+#![tactic(auto)]
+
 ghost use Rattle.std.specs.Prelude.{◌≡◌, ◌-◌, ◌/◌, ◌%◌};
 ghost use Rattle.netlink_attributes.specs.Attributes.{attribute_at, part_of};
 

@@ -1,4 +1,6 @@
 // The messages of a dump, beside those that any message has: their flag, and the message that ends it.
+#![tactic(auto)]
+
 ghost use Rattle.std.specs.Prelude.{◌≡◌, ◌≤◌, length};
 ghost use Rattle.page.specs.Page.{Wrote};
 ghost use Rattle.netlink_dump.specs.Dump.{done_message};

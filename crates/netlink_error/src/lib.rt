@@ -1,4 +1,6 @@
 // The error message, which with the number 0 is the ACK.
+#![tactic(auto)]
+
 ghost use Rattle.std.specs.Prelude.{◌≡◌, ◌≤◌, length};
 ghost use Rattle.basics.specs.Put.{put};
 ghost use Rattle.page.specs.Page.{Wrote};

@@ -1,4 +1,6 @@
 // The normaliser: a bitset's contents to the bytes of its normal form.
+#![tactic(auto)]
+
 ghost use Rattle.std.specs.Prelude.{◌≡◌, ◌≤◌, length};
 ghost use Rattle.entries.specs.Entry.{count};
 ghost use Rattle.bitset.specs.Judge.{bitset_reading};

@@ -1,4 +1,6 @@
 // Little-endian numbers in a slice. Past the end of the slice a byte counts as 0, so every position has an answer.
+#![tactic(auto)]
+
 pub mod nuls;
 
 ghost use Rattle.std.specs.Prelude.{◌≡◌, ◌+◌, ◌≤◌, ◌<◌, min, length};

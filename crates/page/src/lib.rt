@@ -1,4 +1,6 @@
 // Writing at the front of a page that is lent: little-endian numbers, and runs of bytes. The rest of the page stays as it was.
+#![tactic(auto)]
+
 pub mod bytes;
 
 ghost use Rattle.std.specs.Prelude.{◌≡◌, ◌≤◌, length};

@@ -1,4 +1,6 @@
 // The refusals of document 01's table, with its number, errno and detail for each.
+#![tactic(auto)]
+
 ghost use Rattle.std.specs.Prelude.{◌≡◌};
 ghost use Rattle.refusal.specs.Refusal.{row_of, number_of, of_fault};
 

@@ -1,4 +1,6 @@
 // What a call says back, and the answers that write: an error message, an ACK.
+#![tactic(auto)]
+
 ghost use Rattle.std.specs.Prelude.{◌≡◌, ◌≤◌, length};
 ghost use Rattle.page.specs.Page.{Wrote};
 ghost use Rattle.response.specs.Answer.{kind_number, refusal_number, Responds, error_response, response_of, ack_bytes, ack_length};

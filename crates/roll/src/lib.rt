@@ -1,4 +1,6 @@
 // The port roll: its records read once into a table of ports, and the port of an index or of a name.
+#![tactic(auto)]
+
 pub mod find;
 pub mod name;
 pub mod record;

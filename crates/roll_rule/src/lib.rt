@@ -1,4 +1,6 @@
 // The rule of a roll, over the table of its ports.
+#![tactic(auto)]
+
 pub mod distinct;
 pub mod marks;
 

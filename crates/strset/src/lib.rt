@@ -1,4 +1,6 @@
 // A STRSET_GET that is admitted: judged by value, then its reply is written.
+#![tactic(auto)]
+
 ghost use Rattle.std.specs.Prelude.{◌≡◌, ◌≤◌, ◌<◌, length};
 ghost use Rattle.entries.specs.Entry.{count as count_of};
 ghost use Rattle.layout.specs.Layout.{names_of};

@@ -1,4 +1,6 @@
 // Words as their little-endian bytes.
+#![tactic(auto)]
+
 ghost use Rattle.std.specs.Prelude.{◌≡◌, ◌+◌, ◌*◌, ◌/◌, ◌≤◌, ◌<◌, length, get_or};
 ghost use Rattle.basics.specs.Put.{put};
 ghost use Rattle.bits.specs.Set.{has, some_past};
