@@ -23,7 +23,7 @@ const PRIVFLAGS_GET_REPLY: u8 = 14;
 const COUNT: usize = 5;
 
 // A command about a set of a port: its number, whether it changes the set (SET) or asks for it (GET), the set, the command of its reply, and whether it may be dumped.
-#[derive(Drop)]
+#[derive(Clone, Copy)]
 pub struct Command {
     pub number: u8,
     pub change: bool,
@@ -32,7 +32,7 @@ pub struct Command {
     pub dump: bool,
 }
 
-#[derive(Drop)]
+#[derive(Clone, Copy)]
 pub enum CommandRead {
     Listed(Command),
     // STRSET_GET, which is about no set of a port.
@@ -41,7 +41,7 @@ pub enum CommandRead {
 }
 
 // A row of the table.
-#[derive(Drop)]
+#[derive(Clone, Copy)]
 pub struct Row {
     pub number: u8,
     pub command: CommandRead,

@@ -10,7 +10,7 @@ use refusal::Refusal;
 
 pub mod commands;
 
-#[derive(Drop)]
+#[derive(Clone, Copy)]
 pub enum Admission {
     Admitted(Command),
     Strset,

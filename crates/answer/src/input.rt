@@ -6,7 +6,7 @@ ghost use Rattle.io.specs.Counts.{IsPrefixLen};
 const CAPACITY: usize = 32769;
 
 // An array, and how many bytes at its front were read. No contract can say what a read does; but an input is made here alone, and only by reading.
-#[derive(Drop)]
+#[derive(Clone, Copy)]
 pub struct Input {
     bytes: [u8; CAPACITY],
     count: usize,

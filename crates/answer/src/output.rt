@@ -3,7 +3,7 @@ ghost use Rattle.std.specs.Prelude.{◌≡◌, ◌+◌};
 ghost use Rattle.answer.specs.Run.{IsNext};
 
 // How many answers were written. No contract can say what a write does; but a count is made here alone, and only by handing over the next answer.
-#[derive(Drop)]
+#[derive(Clone, Copy)]
 pub struct Written {
     count: usize,
 }

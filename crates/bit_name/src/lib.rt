@@ -15,7 +15,7 @@ pub const NOT_FOUND: u32 = 4294967295;
 const LONGEST: usize = 31;
 
 // What is told of a search: document 01's number, 0 where the list breaks no rule; the bit; the entries compared.
-#[derive(Drop)]
+#[derive(Clone, Copy)]
 pub struct Found {
     pub number: u32,
     pub bit: u32,

@@ -14,7 +14,7 @@ use netlink_attributes::place;
 use refusal::{Refusal, of_fault};
 
 // Where the forms of a bitset are mixed, if they are.
-#[derive(Drop)]
+#[derive(Clone, Copy)]
 pub enum Mixing {
     Unmixed,
     At(usize),

@@ -17,28 +17,28 @@ use netlink_attributes::{AttributeRead, payload, place, read_attribute};
 use refusal::{Refusal, of_fault};
 
 // The bit that is identified: its number, or nothing where what would identify it is absent.
-#[derive(Drop)]
+#[derive(Clone, Copy)]
 pub enum Identity {
     Number(usize),
     Absent,
 }
 
 // What an INDEX, a NAME or both identify.
-#[derive(Drop)]
+#[derive(Clone, Copy)]
 pub enum IdentityRead {
     Read(Identity),
     Refused(Refusal),
 }
 
 // A BIT judged: the bit, and whether its VALUE flag stands.
-#[derive(Drop)]
+#[derive(Clone, Copy)]
 pub enum BitRead {
     Bit { number: usize, on: bool },
     Refused(Refusal),
 }
 
 // What walking a BIT gives: its parts, or the first fault.
-#[derive(Drop)]
+#[derive(Clone, Copy)]
 pub enum BitWalk {
     Parts(BitParts),
     Refused(Refusal),

@@ -12,20 +12,20 @@ pub mod parts;
 pub mod policies;
 
 // Sixteen words each, lowest first: a set has at most 512 bits.
-#[derive(Drop)]
+#[derive(Clone, Copy)]
 pub struct Form {
     pub mask: [u32; 16],
     pub value: [u32; 16],
 }
 
-#[derive(Drop)]
+#[derive(Clone, Copy)]
 pub enum Judgement {
     Accepted,
     Refused(Refusal),
 }
 
 // The form stands beside the judgement; it is empty where the bitset is refused.
-#[derive(Drop)]
+#[derive(Clone, Copy)]
 pub struct Judged {
     pub judgement: Judgement,
     pub form: Form,

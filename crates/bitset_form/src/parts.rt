@@ -5,7 +5,7 @@ ghost use Rattle.bitset_form.specs.Parts.{bitset_parts};
 use crate::policies::{BITS, MASK, NOMASK, SIZE, VALUE};
 use netlink::walk::Slot;
 
-#[derive(Drop)]
+#[derive(Clone, Copy)]
 pub struct BitsetParts {
     pub nomask: Slot,
     pub size: Slot,
@@ -15,7 +15,7 @@ pub struct BitsetParts {
 }
 
 // The last is the BIT's VALUE flag.
-#[derive(Drop)]
+#[derive(Clone, Copy)]
 pub struct BitParts {
     pub index: Slot,
     pub name: Slot,

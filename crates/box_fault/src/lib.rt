@@ -17,7 +17,7 @@ use roll::table::{PORTS, read_ports};
 use roll_rule::roll_right;
 
 // The part that breaks a rule; none where the box is sound.
-#[derive(Drop)]
+#[derive(Clone, Copy)]
 pub enum Part {
     Sound,
     Family,
@@ -46,7 +46,7 @@ impl Part {
 }
 
 // A part, and the offset in it.
-#[derive(Drop)]
+#[derive(Clone, Copy)]
 pub struct Fault {
     pub part: Part,
     pub offset: usize,

@@ -9,7 +9,7 @@ pub use rule::box_right;
 pub use settings::{set_at, settings_right};
 
 // The numbers that a call is given. The place is that of a dump: which port is next, or the port count for its end.
-#[derive(Drop)]
+#[derive(Clone, Copy)]
 pub struct Call {
     pub family: u32,
     pub admin: u32,

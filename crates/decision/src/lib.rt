@@ -17,7 +17,7 @@ use request::parts::TopParts;
 use request::target::{Target, TargetRead, read_target};
 use request::top::{Top, read_top};
 
-#[derive(Drop)]
+#[derive(Clone, Copy)]
 pub enum Plan {
     Refused(Refusal),
     Get(Target),
@@ -28,7 +28,7 @@ pub enum Plan {
 }
 
 // The form stands beside the plan; it is empty where the plan is no SET.
-#[derive(Drop)]
+#[derive(Clone, Copy)]
 pub struct Decision {
     pub plan: Plan,
     pub form: Form,

@@ -37,7 +37,7 @@ const HEADER_SLOT: usize = HEADER as usize;
 const NUMBER_SLOT: usize = NUMBER as usize;
 
 // What a request asks: the number, or why it is refused.
-#[derive(Drop)]
+#[derive(Clone, Copy)]
 pub enum RequestRead {
     Number(u32),
     Refused(u32, Detail),

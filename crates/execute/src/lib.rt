@@ -26,7 +26,7 @@ use response::{Answer, acknowledge, refuse};
 use roll::table::PORTS;
 
 // An admitted request: its header, its position and the one after it, the place that a dump has come to, and its command.
-#[derive(Drop)]
+#[derive(Clone, Copy)]
 pub struct Request {
     pub header: MessageHeader,
     pub position: usize,

@@ -8,14 +8,14 @@ ghost use Rattle.layout.specs.AtMost.{AtMost};
 pub mod change;
 
 // The two sets of a port.
-#[derive(Drop)]
+#[derive(Clone, Copy)]
 pub enum Set {
     Debug,
     Flags,
 }
 
 // A number for each set: how many bits it has, or how many words.
-#[derive(Drop)]
+#[derive(Clone, Copy)]
 pub struct Sizes {
     pub debug: usize,
     pub flags: usize,

@@ -15,7 +15,7 @@ pub use rule::names_right;
 
 // What a search found: whether there is such an entry, which bit it names (0 where there is none), and how many entries were compared with the
 // name byte by byte.
-#[derive(Drop)]
+#[derive(Clone, Copy)]
 pub struct Lookup {
     pub found: bool,
     pub bit: usize,

@@ -5,7 +5,7 @@ ghost use Rattle.netlink.specs.Policy.{nul_at, is_name_payload, plain, nested, r
 ghost use Rattle.netlink.specs.NulSearch.{NulFrom, is_nul};
 
 // The rule for the payload of a type: a nest must carry the nest bit, the others no bit.
-#[derive(Drop)]
+#[derive(Clone, Copy)]
 pub enum Rule {
     Unlisted,
     Nest,
@@ -20,14 +20,14 @@ pub enum Rule {
 }
 
 // What is wrong with an attribute.
-#[derive(Drop)]
+#[derive(Clone, Copy)]
 pub enum Fault {
     Length,
     Unknown,
     Payload,
 }
 
-#[derive(Drop)]
+#[derive(Clone, Copy)]
 pub enum Verdict {
     Right,
     Wrong(Fault),

@@ -7,7 +7,7 @@ use netlink_attributes::{AttributeRead, payload, read_attribute};
 use numbers::u32_at;
 
 // Where the payload of the last attribute of a type stands.
-#[derive(Drop)]
+#[derive(Clone, Copy)]
 pub struct Slot {
     pub present: bool,
     pub start: usize,
@@ -15,14 +15,14 @@ pub struct Slot {
 }
 
 // Whether the parent is right as a whole, or its first fault and the place of the attribute that has it.
-#[derive(Drop)]
+#[derive(Clone, Copy)]
 pub enum Stop {
     Whole,
     At { fault: Fault, at: usize },
 }
 
 // What a walk finds: a slot for each type below 8, none present where it stopped at a fault.
-#[derive(Drop)]
+#[derive(Clone, Copy)]
 pub struct Walked {
     pub stop: Stop,
     pub slots: [Slot; 8],

@@ -10,7 +10,7 @@ use numbers::capped;
 
 // Its type, the two bits above the type (2 for a nest, 1 for network byte order), where the payload starts and ends, and the place of the
 // next attribute.
-#[derive(Drop)]
+#[derive(Clone, Copy)]
 pub struct Attribute {
     pub kind: u16,
     pub bits: u16,
@@ -19,7 +19,7 @@ pub struct Attribute {
     pub next: usize,
 }
 
-#[derive(Drop)]
+#[derive(Clone, Copy)]
 pub enum AttributeRead {
     Attribute(Attribute),
     // 1 to 3 bytes left, or a length below 4 or more than is left.

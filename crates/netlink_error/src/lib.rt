@@ -33,7 +33,7 @@ const ECHO: usize = 20;
 const DETAIL: usize = 36;
 
 // What an error message tells beside its number.
-#[derive(Drop)]
+#[derive(Clone, Copy)]
 pub enum Detail {
     Nothing,
     // Where the fault stands, counted from the start of the request.

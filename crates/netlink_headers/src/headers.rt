@@ -4,7 +4,7 @@ ghost use Rattle.netlink_headers.specs.Headers.{message_header_at, generic_heade
 
 use numbers::{byte_at, u16_at, u32_at};
 
-#[derive(Drop)]
+#[derive(Clone, Copy)]
 pub struct MessageHeader {
     pub length: u32,
     pub kind: u16,
@@ -13,7 +13,7 @@ pub struct MessageHeader {
     pub port: u32,
 }
 
-#[derive(Drop)]
+#[derive(Clone, Copy)]
 pub enum MessageHeaderRead {
     Header(MessageHeader),
     Short,
@@ -42,14 +42,14 @@ impl MessageHeader {
     }
 }
 
-#[derive(Drop)]
+#[derive(Clone, Copy)]
 pub struct GenericHeader {
     pub command: u8,
     pub version: u8,
     pub reserved: u16,
 }
 
-#[derive(Drop)]
+#[derive(Clone, Copy)]
 pub enum GenericHeaderRead {
     Header(GenericHeader),
     Short,
@@ -77,13 +77,13 @@ impl GenericHeader {
 }
 
 // `kind` holds the type and the two bits above it.
-#[derive(Drop)]
+#[derive(Clone, Copy)]
 pub struct AttributeHeader {
     pub length: u16,
     pub kind: u16,
 }
 
-#[derive(Drop)]
+#[derive(Clone, Copy)]
 pub enum AttributeHeaderRead {
     Header(AttributeHeader),
     Short,

@@ -3,11 +3,11 @@ ghost use Rattle.std.specs.Prelude.{◌≡◌};
 ghost use Rattle.netlink_headers.specs.Lengths.{round_up4};
 
 // A stated length: the header is counted, padding is not.
-#[derive(Drop)]
+#[derive(Clone, Copy)]
 pub struct Stated(u32);
 
 // The step to what follows: the stated length rounded up to 4.
-#[derive(Drop)]
+#[derive(Clone, Copy)]
 pub struct Step(usize);
 
 impl Stated {

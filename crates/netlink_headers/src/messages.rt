@@ -6,7 +6,7 @@ use crate::headers::{MessageHeader, MessageHeaderRead};
 use crate::lengths::Stated;
 use numbers::capped;
 
-#[derive(Drop)]
+#[derive(Clone, Copy)]
 pub enum MessageRead {
     // The message ends at its stated end; `next` is past its step, at most the datagram's end.
     Message {

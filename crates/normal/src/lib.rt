@@ -16,7 +16,7 @@ pub const PAGE: usize = 144;
 pub const CONTENTS: usize = 32768;
 
 // What the normaliser answers: document 01's number, 0 if the bitset is accepted, and the bytes written.
-#[derive(Drop)]
+#[derive(Clone, Copy)]
 pub struct Normal {
     pub number: u32,
     pub written: usize,

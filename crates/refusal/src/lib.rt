@@ -8,7 +8,7 @@ use netlink::policy::Fault;
 use netlink_error::Detail;
 
 // A place is the offset of an attribute's header from the start of the request.
-#[derive(Drop)]
+#[derive(Clone, Copy)]
 pub enum Refusal {
     // 1: the box breaks a rule.
     Box,
@@ -65,7 +65,7 @@ pub enum Refusal {
 }
 
 // A row of the table: the number, the errno of the error message (0 where none is written), and what the message says beside it.
-#[derive(Drop)]
+#[derive(Clone, Copy)]
 pub struct Row {
     pub number: u32,
     pub errno: u32,

@@ -17,7 +17,7 @@ const VERSION: u8 = 1;
 
 // What the two headers say beside the message's length: the family as message type, the message flags, the request's sequence and port id,
 // and the reply's command.
-#[derive(Drop)]
+#[derive(Clone, Copy)]
 pub struct Heading {
     pub family: u16,
     pub flags: u16,

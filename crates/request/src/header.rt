@@ -11,7 +11,7 @@ use refusal::{Refusal, of_fault};
 // The flags 1 (compact) and 2 (omit reply) together.
 const KNOWN_FLAGS: u32 = 3;
 
-#[derive(Drop)]
+#[derive(Clone, Copy)]
 pub enum Header {
     // The flags as a number, 0 where the attribute is absent.
     Parts { parts: HeaderParts, flags: u32 },

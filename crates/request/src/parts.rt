@@ -5,13 +5,13 @@ ghost use Rattle.request.specs.Parts.{top_parts, header_parts};
 use crate::policies::{BITSET, FLAGS, HEADER, INDEX, NAME};
 use netlink::walk::Slot;
 
-#[derive(Drop)]
+#[derive(Clone, Copy)]
 pub struct TopParts {
     pub header: Slot,
     pub bitset: Slot,
 }
 
-#[derive(Drop)]
+#[derive(Clone, Copy)]
 pub struct HeaderParts {
     pub index: Slot,
     pub name: Slot,

@@ -10,7 +10,7 @@ use refusal::Refusal;
 use roll::table::name_of;
 use roll::{Found, holds_name, port_of_index, port_of_name};
 
-#[derive(Drop)]
+#[derive(Clone, Copy)]
 pub enum PortRead {
     // Which port it is, from 0.
     Port(usize),

@@ -9,13 +9,13 @@ use netlink::walk::Slot;
 use refusal::Refusal;
 
 // The port that a request names: its position in the roll, and the flags of the request's header.
-#[derive(Drop)]
+#[derive(Clone, Copy)]
 pub struct Target {
     pub position: usize,
     pub flags: u32,
 }
 
-#[derive(Drop)]
+#[derive(Clone, Copy)]
 pub enum TargetRead {
     Port(Target),
     // No port is named: the flags of the header.

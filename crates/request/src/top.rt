@@ -8,7 +8,7 @@ use netlink::walk::{Stop, walk};
 use netlink_headers::headers::{GenericHeader, MessageHeader};
 use refusal::{Refusal, of_fault};
 
-#[derive(Drop)]
+#[derive(Clone, Copy)]
 pub enum Top {
     // The bitset is absent in a GET.
     Nests(TopParts),

@@ -13,7 +13,7 @@ use refusal::Refusal;
 // The bytes of an ACK.
 const ACK: usize = 36;
 
-#[derive(Drop)]
+#[derive(Clone, Copy)]
 pub enum Kind {
     End,
     Skipped,
@@ -48,7 +48,7 @@ impl Kind {
 }
 
 // The kind, the next position, the next place and the count of bytes written. The place is 0 but after a port's reply of a dump.
-#[derive(Drop)]
+#[derive(Clone, Copy)]
 pub struct Answer {
     pub kind: Kind,
     pub next: usize,

@@ -8,7 +8,7 @@ use crate::name::holds_name;
 use crate::table::{index_of, name_of, probe_of};
 use numbers::u32_at;
 
-#[derive(Drop)]
+#[derive(Clone, Copy)]
 pub enum Found {
     // Which port it is, from 0.
     At(usize),

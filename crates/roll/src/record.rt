@@ -4,14 +4,14 @@ ghost use Rattle.roll.specs.Record.{record_size, record_at};
 ghost use Rattle.roll.specs.Table.{SizeFits};
 
 // Where a port's index (4 bytes) and its name (16 bytes) start, and where the record ends.
-#[derive(Drop)]
+#[derive(Clone, Copy)]
 pub struct PortRecord {
     pub index: usize,
     pub name: usize,
     pub end: usize,
 }
 
-#[derive(Drop)]
+#[derive(Clone, Copy)]
 pub enum RecordRead {
     Port(PortRecord),
     // A kind that no record has.

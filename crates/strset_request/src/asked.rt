@@ -13,14 +13,14 @@ use request::target::TargetRead;
 use roll::Found;
 
 // The port that is named, if any; the sets in order; whether their counts alone are asked for.
-#[derive(Drop)]
+#[derive(Clone, Copy)]
 pub struct Asked {
     pub port: Found,
     pub sets: Sets,
     pub counts: bool,
 }
 
-#[derive(Drop)]
+#[derive(Clone, Copy)]
 pub enum AskedRead {
     Asked(Asked),
     Refused(Refusal),

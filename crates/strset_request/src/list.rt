@@ -12,7 +12,7 @@ use netlink_attributes::{AttributeRead, payload, read_attribute};
 use refusal::{Refusal, of_fault};
 
 // The sets that are asked for, each once, in the order in which they are told.
-#[derive(Drop)]
+#[derive(Clone, Copy)]
 pub enum Sets {
     Nothing,
     One(Set),
@@ -20,7 +20,7 @@ pub enum Sets {
     Both(Set),
 }
 
-#[derive(Drop)]
+#[derive(Clone, Copy)]
 pub enum SetsRead {
     Listed(Sets),
     Refused(Refusal),

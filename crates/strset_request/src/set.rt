@@ -8,7 +8,7 @@ use netlink::walk::{Slot, Stop, slot_number, walk};
 use netlink_attributes::place;
 use refusal::{Refusal, of_fault};
 
-#[derive(Drop)]
+#[derive(Clone, Copy)]
 pub enum SetRead {
     Set(Set),
     Refused(Refusal),

@@ -7,14 +7,14 @@ use netlink::walk::{Slot, Stop, walk};
 use netlink_headers::headers::{GenericHeader, MessageHeader};
 use refusal::{Refusal, of_fault};
 
-#[derive(Drop)]
+#[derive(Clone, Copy)]
 pub struct StrsetParts {
     pub header: Slot,
     pub sets: Slot,
     pub counts: Slot,
 }
 
-#[derive(Drop)]
+#[derive(Clone, Copy)]
 pub enum StrsetTop {
     // The header is present.
     Parts(StrsetParts),
