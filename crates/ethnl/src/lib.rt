@@ -1,4 +1,4 @@
-// The functions that C calls, as include/ethnl.h declares them: numbers and byte buffers alone.
+// The functions that C calls, as include/ethnl.h declares them: numbers and byte buffers alone. The crate ethnl_c exports them.
 #![tactic(auto)]
 
 ghost use Rattle.std.specs.Prelude.{◌≡◌, length};
@@ -14,8 +14,7 @@ use boxes::Call;
 use handler::bytes::handle_bytes;
 
 // Writes the normal form of a bitset's contents to the page. Returns document 01's number, 0 if accepted.
-#[unsafe(no_mangle)]
-pub extern "C" fn ethnl_normalise(
+pub fn ethnl_normalise(
     contents: &[u8],
     names: &[u8],
     page: &mut [u8],
@@ -30,8 +29,7 @@ pub extern "C" fn ethnl_normalise(
 
 // Looks for a bit name, which stands without its NUL: leaves the bit, 2^32 - 1 where no entry equals it, and how many entries were compared.
 // Returns document 01's number, 0 where the list breaks no rule.
-#[unsafe(no_mangle)]
-pub extern "C" fn ethnl_find(names: &[u8], name: &[u8], found: &mut u32, compared: &mut u64) -> u32
+pub fn ethnl_find(names: &[u8], name: &[u8], found: &mut u32, compared: &mut u64) -> u32
     ensures { Find (name_found names.now name.now) found.new compared.new result }
 {
     let told = bit_name::find(names, name);
@@ -41,8 +39,7 @@ pub extern "C" fn ethnl_find(names: &[u8], name: &[u8], found: &mut u32, compare
 }
 
 // Tells which part of a box breaks a rule first, and where: returns the part's number, 0 if none does, and leaves the offset in it.
-#[unsafe(no_mangle)]
-pub extern "C" fn ethnl_check_box(
+pub fn ethnl_check_box(
     family: u32,
     admin: u32,
     roll: &[u8],
@@ -61,8 +58,7 @@ pub extern "C" fn ethnl_check_box(
 
 // Takes one message from a datagram, answers it, and keeps the settings, which are the little-endian bytes of their words. Settings that are
 // no whole words, or more than any box has, break the box. A dump is answered message by message: the next call takes the place handed back.
-#[unsafe(no_mangle)]
-pub extern "C" fn ethnl_handle<'a>(
+pub fn ethnl_handle<'a>(
     family: u32,
     admin: u32,
     roll: &[u8],
