@@ -1,0 +1,12 @@
+use lib.ListN.{length}
+use Prim.Native.Nat.{◌-◌, ◌≤◌}
+use mathlib.Core.Path.{◌≡◌}
+use Rattle.roll_rule.specs.Rule.{port_right}
+use Rattle.roll_rule.proofs.Laws.{Kept}
+use Rattle.roll_rule.proofs.ports_right.Given as goal
+
+abbrev pub invariant-loop-k : goal.invariant-loop-k
+invariant-loop-k l = (l.k-end ≡ length l.ports) × (l.k ≤ length l.ports) × Kept (port_right l.roll) l.k
+
+abbrev pub decreases-loop-k : goal.decreases-loop-k
+decreases-loop-k l = l.k-end - l.k
