@@ -36,7 +36,6 @@ use Rattle.bitset_form.specs.Parts.{bit_parts}
 use Rattle.bitset_form.specs.declared.parts.BitParts.{BitParts}
 use Rattle.bitset_bit.specs.Bit.{if_stands, bit_by_index, on_lookup, bit_by_name, combined, identified, on_identity_read, bit_parts_reading, bit_walked, on_bit_walk, bit_reading}
 use Rattle.refusal.specs.Refusal.{on_stop, on_walk}
-use Rattle.bitset_form.specs.declared.Judgement.TheVariants.{Refused}
 use Rattle.bitset_bit.specs.declared.Identity.{Identity}
 use Rattle.bitset_bit.specs.declared.Identity.TheVariants.{Number, Absent}
 use Rattle.bitset_bit.specs.declared.IdentityRead.{IdentityRead}

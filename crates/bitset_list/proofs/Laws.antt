@@ -36,7 +36,7 @@ use Rattle.bitset_list.specs.BitList.{ListReading, on_bit, bits_reading, as_bits
 use Rattle.bitset_list.specs.BitList.ListReading.{list_refused, list_entries}
 use Rattle.bitset_list.specs.Judged.{list_judged}
 use Rattle.bitset_form.specs.declared.Form.{Form}
-use Rattle.bitset_form.specs.declared.Judgement.TheVariants.{Accepted, Refused}
+use Rattle.bitset_form.specs.declared.Judgement.TheVariants.{Accepted}
 use Rattle.bitset_form.specs.declared.Judged.{Judged}
 use Rattle.bitset_bit.specs.declared.BitRead.{BitRead}
 use Rattle.bitset_bit.specs.declared.BitRead.TheVariants as B
@@ -81,7 +81,7 @@ value_after m f [] = refl
 value_after m f (e ∷ es) =
     ap (λ (w : List ℕ). (form_after (record { mask = words_of 16 (put_bit e.bit true (has m)); value = w }) es).value)
     (words_of-cong 16 _ (put_bit e.bit e.on f) (λ i h. ap (λ (t : Bool). cond (eqb i e.bit) e.on t) (has-words_of 16 f i h)))
-    ∙ value_after _ (put_bit e.bit e.on f) es
+    ∙ value_after (words_of 16 (put_bit e.bit true (has m))) (put_bit e.bit e.on f) es
 
 none : ℕ → Bool
 none i = false

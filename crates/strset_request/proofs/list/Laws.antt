@@ -6,7 +6,7 @@ use mathlib.Core.Bool.{Bool, true, false, cond}
 use lib.ListN.{length}
 use native.Mathlib.Omega.{arith}
 use Rattle.basics.proofs.Truth.{cond-true, cond-false}
-use Rattle.netlink_attributes.specs.Attributes.{Attributes, attributes, attribute_at, on_read, part_of}
+use Rattle.netlink_attributes.specs.Attributes.{attributes, attribute_at, on_read, part_of}
 use Rattle.netlink_attributes.specs.declared.AttributeRead.{AttributeRead}
 use Rattle.netlink_attributes.specs.declared.Attribute.{Attribute}
 use Rattle.netlink_attributes.specs.declared.AttributeRead.TheVariants as A

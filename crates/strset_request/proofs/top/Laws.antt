@@ -2,7 +2,7 @@
 use Prim.Native.Nat.{ℕ}
 use mathlib.Core.Path.{◌≡◌, sym, ap, ◌∙◌}
 use mathlib.Core.List.{List}
-use mathlib.Core.Bool.{Bool, true, false, not, cond}
+use mathlib.Core.Bool.{true, false, not}
 use lib.ListN.{get_or}
 use Rattle.basics.proofs.Truth.{cond-true, cond-false}
 use Rattle.netlink.specs.Walk.{absent, walked}

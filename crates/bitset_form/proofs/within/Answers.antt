@@ -1,0 +1,36 @@
+use Rattle.bitset_form.proofs.Laws.{fill-laws}
+use borrow.Author.Rules.{rules}
+use Rattle.bitset_form.proofs.within.Goals as goal
+
+pub loop-j-init : goal.loop-j-init
+loop-j-init c = search (rules, fill-laws)
+
+pub offset_bounds-mask-j : goal.offset_bounds-mask-j
+offset_bounds-mask-j c = search (rules, fill-laws)
+
+pub bounds-mask-j : goal.bounds-mask-j
+bounds-mask-j c = search (rules, fill-laws)
+
+pub word_in-requires : goal.word_in-requires
+word_in-requires c = search (rules, fill-laws)
+
+pub merge_word-requires : goal.merge_word-requires
+merge_word-requires c = search (rules, fill-laws)
+
+pub offset_bounds-words-j : goal.offset_bounds-words-j
+offset_bounds-words-j c = search (rules, fill-laws)
+
+pub bounds-words-j : goal.bounds-words-j
+bounds-words-j c = search (rules, fill-laws)
+
+pub overflow_step-j : goal.overflow_step-j
+overflow_step-j c = search (rules, fill-laws)
+
+pub loop-j-smaller : goal.loop-j-smaller
+loop-j-smaller c = search (rules, fill-laws)
+
+pub loop-j-preserved : goal.loop-j-preserved
+loop-j-preserved c = search (rules, fill-laws)
+
+pub returns : goal.returns
+returns c = search (rules, fill-laws)

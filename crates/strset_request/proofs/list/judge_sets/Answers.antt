@@ -1,0 +1,48 @@
+use Rattle.strset_request.proofs.list.Laws.{sets-laws}
+use borrow.Author.Rules.{rules}
+use Rattle.strset_request.proofs.list.judge_sets.Goals as goal
+
+pub loop-x-init : goal.loop-x-init
+loop-x-init c = search (rules, sets-laws)
+
+pub read_attribute-requires : goal.read_attribute-requires
+read_attribute-requires c = search (rules, sets-laws)
+
+pub enum_told-1 : goal.enum_told-1
+enum_told-1 c = search (rules, sets-laws)
+
+pub returns-in-End : goal.returns-in-End
+returns-in-End c = search (rules, sets-laws)
+
+pub enum_told-in-Broken : goal.enum_told-in-Broken
+enum_told-in-Broken c = search (rules, sets-laws)
+
+pub returns-in-Broken : goal.returns-in-Broken
+returns-in-Broken c = search (rules, sets-laws)
+
+pub enum_known-x : goal.enum_known-x
+enum_known-x c = search (rules, sets-laws)
+
+pub payload-requires : goal.payload-requires
+payload-requires c = search (rules, sets-laws)
+
+pub judge_set-requires : goal.judge_set-requires
+judge_set-requires c = search (rules, sets-laws)
+
+pub enum_known-why : goal.enum_known-why
+enum_known-why c = search (rules, sets-laws)
+
+pub returns-in-Refused : goal.returns-in-Refused
+returns-in-Refused c = search (rules, sets-laws)
+
+pub enum_known-set : goal.enum_known-set
+enum_known-set c = search (rules, sets-laws)
+
+pub with_asked-sets-requires : goal.with_asked-sets-requires
+with_asked-sets-requires c = search (rules, sets-laws)
+
+pub loop-x-smaller : goal.loop-x-smaller
+loop-x-smaller c = search (rules, sets-laws)
+
+pub loop-x-preserved : goal.loop-x-preserved
+loop-x-preserved c = search (rules, sets-laws)
