@@ -1,5 +1,5 @@
 -- Request C-13: a reply to STRSET_GET as a client reads it, walked by our own walk.
-use Rattle.std.specs.Prelude.{ℕ, zero, suc, Bool, true, false, cond, List, [], ◌∷◌, ◌++◌, get_or, take}
+use Rattle.std.specs.Prelude.{ℕ, zero, suc, Bool, cond, List, [], ◌∷◌, ◌++◌, get_or, take}
 use Rattle.entries.specs.Entry.{count, entry_at}
 use Rattle.netlink_attributes.specs.Attributes.{Attributes, attributes, part_of}
 use Rattle.netlink_attributes.specs.Attributes.Attributes.{done, broken, attribute}

@@ -1,7 +1,7 @@
 -- Laws of the answer to a STRSET_GET: one for each return, and the room that each writer needs.
 use Prim.Native.Nat.{ℕ, ◌+◌, ◌-◌, ◌≤◌, ◌<◌}
 use mathlib.Core.Path.{◌≡◌, refl, sym, ap, ◌∙◌}
-use mathlib.Core.List.{List, [], ◌∷◌, ◌++◌, append-nil}
+use mathlib.Core.List.{List, [], ◌∷◌, append-nil}
 use mathlib.Core.Bool.{Bool, true, false, cond}
 use lib.ListN.{length, take, drop, length-append}
 use lib.Dec.{ltb}
@@ -9,13 +9,12 @@ use native.Mathlib.Omega.{arith}
 use borrow.Author.Tests.{lt-ltb, le-ltb}
 use borrow.Rule.Slice.PartMut.{put_mid}
 use Rattle.basics.proofs.Put.{length_rest}
-use Rattle.basics.proofs.Truth.{cond-true, cond-false}
 use Rattle.page.specs.Page.{Wrote}
 use Rattle.page.proofs.Page.{wrote_then}
 use Rattle.netlink_headers.specs.declared.headers.MessageHeader.{MessageHeader}
 use Rattle.refusal.specs.declared.Refusal.{Refusal}
 use Rattle.refusal.specs.declared.Refusal.TheVariants.{LongReply}
-use Rattle.layout.specs.Layout.{Names, names_of}
+use Rattle.layout.specs.Layout.{names_of}
 use Rattle.roll.specs.Record.{port_count, index_of, name_of}
 use Rattle.roll.proofs.table.Laws.{name-long}
 use Rattle.roll.specs.declared.find.Found.{Found}
@@ -27,7 +26,7 @@ use Rattle.request.specs.declared.target.TargetRead.TheVariants as T
 use Rattle.request.proofs.target.Place.{TargetIn, optional-counted}
 use Rattle.reply.specs.Message.{heading_of}
 use Rattle.reply.specs.declared.message.Heading.{Heading}
-use Rattle.response.specs.Answer.{Response, response_of, error_response, ack_bytes, ack_length, Responds}
+use Rattle.response.specs.Answer.{response_of, error_response, ack_bytes, ack_length, Responds}
 use Rattle.response.specs.declared.Answer.{Answer}
 use Rattle.response.specs.declared.Kind.TheVariants.{Done}
 use Rattle.response.proofs.Laws.{wrote-responds, length-ack, ack-whole-or-none}
