@@ -1,22 +1,20 @@
 -- Laws of carrying a decision out: one for each return.
-use Prim.Native.Nat.{ℕ, ◌+◌, ◌%◌, ◌≤◌, ◌<◌}
-use mathlib.Core.Path.{◌≡◌, refl, sym, ap, ◌∙◌}
+use Prim.Native.Nat.{ℕ, ◌+◌, ◌≤◌, ◌<◌}
+use mathlib.Core.Path.{◌≡◌, refl, ap, ◌∙◌}
 use mathlib.Core.List.{List}
 use lib.ListN.{length, take, drop}
-use lib.Dec.{eqb}
 use native.Mathlib.Omega.{arith}
 use Rattle.basics.specs.Put.{splice}
-use Rattle.bits.specs.Set.{has, words_of, words_for}
+use Rattle.bits.specs.Set.{has, words_of}
 use Rattle.bits.specs.Change.{merge}
 use Rattle.refusal.specs.declared.Refusal.{Refusal}
-use Rattle.roll.specs.Record.{port_count, index_of, name_of}
-use Rattle.roll.proofs.table.Laws.{name-long}
-use Rattle.layout.specs.Layout.{list_of, size_of, widths_of, total_words, set_place, set_at}
+use Rattle.roll.specs.Record.{port_count}
+use Rattle.layout.specs.Layout.{size_of, widths_of, total_words, set_place, set_at}
 use Rattle.layout.specs.AtMost.{AtMost}
 use Rattle.layout.specs.declared.Set.{Set}
 use Rattle.layout.specs.declared.Sizes.{Sizes}
-use Rattle.layout.proofs.Laws.{sizes-of, size_few, widths-few, place_inside, set-length}
-use Rattle.boxes.specs.Box.{Box, State, state_of, ports_in, sizes_in, widths_in, place_in, width_in, set_of}
+use Rattle.layout.proofs.Laws.{size_few, widths-few, place_inside}
+use Rattle.boxes.specs.Box.{Box, State, state_of, ports_in, sizes_in, place_in, width_in, set_of}
 use Rattle.bitset_form.specs.declared.Form.{Form}
 use Rattle.response.specs.Answer.{Response, response_of, error_response, ack_bytes, unchanged, Responds, Performs}
 use Rattle.response.specs.declared.Kind.TheVariants.{Done}
@@ -28,7 +26,6 @@ use Rattle.execute.specs.declared.Request.{Request}
 use Rattle.execute.specs.Execute.{with_set, get_bytes, dump_response}
 use Rattle.execute.specs.CarriedOut.{changed_by, plan_outcome, carried_out}
 use Rattle.execute.specs.Fit.{Fit}
-use Rattle.reply.specs.Message.{Content, content_of}
 use Rattle.response.specs.declared.Answer.{Answer}
 
 -- a stage that leaves the state
