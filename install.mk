@@ -21,7 +21,7 @@ ETHNL_INSTALLED = $(addprefix $(INCLUDEDIR)/,$(notdir $(ETHNL_HEADERS))) $(LIBDI
 
 .PHONY: install uninstall
 
-$(ETHNL_BUILT): $(shell find crates crates.txt -type f -not -path '*/must-fail/*')
+$(ETHNL_BUILT): $(shell find crates crates.txt -type f -not -path '*/must-fail/*' -not -path '*/out/*')
 	@echo "proving and building the library: about 5 minutes on two cores, the first time"
 	@tools/archive
 

@@ -32,25 +32,28 @@ installs uninstall DESTDIR="$stage" $directories
 check_same "make uninstall leaves none of them" "$(files "$stage")" ""
 
 # An archive that is missing or older than the crates is built first; a fake rt writes down what it was asked.
-rm -rf "$out/tree"
-mkdir -p "$out/tree/bin" "$out/tree/crates"
-cp -r "$root/include" "$root/examples" "$root/tools" "$root/install.mk" "$root/LICENSE" "$root/crates.txt" "$out/tree"
-cat >"$out/tree/bin/rt" <<'END'
+tree=$apart/tree
+mkdir -p "$tree/bin"
+cp -r "$root/include" "$root/examples" "$root/tools" "$root/install.mk" "$root/LICENSE" "$root/crates.txt" "$tree"
+for crate in $("$tree/tools/closure"); do
+    mkdir -p "$tree/crates/$crate/out"
+done
+cat >"$tree/bin/rt" <<'END'
 #!/bin/sh
-echo "$*" >>asked
-mkdir -p target/staticlib
-echo archive >target/staticlib/libethnl.a
+crate=$(basename "$PWD")
+echo "$* of $crate" >>../../asked
+echo archive >"out/lib$crate.a"
 END
-chmod +x "$out/tree/bin/rt"
+chmod +x "$tree/bin/rt"
 builds() {
-    (cd "$out/tree" && rm -f asked && unset ETHNL_LIB && PATH=$PWD/bin:$PATH make -s -f install.mk install DESTDIR="$stage" >/dev/null &&
-        grep '^staticlib' asked 2>/dev/null)
+    (cd "$tree" && rm -f asked && unset ETHNL_LIB && PATH=$PWD/bin:$PATH make -s -f install.mk install DESTDIR="$stage" >/dev/null &&
+        grep 'ethnl_c$' asked 2>/dev/null)
 }
-check_same "a missing archive is built" "$(builds)" "staticlib ethnl"
+check_same "a missing archive is built" "$(builds)" "lib of ethnl_c"
 check_same "one that is there is not built again" "$(builds)" ""
-touch -d '1 hour ago' "$out/tree/target/staticlib/libethnl.a"
-touch "$out/tree/crates/changed"
-check_same "one that is older than the crates is" "$(builds)" "staticlib ethnl"
+touch -d '1 hour ago' "$tree/target/staticlib/libethnl.a"
+touch "$tree/crates/changed"
+check_same "one that is older than the crates is" "$(builds)" "lib of ethnl_c"
 
 if command -v pkg-config >/dev/null; then
     installs install PREFIX="$out/prefix" LIBDIR="$out/prefix/lib64"

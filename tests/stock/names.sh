@@ -12,7 +12,8 @@ has_mnl() {
 
 fetch_mnl() (
     cd "$out" && { apt-get download libmnl-dev libmnl0 || { timeout 60 apt-get update && apt-get download libmnl-dev libmnl0; }; } &&
-        dpkg -x libmnl0_*.deb mnl && dpkg -x libmnl-dev_*.deb mnl
+        dpkg -x libmnl0_*.deb mnl && dpkg -x libmnl-dev_*.deb mnl &&
+        files_for_links mnl
 )
 
 build_names() {

@@ -56,7 +56,7 @@ with="ETHTOOL=$out/none"
 plays 2 "try: no ethtool: install it, or ETHTOOL names it (its package cannot be had from here)" quay3
 mkdir -p "$out/few"
 for word in sh dirname basename realpath mkdir rm cmp cp; do
-    ln -sf "$(command -v $word)" "$out/few/$word"
+    cp --remove-destination "$(command -v $word)" "$out/few/$word"
 done
 with="PATH=$out/few"
 plays 2 "try: no gcc, which builds what stands between ethtool and the library" quay3

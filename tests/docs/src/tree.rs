@@ -12,7 +12,7 @@ pub fn read(path: &str) -> String {
     fs::read_to_string(root().join(path)).unwrap_or_else(|error| panic!("{path}: {error}"))
 }
 
-/// All files under a folder, what is built left out.
+/// All files under a folder, what cargo and rt build left out.
 pub fn files(folder: &str) -> Vec<PathBuf> {
     let mut found = Vec::new();
     let mut folders = vec![root().join(folder)];
@@ -21,7 +21,7 @@ pub fn files(folder: &str) -> Vec<PathBuf> {
             let path = entry.expect("an entry of a folder").path();
             if path.is_file() {
                 found.push(path);
-            } else if path.is_dir() && !path.ends_with("target") {
+            } else if path.is_dir() && !path.ends_with("target") && !path.ends_with("out") {
                 folders.push(path);
             }
         }
@@ -33,7 +33,7 @@ pub fn files(folder: &str) -> Vec<PathBuf> {
 /// README.md and every page under docs/, by name.
 pub fn documents() -> Vec<(String, String)> {
     let mut pages = vec!["README.md".to_string()];
-    for path in files("docs") {
+    for path in files("docs").into_iter().filter(|path| path.extension().is_some_and(|found| found == "md")) {
         pages.push(path.strip_prefix(root()).expect("a file of the repository").to_string_lossy().into_owned());
     }
     pages.into_iter().map(|page| (page.clone(), read(&page))).collect()

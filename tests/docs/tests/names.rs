@@ -77,7 +77,8 @@ fn every_name_stands_in_a_source() {
 
 /// The theorems that a page has in bold, without blanks or capitals: names of laws.
 fn laws(text: &str) -> Vec<&str> {
-    let plain = |piece: &&str| piece.contains('-') && piece.chars().all(|c| c.is_ascii_lowercase() || c == '-');
+    let plain =
+        |piece: &&str| piece.contains(['-', '_']) && piece.chars().all(|c| c.is_ascii_lowercase() || "-_".contains(c));
     text.split("**").skip(1).step_by(2).filter(plain).collect()
 }
 
