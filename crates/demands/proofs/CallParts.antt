@@ -2,7 +2,7 @@
 --     request-parts    of every request that is admitted: the message in the datagram, its attributes in the message, and level by level down to the
 --                      parts of each BIT, what is read stands in its parent, apart from its siblings
 --     call-parts       so of every call of the exported handler that is done, or refused by 10 or more
-use Prim.Native.Nat.{ℕ, ◌+◌, ◌-◌, ◌/◌, ◌%◌, ◌≤◌, ◌<◌}
+use Prim.Native.Nat.{ℕ, ◌+◌, ◌-◌, ◌%◌, ◌≤◌, ◌<◌}
 use mathlib.Core.Path.{◌≡◌, refl, sym, ap, ◌∙◌}
 use mathlib.Core.List.{List}
 use mathlib.Core.Bool.{Bool, true, false, ◌||◌, not, cond}

@@ -8,7 +8,7 @@
 --     place_is         a port's reply of a dump hands back the next place, every other answer 0
 --     moves            so it moves on, by at least a header and not past the datagram's end, or to the next place
 --     run_ends         so a run over a datagram ends, wherever it starts, places counted
-use Prim.Native.Nat.{ℕ, suc, ◌+◌, ◌*◌, ◌≤◌, ◌<◌}
+use Prim.Native.Nat.{ℕ, suc, ◌+◌, ◌*◌, ◌≤◌}
 use mathlib.Core.Path.{◌≡◌, refl, sym, ap, ◌∙◌}
 use mathlib.Core.List.{List, []}
 use mathlib.Core.Bool.{Bool, true, false, ◌&&◌, cond}
@@ -28,7 +28,7 @@ use Rattle.boxes.proofs.rule.Meaning.{box-means}
 use Rattle.boxes.specs.declared.Call.{Call}
 use Rattle.admission.specs.Admission.{is_dump}
 use Rattle.netlink_dump.specs.Dump.{done_message}
-use Rattle.response.specs.Answer.{Response, Outcome, response_of, unchanged}
+use Rattle.response.specs.Answer.{Outcome, response_of, unchanged}
 use Rattle.execute.specs.declared.Request.{Request}
 use Rattle.execute.specs.Execute.{request_of, port_response, dump_response}
 use Rattle.handler.proofs.call.Moves as H

@@ -10,9 +10,8 @@ use Prim.Native.Nat.{ℕ, ◌+◌, ◌-◌, ◌≤◌, ◌<◌}
 use mathlib.Core.Path.{◌≡◌, refl, sym, ap, ◌∙◌}
 use mathlib.Core.List.{List, [], ◌++◌, append-nil}
 use mathlib.Core.Logic.{⊎_elim}
-use mathlib.Core.Bool.{Bool, true, false, cond}
+use mathlib.Core.Bool.{Bool, true, false}
 use lib.ListN.{length}
-use lib.Dec.{ltb}
 use borrow.Author.Tests.{lt-ltb, le-ltb}
 use native.Mathlib.Omega.{arith}
 use Rattle.basics.specs.Numbers.{byte_at}
@@ -45,7 +44,7 @@ use Rattle.admission.specs.Commands.{command_of}
 use Rattle.admission.specs.Admission.{is_dump}
 use Rattle.admission.specs.declared.commands.Command.{Command}
 use Rattle.netlink_dump.specs.Dump.{done_header, done_message}
-use Rattle.netlink_write.specs.Headers.{message_header_bytes, generic_header_bytes}
+use Rattle.netlink_write.specs.Headers.{message_header_bytes}
 use Rattle.response.specs.Answer.{Response, Outcome, response_of, ack_bytes, unchanged}
 use Rattle.handler.specs.Call.{outcome}
 use Rattle.reply.specs.Message.{heading_of, headers_bytes, Content, reply_bytes}
@@ -61,10 +60,9 @@ use Rattle.demands.specs.CallCase.{CallCase}
 use Rattle.demands.specs.CallCase.CallCase.{ended, not_read, message_answered}
 use Rattle.demands.specs.Message.{Named, DumpAsked, Carries}
 use Rattle.demands.specs.CallCase.MessageCase.{message_skipped, message_refused, get_done, dump_done, strset_done, set_done}
-use Rattle.demands.specs.Done.{DoneSet, content_about, reply_about, reply_to, TellsSet, DoneGet, DonePort, DoneLast, DoneDump, DoneStrset}
+use Rattle.demands.specs.Done.{DoneSet, content_about, reply_to, TellsSet, DoneGet, DonePort, DoneLast, DoneDump, DoneStrset}
 use Rattle.demands.specs.Request.{is_set, is_strset, asks_dump}
 use Rattle.demands.proofs.Count.{none-counted, error-counted, ack-counted, done-counted, reply-counted, within-longest}
-use Rattle.demands.proofs.Request.{dump-kind}
 use Rattle.demands.proofs.CallCase.{call-case}
 use Rattle.demands.proofs.Effect.{after, set_own, set-others, set-elsewhere, set-small, set-right}
 use Rattle.demands.proofs.Port.{port-short}

@@ -7,7 +7,6 @@ use lib.ListN.{length, get_or, length-append}
 use lib.Dec.{eqb}
 use native.Mathlib.Omega.{arith}
 use Rattle.basics.specs.Numbers.{byte_at, u32_at}
-use Rattle.basics.specs.Scan.{all}
 use Rattle.basics.proofs.Numbers.{digits32}
 use Rattle.basics.proofs.Truth.{clash, both_true}
 use Rattle.netlink.specs.Policy.{nul_at}

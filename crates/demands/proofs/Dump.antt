@@ -6,7 +6,7 @@
 use Prim.Native.Nat.{ℕ, zero, suc, ◌+◌, ◌≤◌, ◌<◌}
 use mathlib.Core.Path.{◌≡◌, refl, sym, ap, ◌∙◌}
 use mathlib.Core.List.{List, ◌∷◌, ◌++◌, append-nil}
-use mathlib.Core.Bool.{Bool, true, false, not}
+use mathlib.Core.Bool.{Bool, true, false}
 use native.Mathlib.Omega.{arith}
 use Rattle.basics.specs.Numbers.{byte_at}
 use borrow.Author.Tests.{ltb-false, eqb-true, not-false}
@@ -27,9 +27,8 @@ use Rattle.admission.specs.declared.commands.Command.{Command}
 use Rattle.admission.specs.declared.commands.CommandRead.TheVariants.{Listed}
 use Rattle.request.specs.declared.parts.TopParts.{TopParts}
 use Rattle.request.specs.declared.top.Top.TheVariants.{Nests}
-use Rattle.request.specs.declared.header.Header.TheVariants as H
 use Rattle.request.specs.Header.{header_of}
-use Rattle.reply.specs.Message.{heading_of, Content, reply_bytes}
+use Rattle.reply.specs.Message.{heading_of, reply_bytes}
 use Rattle.reply.specs.declared.message.Heading.{Heading}
 use Rattle.boxes.specs.Box.{Box, State, ports_in, set_of}
 use Rattle.boxes.specs.declared.Call.{Call}
@@ -44,10 +43,9 @@ use Rattle.demands.specs.PortChecks.{no_port}
 use Rattle.demands.specs.Request.{asks_dump, command_checks, admission_checks, message_checks}
 use Rattle.demands.specs.Call.{message_of, next_of, call_checks}
 use Rattle.demands.specs.Message.{DumpAsked}
-use Rattle.demands.specs.Done.{content_about, reply_about, DoneSet, DoneGet, DonePort, DoneLast, DoneDump}
+use Rattle.demands.specs.Done.{content_about, reply_about, DoneSet, DoneGet, DonePort, DoneDump}
 use Rattle.demands.specs.Stored.{stored_right, as_words}
 use Rattle.demands.specs.Dump.{at_place, HandledGet, header_of_get, AsksOne, RepliesAlike, get_one, call_one, AsGetOne, WholeDump, Point, point_after, DumpCalls}
-use Rattle.demands.specs.Run.{after}
 use Rattle.demands.proofs.BoxRoll.{roll-exactly, rules-counted, one_index}
 use Rattle.demands.proofs.GetOne.{kind-is, sequence-is, port-is, asks-one, one-get, one-about-port, no-ack, names-one, one_passes}
 use Rattle.demands.proofs.Missing.{index-missing}

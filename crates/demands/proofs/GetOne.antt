@@ -2,10 +2,10 @@
 --     one-read         its header nest is read as the index and the flags
 --     names-one        so what it is found to name is the command, the flags and the port of the index
 --     one_passes       over a right box, which has a port with the index, every check passes
-use Prim.Native.Nat.{ℕ, ◌+◌, ◌%◌, ◌/◌, ◌≤◌, ◌<◌}
+use Prim.Native.Nat.{ℕ, ◌+◌, ◌%◌, ◌≤◌, ◌<◌}
 use mathlib.Core.Path.{◌≡◌, refl, sym, ap, ◌∙◌}
 use mathlib.Core.List.{List, [], ◌∷◌, ◌++◌}
-use mathlib.Core.Bool.{Bool, true, false, ◌&&◌, ◌||◌, not, cond}
+use mathlib.Core.Bool.{Bool, true, false, ◌||◌, not}
 use lib.ListN.{length}
 use lib.Dec.{eqb, ltb}
 use native.Mathlib.Omega.{arith}
@@ -35,7 +35,6 @@ use Rattle.admission.specs.declared.commands.Command.{Command}
 use Rattle.admission.specs.declared.commands.CommandRead.TheVariants.{Listed}
 use Rattle.request.specs.Policies as RP
 use Rattle.request.specs.Policies.{top_policy, header_policy}
-use Rattle.request.specs.Parts as PA
 use Rattle.request.specs.Parts.{top_parts, header_parts}
 use Rattle.request.specs.Top.{nests_of, top_of}
 use Rattle.request.specs.Header.{flags_judged, parts_of, header_of}

@@ -102,7 +102,7 @@ module _ (s names : List ℕ) where
   bit-then (B.Bit number on) (list_refused r) es e = absurd (let c : ◌≡◌ {A = ℕ} 0 1 = cc in omega arith)
   bit-then (B.Bit number on) (list_entries fs) es e = ((number, on, refl), (fs, refl))
 
-  each-own-name : {xs : Attributes} (start end : ℕ) → Among start end xs → (es : List Listed) → bits_reading s names xs ≡ list_entries es → BitOwnName s names start end
+  each-own-name : (start end : ℕ) {xs : Attributes} → Among start end xs → (es : List Listed) → bits_reading s names xs ≡ list_entries es → BitOwnName s names start end
   unfolding bits_reading
   each-own-name start end (first {kind} {bits} {rest}) es e =
       let read = (bit-then (bit_reading (part_of s 0 end) names start) (bits_reading s names rest) es e).0 in

@@ -1,5 +1,5 @@
 -- A STRSET_GET in two messages that agree but for paddings: it asks for the same, or is refused alike.
-use Prim.Native.Nat.{ℕ, ◌-◌, ◌≤◌}
+use Prim.Native.Nat.{ℕ, ◌-◌}
 use mathlib.Core.Path.{◌≡◌, refl, sym, ap, ◌∙◌}
 use mathlib.Core.List.{List}
 use mathlib.Core.Bool.{Bool, true, false, not, cond}
@@ -13,7 +13,7 @@ use Rattle.netlink.specs.Claims.{Passed}
 use Rattle.netlink.specs.Claims.Passed.{next}
 use Rattle.netlink.proofs.walk.Meaning.{whole-passed, stop_is}
 use Rattle.netlink.specs.Policy.{rule_of}
-use Rattle.netlink.specs.Walk.{absent, found, walked, slot_number}
+use Rattle.netlink.specs.Walk.{absent, walked}
 use Rattle.netlink.specs.declared.walk.Slot.{Slot}
 use Rattle.netlink.specs.declared.walk.Stop.{Stop}
 use Rattle.netlink.specs.declared.walk.Stop.TheVariants.{Whole, At}
@@ -21,7 +21,6 @@ use Rattle.netlink.specs.declared.walk.Walked.{Walked}
 use Rattle.refusal.specs.Refusal.{on_stop, on_walk}
 use Rattle.refusal.specs.declared.Refusal.{Refusal}
 use Rattle.refusal.specs.declared.Refusal.TheVariants as R
-use Rattle.layout.specs.declared.Set.{Set}
 use Rattle.roll.specs.declared.find.Found.{Found}
 use Rattle.request.specs.Optional.{optional_target_of}
 use Rattle.request.specs.declared.target.TargetRead.{TargetRead}
@@ -32,7 +31,6 @@ use Rattle.strset_request.specs.Set.{id_judged, set_reading}
 use Rattle.strset_request.specs.List.{with_asked, on_set, sets_reading, nest_reading, list_reading}
 use Rattle.strset_request.specs.Asked.{is_named, with_sets, on_target, sets_asked, on_top, asked_of}
 use Rattle.strset_request.specs.declared.top.StrsetParts.{StrsetParts}
-use Rattle.strset_request.specs.declared.top.StrsetTop.{StrsetTop}
 use Rattle.strset_request.specs.declared.top.StrsetTop.TheVariants as P
 use Rattle.strset_request.specs.declared.set.SetRead.{SetRead}
 use Rattle.strset_request.specs.declared.set.SetRead.TheVariants as S

@@ -11,7 +11,7 @@ use lib.Seq.{length-take-le}
 use native.Mathlib.Omega.{arith}
 use Rattle.basics.proofs.Truth.{clash}
 use Rattle.netlink_attributes.specs.Attributes.{Attributes, attributes, part_of}
-use Rattle.netlink_attributes.specs.Attributes.Attributes.{done, attribute}
+use Rattle.netlink_attributes.specs.Attributes.Attributes.{done, attribute, broken}
 use Rattle.netlink_attributes.specs.Claims.{Apart}
 use Rattle.netlink_attributes.proofs.Apart.{apart}
 use Rattle.netlink_attributes.proofs.Laws.{part_in}
@@ -46,7 +46,6 @@ use Rattle.request.specs.declared.parts.TopParts.{TopParts}
 use Rattle.request.specs.declared.parts.HeaderParts.{HeaderParts}
 use Rattle.request.specs.declared.top.Top.TheVariants as T
 use Rattle.request.specs.declared.header.Header.TheVariants as H
-use Rattle.response.specs.declared.Kind.TheVariants.{Refused}
 use Rattle.demands.specs.Parts.{StandsIn, BitsRead, ListRead, BitsetRead, HeaderRead, NestParts}
 use Rattle.demands.specs.Parts.BitsRead.{no_bit, bit_fault, bit_read}
 use Rattle.demands.specs.Parts.ListRead.{bits_fault, bits_read}
@@ -101,6 +100,7 @@ module _ (s names : List ℕ) where
       → BitsRead s names before (bits_reading s names xs)
   unfolding bits_reading bit_parts
   bits-read before at lo hi done q here = no_bit {at = before} (omega (arith, q))
+  bits-read before at lo hi (broken _) q never = elim never [ ]
   bits-read before at lo hi (attribute k b a e rest) q (next right others) =
       rw (by-walk (part_of s 0 e) names a)
       (go (walked bit_policy (part_of s 0 e) a).stop refl (bits-read e q.5.0 q.5.1 q.5.4 rest q.5.3 others))

@@ -1,6 +1,6 @@
 -- What a message's definitions tell is its first check that does not pass: skipping and 5 to 9, the top level, the header level, the bitset.
 use Prim.Native.Nat.{ℕ, ◌-◌, ◌/◌, ◌%◌}
-use mathlib.Core.Path.{◌≡◌, refl, sym, ap, ◌∙◌}
+use mathlib.Core.Path.{◌≡◌, refl, ◌∙◌}
 use mathlib.Core.List.{List, [], ◌∷◌, ◌++◌}
 use mathlib.Core.Bool.{Bool, true, false, ◌&&◌, ◌||◌, not, cond}
 use lib.ListN.{length}
@@ -19,8 +19,6 @@ use Rattle.bitset_form.specs.Bitset.{Reading}
 use Rattle.bitset_form.specs.Bitset.Reading.{refused, accepted}
 use Rattle.bitset.specs.Judge.{bitset_reading}
 use Rattle.roll.specs.Find.{found_by_index, found_by_name}
-use Rattle.roll.specs.declared.find.Found.{Found}
-use Rattle.roll.specs.declared.find.Found.TheVariants as F
 use Rattle.layout.specs.Layout.{list_of}
 use Rattle.boxes.specs.Box.{Box, State, ports_in}
 use Rattle.boxes.specs.declared.Call.{Call}
@@ -29,12 +27,12 @@ use Rattle.layout.specs.declared.Set.TheVariants.{Debug, Flags}
 use Rattle.admission.specs.Admission.{is_dump, no_dump, not_permitted, permitted, strset_permitted, on_command, admitted}
 use Rattle.request.specs.Target.{with_flags, on_header, target_of}
 use Rattle.admission.specs.Commands.{command_row, command_in, command_of}
-use Rattle.request.specs.Header.{flags_judged, parts_of, dump_parts_of, judged_parts, header_of}
+use Rattle.request.specs.Header.{flags_judged, parts_of, dump_parts_of, header_of}
 use Rattle.request.specs.Policies.{top_policy, header_policy}
 use Rattle.request.specs.Parts.{top_parts, header_parts}
 use Rattle.request.specs.declared.parts.HeaderParts.{HeaderParts}
 use Rattle.request.specs.declared.parts.TopParts.{TopParts}
-use Rattle.request.specs.Port.{on_found, other_name, port_by_index, port_by_name, port_of}
+use Rattle.request.specs.Port.{port_by_index, port_by_name, port_of}
 use Rattle.refusal.specs.Refusal.{on_stop}
 use Rattle.request.specs.Top.{nests_of, top_of}
 use Rattle.admission.specs.declared.Admission.{Admission}
@@ -45,7 +43,6 @@ use Rattle.admission.specs.declared.commands.CommandRead.TheVariants.{Listed, St
 use Rattle.request.specs.declared.header.Header.{Header}
 use Rattle.request.specs.declared.header.Header.TheVariants as H
 use Rattle.request.specs.declared.port.PortRead.{PortRead}
-use Rattle.request.specs.declared.port.PortRead.TheVariants as P
 use Rattle.request.specs.declared.top.Top.{Top}
 use Rattle.request.specs.declared.top.Top.TheVariants as T
 use Rattle.request.specs.declared.target.TargetRead.{TargetRead}
@@ -57,7 +54,7 @@ use Rattle.execute.specs.declared.Request.{Request}
 use Rattle.execute.specs.Execute.{request_of, get_bytes, port_response, dump_response, reading_outcome, set_outcome, port_outcome, target_outcome, header_outcome, top_outcome, request_outcome}
 use Rattle.handler.specs.Call.{on_admission, message_outcome}
 use Rattle.response.specs.declared.Kind.{Kind}
-use Rattle.response.specs.declared.Kind.TheVariants.{Done, Refused}
+use Rattle.response.specs.declared.Kind.TheVariants.{Done}
 use Rattle.demands.specs.Check.{Check, refuse_if, walk_checks, first_kind}
 use Rattle.demands.specs.Check.Check.{skips}
 use Rattle.demands.specs.Bitset.{bitset_checks}

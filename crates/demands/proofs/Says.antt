@@ -26,7 +26,7 @@ use Rattle.word_bytes.proofs.WordBytes.{word_in}
 use Rattle.entries.specs.Entry.{count}
 use Rattle.names.specs.Search.{lookup}
 use Rattle.netlink_attributes.specs.Attributes.{Attributes, attributes, part_of}
-use Rattle.netlink_attributes.specs.Attributes.Attributes.{done, attribute}
+use Rattle.netlink_attributes.specs.Attributes.Attributes.{done, attribute, broken}
 use Rattle.netlink_attributes.specs.Claims.{Apart}
 use Rattle.netlink_attributes.proofs.Apart.{apart}
 use Rattle.netlink.specs.Walk.{absent, found, last_of_type, walked, slot_number}
@@ -222,6 +222,7 @@ module _ (s names : List ℕ) where
       → (es : List Listed) → bits_reading s names xs ≡ list_entries es → Lists s names before es
   unfolding bits_reading
   lists-say before at lo hi done q here es e = let w : es ≡ [] = cc in rw w (no_more {at = before} (omega (arith, q)))
+  lists-say before at lo hi (broken _) q never es e = elim never [ ]
   lists-say before at lo hi (attribute k b a z rest) q (next right others) es e =
       go (bit_reading (part_of s 0 z) names a) refl (bits_reading s names rest) refl e
       (λ fs h. lists-say z q.5.0 q.5.1 q.5.4 rest q.5.3 others fs h)

@@ -1,7 +1,7 @@
 -- Request C-13: what the answer to a STRSET_GET tells is its first check that does not pass.
 use Prim.Native.Nat.{ℕ, ◌-◌}
 use mathlib.Core.Path.{◌≡◌, refl, sym, ap, ◌∙◌}
-use mathlib.Core.List.{List, [], ◌∷◌, ◌++◌}
+use mathlib.Core.List.{List, [], ◌∷◌}
 use mathlib.Core.Bool.{Bool, true, false, ◌&&◌, ◌||◌, not, cond}
 use lib.ListN.{length, get_or}
 use lib.Dec.{eqb, ltb}
@@ -9,13 +9,9 @@ use Rattle.netlink_attributes.specs.Attributes.{Attributes, attributes, part_of}
 use Rattle.netlink_attributes.specs.Attributes.Attributes.{done, broken, attribute}
 use Rattle.netlink.specs.Walk.{absent, walked, slot_number}
 use Rattle.netlink.specs.declared.walk.Slot.{Slot}
-use Rattle.netlink.specs.declared.walk.Stop.{Stop}
-use Rattle.netlink.specs.declared.walk.Walked.{Walked}
 use Rattle.netlink_headers.specs.declared.headers.MessageHeader.{MessageHeader}
 use Rattle.refusal.specs.Refusal.{on_stop}
-use Rattle.refusal.specs.declared.Refusal.{Refusal}
 use Rattle.refusal.specs.declared.Refusal.TheVariants as R
-use Rattle.layout.specs.declared.Set.{Set}
 use Rattle.layout.specs.declared.Set.TheVariants.{Debug, Flags}
 use Rattle.boxes.specs.Box.{Box}
 use Rattle.request.specs.Policies.{header_policy}
@@ -29,7 +25,6 @@ use Rattle.request.specs.declared.parts.HeaderParts.{HeaderParts}
 use Rattle.request.specs.declared.header.Header.{Header}
 use Rattle.request.specs.declared.header.Header.TheVariants as H
 use Rattle.request.specs.declared.port.PortRead.{PortRead}
-use Rattle.request.specs.declared.target.TargetRead.{TargetRead}
 use Rattle.request.specs.declared.target.TargetRead.TheVariants as T
 use Rattle.roll.specs.declared.find.Found.{Found}
 use Rattle.roll.specs.declared.find.Found.TheVariants as F
@@ -49,11 +44,11 @@ use Rattle.strset_request.specs.declared.list.SetsRead.{SetsRead}
 use Rattle.strset_request.specs.declared.list.SetsRead.TheVariants as L
 use Rattle.strset_request.specs.declared.asked.AskedRead.{AskedRead}
 use Rattle.strset_request.specs.declared.asked.AskedRead.TheVariants as A
-use Rattle.response.specs.Answer.{Response, response_of, error_response}
+use Rattle.response.specs.Answer.{response_of, error_response}
 use Rattle.response.specs.declared.Kind.{Kind}
 use Rattle.response.specs.declared.Kind.TheVariants.{Done, Refused}
 use Rattle.strset.specs.Strset.{strset_content_in, strset_bytes, content_response, asked_response, strset_response}
-use Rattle.demands.specs.Check.{Check, refuse_if, walks, walk_checks, first_kind}
+use Rattle.demands.specs.Check.{refuse_if, walks, walk_checks, first_kind}
 use Rattle.demands.specs.PortChecks.{no_port, named_otherwise, named_port_checks}
 use Rattle.demands.specs.Strset.{not_offered, id_checks, each_set, sets_checks, too_long, strset_port_checks, strset_level_checks, strset_checks}
 use Rattle.demands.proofs.First.{step, walk_step, pass, fault, no_more, first-append}

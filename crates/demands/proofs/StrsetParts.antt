@@ -1,16 +1,16 @@
 -- What is read of a STRSET_GET stands in its parent, apart from its siblings: from the id of a STRINGSET up to the nests of the top level.
 use Prim.Native.Nat.{ℕ, ◌+◌, ◌-◌, ◌≤◌, ◌<◌}
-use mathlib.Core.Path.{◌≡◌, refl, sym, ap, ◌∙◌}
-use mathlib.Core.List.{List, [], ◌∷◌}
+use mathlib.Core.Path.{◌≡◌, refl, sym, ◌∙◌}
+use mathlib.Core.List.{List}
 use mathlib.Core.Bool.{Bool, true, false, not, cond}
 use lib.ListN.{length, get_or}
 use native.Mathlib.Omega.{arith}
 use Rattle.netlink_attributes.specs.Attributes.{Attributes, attributes, part_of}
-use Rattle.netlink_attributes.specs.Attributes.Attributes.{done, attribute}
+use Rattle.netlink_attributes.specs.Attributes.Attributes.{done, attribute, broken}
 use Rattle.netlink_attributes.specs.Claims.{Apart}
 use Rattle.netlink_attributes.proofs.Apart.{apart}
 use Rattle.netlink.specs.Walk.{absent, walked}
-use Rattle.netlink.specs.Claims.{PartsIn, Passed}
+use Rattle.netlink.specs.Claims.{Passed}
 use Rattle.netlink.specs.Claims.Passed.{here, next}
 use Rattle.netlink.proofs.walk.Meaning.{whole-passed, stop_is}
 use Rattle.netlink.proofs.walk.Place.{slot-inside, fault-inside}
@@ -50,6 +50,7 @@ module _ (s : List ℕ) (named : Bool) where
       → StringSetsRead s named before sets (sets_reading s named sets xs)
   unfolding sets_reading set_reading
   sets-read before at lo hi done q here sets = no_set {at = before} (omega (arith, q))
+  sets-read before at lo hi (broken _) q never sets = elim never [ ]
   sets-read before at lo hi (attribute k b a e rest) q (next right others) sets =
       go (walked string_set_policy (part_of s 0 e) a).stop refl (λ set. sets-read e q.5.0 q.5.1 q.5.4 rest q.5.3 others (with_asked sets set))
     where

@@ -1,5 +1,5 @@
 -- Request C-11, "All ports at once": the calls of one dump, place by place, as `ethnl_handle` answers them.
-use Rattle.std.specs.Prelude.{ℕ, zero, suc, ◌≤◌, ◌<◌, ◌≡◌, List, ◌∷◌, ◌++◌, false}
+use Rattle.std.specs.Prelude.{ℕ, zero, suc, ◌≤◌, ◌<◌, ◌≡◌, List, ◌∷◌, ◌++◌}
 use Rattle.basics.specs.Numbers.{byte_at, le16, le32}
 use Rattle.roll.specs.Record.{port_at}
 use Rattle.netlink_headers.specs.Headers.{message_header}

@@ -17,7 +17,6 @@ use Rattle.request.specs.Policies.{top_policy, header_policy}
 use Rattle.request.specs.Parts.{top_parts, header_parts}
 use Rattle.request.specs.declared.parts.TopParts.{TopParts}
 use Rattle.request.specs.declared.parts.HeaderParts.{HeaderParts}
-use Rattle.admission.specs.declared.commands.Command.{Command}
 use Rattle.admission.specs.declared.commands.CommandRead.{CommandRead}
 use Rattle.admission.specs.declared.commands.CommandRead.TheVariants.{Listed, Strset, Unlisted}
 use Rattle.demands.specs.Check.{Check, refuse_if, walk_checks}

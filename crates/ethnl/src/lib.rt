@@ -14,12 +14,7 @@ use boxes::Call;
 use handler::bytes::handle_bytes;
 
 // Writes the normal form of a bitset's contents to the page. Returns document 01's number, 0 if accepted.
-pub fn ethnl_normalise(
-    contents: &[u8],
-    names: &[u8],
-    page: &mut [u8],
-    written: &mut u64,
-) -> u32
+pub fn ethnl_normalise(contents: &[u8], names: &[u8], page: &mut [u8], written: &mut u64) -> u32
     ensures { Normalise (normalised contents.now names.now (length page.old)) page.old page.new written.new result }
 {
     let normal = normal::normalise(contents, names, page);
