@@ -69,5 +69,8 @@ pub extern "C" fn ethnl_handle<'a>(
 )
     ensures { Handle (bytes_outcome (box_of roll.now debug.now flags.now) (stored_of settings.old) (record { family = family; admin = admin; position = position; place = place }) datagram.now (length page.old)) (stored_of settings.old) (stored_of settings.new) page.old page.new kind.new refusal.new next.new next_place.new written.new }
 {
-    ethnl::ethnl_handle(family, admin, roll, debug, flags, settings, datagram, position, place, page, kind, refusal, next, next_place, written);
+    ethnl::ethnl_handle(
+        family, admin, roll, debug, flags, settings, datagram, position, place, page, kind,
+        refusal, next, next_place, written,
+    );
 }

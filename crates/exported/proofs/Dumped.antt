@@ -1,6 +1,6 @@
 -- What C gets back from `ethnl_handle` over all calls of a dump, from its contract alone.
 --     dumped    whatever settings and pages the calls find, if the pages are of one length, the settings keep the rules and the first call is of kind 2, all are as `Dumped` says
-use Prim.Native.Nat.{ℕ, ◌≤◌, ◌<◌}
+use Prim.Native.Nat.{ℕ, ◌<◌}
 use mathlib.Core.Path.{◌≡◌, refl, sym, ap, ◌∙◌}
 use mathlib.Core.List.{List}
 use mathlib.Core.Bool.{true}
@@ -15,7 +15,7 @@ use Rattle.demands.specs.Dump.{at_place, call_one, WholeDump}
 use Rattle.demands.proofs.BoxRules.{stored-exactly}
 use Rattle.demands.proofs.Dump.{whole-dump}
 use Rattle.exported.specs.Returned.{Lent, Left, Leaves, header_in, Wrote}
-use Rattle.exported.specs.Dumped.{lent_at, lent_one, WroteAlike, PortLeft, Dumped}
+use Rattle.exported.specs.Dumped.{lent_at, lent_one, WroteAlike, Dumped}
 use Rattle.exported.proofs.Returned.{is-done, wrote}
 
 module _ (c : Lent) (settings : ℕ → Stored) (pages : ℕ → List ℕ) (left : ℕ → Left) (leaves : (k : ℕ) → Leaves (lent_at c settings pages k) (left k))
