@@ -1,6 +1,6 @@
 -- Demand 2: what a done request has brought about.
 --     effect           a done SET: the named set of the named port is what `effect` makes of it, every other word is as before
---     read-back        a done GET that is no dump: the settings stay, and the reply's bitset, read by our own reader, makes the stored set of every starting set
+--     read_back        a done GET that is no dump: the settings stay, and the reply's bitset, read by our own reader, makes the stored set of every starting set
 --     dump             a done call of a dump: the settings stay, and the reply of the port at the place, or DONE, is written
 --     box-kept         a right box stays right, whatever is asked
 --     small-kept       words of 32 bits stay words of 32 bits

@@ -10,7 +10,7 @@
 --     moves            so it moves on, by at least a header and not past the datagram's end
 --     run_ends         so a run over a datagram ends, wherever it starts
 --     effect           a done SET: the named set of the named port is what `effect` makes of it, every other byte is as before
---     read-back        a done GET: every byte of the settings stays, and the reply's bitset makes the stored set of every starting set
+--     read_back        a done GET: every byte of the settings stays, and the reply's bitset makes the stored set of every starting set
 --     strset-done      a done STRSET_GET: every byte of the settings stays, and the reply, read by a client, tells each asked set once and in order, with every entry
 --     box-kept         a right box stays right, whatever is asked
 --     bytes-kept       settings that are bytes stay bytes
