@@ -35,9 +35,9 @@ strset_permitted h = cond (is_dump h) (Refused R.Dump) Strset
 
 -- 7, or what a listed command comes to
 abbrev pub on_command : CommandRead → Admission → (Command → Admission) → Admission
-on_command C.Unlisted strset rest = Refused R.Command
-on_command C.Strset strset rest = strset
-on_command (C.Listed command) strset rest = rest command
+on_command C.Unlisted names rest = Refused R.Command
+on_command C.Strset names rest = names
+on_command (C.Listed command) names rest = rest command
 
 -- the message m with its header h: "Type below 16 or REQUEST absent: skipped"; 5; 6, a length of 16 to 19; 7 to 9 by the command at 16
 unfoldable pub admitted : List ℕ → MessageHeader → ℕ → Bool → Admission
