@@ -30,10 +30,11 @@ pub fn files(folder: &str) -> Vec<PathBuf> {
     found
 }
 
-/// README.md and every page under docs/, by name.
+/// README.md and every page under docs/, by name; but for PORT.md, which has names and files of before beside those of today.
 pub fn documents() -> Vec<(String, String)> {
     let mut pages = vec!["README.md".to_string()];
-    for path in files("docs").into_iter().filter(|path| path.extension().is_some_and(|found| found == "md")) {
+    let today = |path: &PathBuf| path.extension().is_some_and(|found| found == "md") && !path.ends_with("docs/PORT.md");
+    for path in files("docs").into_iter().filter(today) {
         pages.push(path.strip_prefix(root()).expect("a file of the repository").to_string_lossy().into_owned());
     }
     pages.into_iter().map(|page| (page.clone(), read(&page))).collect()
