@@ -21,10 +21,12 @@ use Rattle.refusal.specs.declared.Refusal.TheVariants as R
 use Rattle.admission.specs.Commands.{command_of}
 use Rattle.admission.specs.Admission.{is_dump, no_dump, not_permitted, permitted, strset_permitted, on_command, admitted}
 use Rattle.admission.specs.declared.commands.Command.{Command}
-use Rattle.admission.specs.declared.commands.CommandRead.{CommandRead}
-use Rattle.admission.specs.declared.commands.CommandRead.TheVariants as C
+use Rattle.std.specs.Prelude.{Option, Some, None, Result, Ok, Err}
+use Rattle.refusal.specs.declared.Refusal.{Refusal}
+use Rattle.admission.specs.declared.commands.Listed.{Listed}
 use Rattle.admission.specs.declared.Admission.{Admission}
-use Rattle.admission.specs.declared.Admission.TheVariants.{Admitted, Strset, Skipped, Refused}
+use Rattle.admission.specs.declared.commands.Listed.TheVariants as C
+use Rattle.admission.specs.declared.Admission.TheVariants.{Admitted, Skipped, Strset}
 
 module _ (command : Command) (admin : Bool) where
   pub permission-change : command.change ≡ true → not admin ≡ not_permitted command admin
@@ -54,29 +56,29 @@ pub ruleset no-dump-laws = (asked-dump, asked-one)
 
 module _ (h : MessageHeader) (command : Command) (admin : Bool) where
   module _ (d : Bool) (ed : d ≡ no_dump h command) where
-    by-dump : permitted h admin command ≡ cond d (Refused R.Dump) (cond (not_permitted command admin) (Refused R.Permission) (Admitted command))
+    by-dump : permitted h admin command ≡ cond d (Err R.Dump) (cond (not_permitted command admin) (Err R.Permission) (Ok (Admitted command)))
     unfolding permitted
     by-dump = rw (← ed)
 
-    pub permit-dump : d ≡ true → Refused R.Dump ≡ permitted h admin command
+    pub permit-dump : d ≡ true → Err R.Dump ≡ permitted h admin command
     permit-dump q = sym (by-dump ∙ cond-true d _ _ q)
 
     module _ (q : d ≡ false) (b : Bool) (eb : b ≡ not_permitted command admin) where
-      past-dump : permitted h admin command ≡ cond b (Refused R.Permission) (Admitted command)
+      past-dump : permitted h admin command ≡ cond b (Err R.Permission) (Ok (Admitted command))
       past-dump = by-dump ∙ cond-false d _ _ q ∙ rw (← eb)
 
-      pub permit-refused : b ≡ true → Refused R.Permission ≡ permitted h admin command
+      pub permit-refused : b ≡ true → Err R.Permission ≡ permitted h admin command
       permit-refused z = sym (past-dump ∙ cond-true b _ _ z)
 
-      pub permit-admitted : b ≡ false → Admitted command ≡ permitted h admin command
+      pub permit-admitted : b ≡ false → Ok (Admitted command) ≡ permitted h admin command
       permit-admitted z = sym (past-dump ∙ cond-false b _ _ z)
 
 module _ (h : MessageHeader) (b : Bool) (eb : b ≡ is_dump h) where
-  pub strset-dump : b ≡ true → Refused R.Dump ≡ strset_permitted h
+  pub strset-dump : b ≡ true → Err R.Dump ≡ strset_permitted h
   unfolding strset_permitted
   strset-dump q = sym (cond-true (is_dump h) _ _ (sym eb ∙ q))
 
-  pub strset-one : b ≡ false → Strset ≡ strset_permitted h
+  pub strset-one : b ≡ false → (Ok Strset) ≡ strset_permitted h
   unfolding strset_permitted
   strset-one q = sym (cond-false (is_dump h) _ _ (sym eb ∙ q))
 
@@ -106,41 +108,42 @@ module _ (m : List ℕ) (g : GenericHeaderRead) (e : g ≡ generic_header_at m 1
         ap (λ (y : GenericHeader). y.command) same
 
 module _ (m : List ℕ) (h : MessageHeader) (family : ℕ) (admin : Bool) where
-  pub admit-low : h.kind < 16 → Skipped ≡ admitted m h family admin
+  pub admit-low : h.kind < 16 → (Ok Skipped) ≡ admitted m h family admin
   unfolding admitted
   admit-low l = sym (rw (lt-ltb _ _ l))
 
   module _ (k : 16 ≤ h.kind) where
-    pub admit-unasked : h.flags % 2 ≡ 0 → Skipped ≡ admitted m h family admin
+    pub admit-unasked : h.flags % 2 ≡ 0 → (Ok Skipped) ≡ admitted m h family admin
     unfolding admitted
     admit-unasked q = sym (rw (le-ltb _ _ k, eq-eqb _ _ q))
 
     module _ (r : h.flags % 2 ≡ 0 → ⊥) where
-      pub admit-other : (h.kind ≡ family → ⊥) → Refused R.Family ≡ admitted m h family admin
+      pub admit-other : (h.kind ≡ family → ⊥) → Err R.Family ≡ admitted m h family admin
       unfolding admitted
       admit-other q = sym (rw (le-ltb _ _ k, ne_eqb _ _ r, ne_eqb _ _ q))
 
       module _ (f : h.kind ≡ family) (g : GenericHeaderRead) (eg : g ≡ generic_header_at m 16) where
-        ours : admitted m h family admin ≡ cond (ltb (length m) 20) (Refused R.Short) (on_command (command_of (byte_at m 16)) (strset_permitted h) (permitted h admin))
+        ours : admitted m h family admin ≡ cond (ltb (length m) 20) (Err R.Short) (on_command (command_of (byte_at m 16)) (strset_permitted h) (permitted h admin))
         unfolding admitted
         ours = rw (le-ltb _ _ k, ne_eqb _ _ r, eq-eqb _ _ f)
 
-        pub admit-short : g ≡ G.Short → Refused R.Short ≡ admitted m h family admin
+        pub admit-short : g ≡ G.Short → Err R.Short ≡ admitted m h family admin
         admit-short q = sym (ours ∙ rw (lt-ltb _ _ (generic-cut m g eg q)))
 
-        module _ (x : GenericHeader) (q : g ≡ G.Header x) (c : CommandRead) (ec : c ≡ command_of x.command) where
+        module _ (x : GenericHeader) (q : g ≡ G.Header x) (c : Option Listed) (ec : c ≡ command_of x.command) where
           whole : admitted m h family admin ≡ on_command c (strset_permitted h) (permitted h admin)
           whole =
               ours ∙ rw (le-ltb _ _ (generic-fits m g eg x q))
-              (ap (λ (y : CommandRead). on_command y (strset_permitted h) (permitted h admin)) (sym (ec ∙ ap command_of (generic-command m g eg x q))))
+              (ap (λ (y : Option Listed). on_command y (strset_permitted h) (permitted h admin)) (sym (ec ∙ ap command_of (generic-command m g eg x q))))
 
-          pub admit-unlisted : c ≡ C.Unlisted → Refused R.Command ≡ admitted m h family admin
+          pub admit-unlisted : c ≡ None → Err R.Command ≡ admitted m h family admin
           admit-unlisted z = sym (rw z at whole)
 
-          pub admit-strset : (a : Admission) → c ≡ C.Strset → a ≡ strset_permitted h → a ≡ admitted m h family admin
-          admit-strset a z ea = ea ∙ sym (rw z at whole)
+          module _ (l : Listed) (z : c ≡ Some l) where
+            pub admit-strset : (a : Result Admission Refusal) → l ≡ C.Strset → a ≡ strset_permitted h → a ≡ admitted m h family admin
+            admit-strset a el ea = ea ∙ sym (rw (z ∙ ap Some el) at whole)
 
-          pub admit-listed : (command : Command) (a : Admission) → c ≡ C.Listed command → a ≡ permitted h admin command → a ≡ admitted m h family admin
-          admit-listed command a z ea = ea ∙ sym (rw z at whole)
+            pub admit-listed : (command : Command) (a : Result Admission Refusal) → l ≡ C.OfSet command → a ≡ permitted h admin command → a ≡ admitted m h family admin
+            admit-listed command a el ea = ea ∙ sym (rw (z ∙ ap Some el) at whole)
 
 pub ruleset admit-laws = (admit-low, admit-unasked, admit-other, admit-short, admit-unlisted, admit-strset, admit-listed)

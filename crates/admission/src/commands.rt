@@ -32,19 +32,19 @@ pub struct Command {
     pub dump: bool,
 }
 
+// A command that is taken up.
 #[derive(Clone, Copy)]
-pub enum CommandRead {
-    Listed(Command),
+pub enum Listed {
+    OfSet(Command),
     // STRSET_GET, which is about no set of a port.
     Strset,
-    Unlisted,
 }
 
 // A row of the table.
 #[derive(Clone, Copy)]
 pub struct Row {
     pub number: u8,
-    pub command: CommandRead,
+    pub command: Listed,
 }
 
 fn command_row(number: u8, change: bool, set: Set, reply: u8, dump: bool) -> Command
@@ -64,7 +64,7 @@ fn listed_row(number: u8, change: bool, set: Set, reply: u8, dump: bool) -> Row
 {
     Row {
         number,
-        command: CommandRead::Listed(command_row(number, change, set, reply, dump)),
+        command: Listed::OfSet(command_row(number, change, set, reply, dump)),
     }
 }
 
@@ -75,7 +75,7 @@ fn commands() -> [Row; COUNT]
     [
         Row {
             number: STRSET_GET,
-            command: CommandRead::Strset,
+            command: Listed::Strset,
         },
         listed_row(DEBUG_GET, false, Set::Debug, DEBUG_GET_REPLY, true),
         listed_row(DEBUG_SET, true, Set::Debug, DEBUG_GET_REPLY, false),
@@ -84,16 +84,16 @@ fn commands() -> [Row; COUNT]
     ]
 }
 
-// The command of a number.
-pub fn read_command(number: u8) -> CommandRead
+// The command of a number, none where no row has it.
+pub fn read_command(number: u8) -> Option<Listed>
     ensures { result ≡ command_of number }
 {
     let rows = commands();
     for i in 0..COUNT {
         let row = rows[i];
         if row.number == number {
-            return row.command;
+            return Some(row.command);
         }
     }
-    CommandRead::Unlisted
+    None
 }

@@ -4,18 +4,18 @@
 ghost use Rattle.std.specs.Prelude.{◌≡◌};
 ghost use Rattle.admission.specs.Admission.{is_dump, no_dump, not_permitted, permitted, strset_permitted, admitted};
 
-use crate::commands::{Command, CommandRead, read_command};
+use crate::commands::{Command, Listed, read_command};
 use netlink_headers::headers::{GenericHeader, GenericHeaderRead, MessageHeader};
 use refusal::Refusal;
 
 pub mod commands;
 
+// What a message that is not refused comes to.
 #[derive(Clone, Copy)]
 pub enum Admission {
     Admitted(Command),
     Strset,
     Skipped,
-    Refused(Refusal),
 }
 
 // Whether a message asks for a dump: both DUMP bits.
@@ -46,49 +46,56 @@ fn not_permitted(command: Command, admin: bool) -> bool
 }
 
 // Judges a listed command by whether it may be dumped, then by its sender.
-fn permit(h: MessageHeader, command: Command, admin: bool) -> Admission
+fn permit(h: MessageHeader, command: Command, admin: bool) -> Result<Admission, Refusal>
     ensures { result ≡ permitted h admin command }
 {
     if no_dump(h, command) {
-        return Admission::Refused(Refusal::Dump);
+        return Err(Refusal::Dump);
     }
     if not_permitted(command, admin) {
-        return Admission::Refused(Refusal::Permission);
+        return Err(Refusal::Permission);
     }
-    Admission::Admitted(command)
+    Ok(Admission::Admitted(command))
 }
 
 // Judges a STRSET_GET, which may not be dumped.
-fn permit_strset(h: MessageHeader) -> Admission
+fn permit_strset(h: MessageHeader) -> Result<Admission, Refusal>
     ensures { result ≡ strset_permitted h }
 {
     if is_dump(h) {
-        return Admission::Refused(Refusal::Dump);
+        return Err(Refusal::Dump);
     }
-    Admission::Strset
+    Ok(Admission::Strset)
 }
 
 // Judges a message, cut at its stated end, and its header h.
-pub fn admit(message: &[u8], h: MessageHeader, family: u32, admin: bool) -> Admission
+pub fn admit(
+    message: &[u8],
+    h: MessageHeader,
+    family: u32,
+    admin: bool,
+) -> Result<Admission, Refusal>
     ensures { result ≡ admitted message.now h family admin }
 {
     if h.kind < 16 {
-        return Admission::Skipped;
+        return Ok(Admission::Skipped);
     }
     if h.flags % 2 == 0 {
-        return Admission::Skipped;
+        return Ok(Admission::Skipped);
     }
     let kind = h.kind as u32;
     if kind != family {
-        return Admission::Refused(Refusal::Family);
+        return Err(Refusal::Family);
     }
     let GenericHeaderRead::Header(generic) = GenericHeader::read(message, MessageHeader::SIZE)
     else {
-        return Admission::Refused(Refusal::Short);
+        return Err(Refusal::Short);
     };
-    match read_command(generic.command) {
-        CommandRead::Unlisted => Admission::Refused(Refusal::Command),
-        CommandRead::Strset => permit_strset(h),
-        CommandRead::Listed(command) => permit(h, command, admin),
+    let Some(listed) = read_command(generic.command) else {
+        return Err(Refusal::Command);
+    };
+    match listed {
+        Listed::Strset => permit_strset(h),
+        Listed::OfSet(command) => permit(h, command, admin),
     }
 }

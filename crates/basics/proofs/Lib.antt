@@ -4,3 +4,4 @@ pub mod Put
 pub mod Scan
 pub mod Truth
 pub mod Those
+pub mod Results

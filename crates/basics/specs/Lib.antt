@@ -1,4 +1,5 @@
 pub mod Numbers
+pub mod Results
 pub mod Nuls
 pub mod Put
 pub mod Scan

@@ -1,5 +1,7 @@
 -- What is told of a name means what the bytes of list and name say.
 --     name-told    number, bit and count are as `Told` says, for every list and every name
+use Rattle.std.specs.Prelude.{Option, Some, None, Ok}
+use Rattle.std.proofs.lemmas.Option.{none-some}
 use Prim.Native.Nat.{ℕ, zero, suc, ◌-◌, ◌≤◌, ◌<◌}
 use mathlib.Core.Path.{◌≡◌, refl, sym, ap, ◌∙◌}
 use mathlib.Core.Bool.{Bool, true, false, not, cond}
@@ -12,7 +14,7 @@ use borrow.Author.Tests.{eq-eqb, ne_eqb, eqb-true, eqb-false, le-leb, leb-true, 
 use Rattle.basics.specs.Those.{CountOf}
 use Rattle.basics.proofs.Order.{lt-or-ge}
 use Rattle.basics.proofs.Those.{count-as}
-use Rattle.basics.proofs.Truth.{clash, both_true, false_of}
+use Rattle.basics.proofs.Truth.{both_true}
 use Rattle.entries.specs.Entry.{count, entry_at, is_empty}
 use Rattle.entries.specs.Length.{name_length, last_byte}
 use Rattle.entries.proofs.Entries.{entry-byte, entry_length, same_bytes, same_of}
@@ -22,8 +24,7 @@ use Rattle.names.specs.Search.{no_name, agrees, compared_in, not_sought, found_a
 use Rattle.names.specs.declared.Lookup.{Lookup}
 use Rattle.names.proofs.Rules.{right-means}
 use Rattle.names.proofs.Search.{lookup-found, lookup-named, lookup-one, compared-each, lookup-hit, lookup-miss, lookup-none}
-use Rattle.bit_name.specs.Find.{bare, told_of, name_found}
-use Rattle.bit_name.specs.declared.Found.{Found}
+use Rattle.bit_name.specs.Find.{Found, bare, searched, bit_told, told_of, name_found}
 use Rattle.bit_name.specs.Told.{Name, Equals, Agrees, Hit, Missed, Told}
 
 -- what a name without its NUL is
@@ -106,11 +107,11 @@ module _ (names name : List ℕ) where
   found = name_found names name
 
   refused-told : names_right names ≡ false → (found.number ≡ 1) × (found.bit ≡ 0) × (found.compared ≡ 0)
-  unfolding name_found
+  unfolding name_found searched
   refused-told wrong = (rw wrong, rw wrong, rw wrong)
 
-  right-told : names_right names ≡ true → found ≡ told_of sought
-  unfolding name_found
+  right-told : names_right names ≡ true → found ≡ told_of (Ok sought)
+  unfolding name_found searched
   right-told right = rw right
 
   zero_right : found.number ≡ 0 → names_right names ≡ true
@@ -125,7 +126,7 @@ module _ (names name : List ℕ) where
   empty-no e = rw e
 
   module _ (z : found.number ≡ 0) where
-    bit_is : found.bit ≡ cond sought.found sought.bit 4294967295
+    bit_is : found.bit ≡ bit_told sought.bit
     bit_is = ap (λ (f : Found). f.bit) (right-told (zero_right z))
 
     count-is : found.compared ≡ sought.compared
@@ -135,31 +136,31 @@ module _ (names name : List ℕ) where
     few = (right-means names (zero_right z)).few
 
     -- a search that found an entry
-    module _ (b : bare name ≡ true) (f : (lookup names name).found ≡ true) where
-      found-bit : found.bit ≡ (lookup names name).bit
+    module _ (b : bare name ≡ true) (i : ℕ) (f : (lookup names name).bit ≡ Some i) where
+      found-bit : found.bit ≡ i
       found-bit = bit_is ∙ rw (b, f)
 
       equals : Equals names name found.bit
       equals =
-          let l = lookup-found names name f in
+          let l = lookup-found names name i f in
           rw found-bit
           (record {
             inside = l.0;
-            bytes = λ j u. sym (entry-byte names (lookup names name).bit l.0 j u) ∙ same_bytes (entry_at names (lookup names name).bit) name j l.1 u;
+            bytes = λ j u. sym (entry-byte names i l.0 j u) ∙ same_bytes (entry_at names i) name j l.1 u;
           })
 
       found-hit : Hit names name found
       found-hit =
-          let n : Name name = bare-name name b (lookup-named names name f).0 in
-          let e : found.compared ≡ compared_in names name (suc found.bit) = count-is ∙ rw (b, found-bit) (lookup-hit names name f) in
+          let n : Name name = bare-name name b (lookup-named names name i f).0 in
+          let e : found.compared ≡ compared_in names name (suc found.bit) = count-is ∙ rw (b, found-bit) (lookup-hit names name i f) in
           record { name-is = n; is = equals; compared = rw e (counted names name n (suc found.bit) equals.inside) }
 
     hit : (found.bit ≡ 4294967295 → ⊥) → Hit names name found
-    hit d = go (bare name) refl (lookup names name).found refl
+    hit d = go (bare name) refl (lookup names name).bit refl
       where
-        go : (b : Bool) → bare name ≡ b → (f : Bool) → (lookup names name).found ≡ f → Hit names name found
-        go true eb true ef = found-hit eb ef
-        go true eb false ef = absurd (d (bit_is ∙ rw (eb, ef)))
+        go : (b : Bool) → bare name ≡ b → (f : Option ℕ) → (lookup names name).bit ≡ f → Hit names name found
+        go true eb (Some i) ef = found-hit eb i ef
+        go true eb None ef = absurd (d (bit_is ∙ rw (eb, ef)))
         go false eb f ef = absurd (d (bit_is ∙ rw eb))
 
     -- an entry that is the name is found
@@ -169,8 +170,12 @@ module _ (names name : List ℕ) where
         (same_of (entry_at names k) name (λ j u. entry-byte names k is.inside j u ∙ is.bytes j u))
 
     -- a search that found none
-    not_found : found.bit ≡ 4294967295 → bare name ≡ true → (lookup names name).found ≡ false
-    not_found e b = false_of (lookup names name).found (λ f. let l = (equals b f).inside in omega (arith, few))
+    not_found : found.bit ≡ 4294967295 → bare name ≡ true → (lookup names name).bit ≡ None
+    not_found e b = go (lookup names name).bit refl
+      where
+        go : (f : Option ℕ) → (lookup names name).bit ≡ f → f ≡ None
+        go None ef = refl
+        go (Some i) ef = absurd (let l = (equals b i ef).inside in omega (arith, few))
 
     nothing : (b : Bool) → bare name ≡ b → (t : Bool) → is_empty name ≡ t → (Name name → ⊥) → sought.compared ≡ 0
     nothing false eb t et d = rw eb
@@ -179,7 +184,7 @@ module _ (names name : List ℕ) where
 
     missed : found.bit ≡ 4294967295 → Missed names name found
     missed e = record {
-      none = λ n k is. clash (ap (λ (l : Lookup). l.found) (equal-found n k is)) (not_found e (name-bare name n));
+      none = λ n k is. none-some k (sym (not_found e (name-bare name n)) ∙ ap (λ (l : Lookup). l.bit) (equal-found n k is));
       compared = λ n. let b = name-bare name n in
           let q : found.compared ≡ compared_in names name (count names) = count-is ∙ rw b (lookup-miss names name (name-can-be name n) (not_found e b)) in
           rw q (counted names name n (count names) (omega arith));
@@ -187,8 +192,7 @@ module _ (names name : List ℕ) where
     }
 
     back : Name name → (k : ℕ) → Equals names name k → found.bit ≡ k
-    back n k is =
-        let l = equal-found n k is in found-bit (name-bare name n) (ap (λ (x : Lookup). x.found) l) ∙ ap (λ (x : Lookup). x.bit) l
+    back n k is = found-bit (name-bare name n) k (ap (λ (x : Lookup). x.bit) (equal-found n k is))
 
   pub name-told : Told names name found
   name-told = record {

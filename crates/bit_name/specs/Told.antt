@@ -3,7 +3,7 @@ use Rattle.std.specs.Prelude.{ℕ, suc, ◌+◌, ◌-◌, ◌*◌, ◌≤◌, �
 use Rattle.basics.specs.Those.{CountOf}
 use Rattle.entries.specs.Entry.{count}
 use Rattle.names.specs.Rule.{names_right}
-use Rattle.bit_name.specs.declared.Found.{Found}
+use Rattle.bit_name.specs.Find.{Found}
 
 -- a name that an entry can have: 1 to 31 bytes, neither the first nor the last of them NUL
 pub record Name (name : List ℕ) : Type 0 where

@@ -1,27 +1,17 @@
 // A bit name looked for by itself: the bit, and how many entries were compared.
 #![tactic(auto)]
 
-ghost use Rattle.std.specs.Prelude.{◌≡◌, ◌≤◌, cond};
+ghost use Rattle.std.specs.Prelude.{◌≡◌, cond};
 ghost use Rattle.names.specs.Search.{not_sought, lookup};
-ghost use Rattle.bit_name.specs.Find.{bare, told_of, refused_list, name_found};
+ghost use Rattle.bit_name.specs.Find.{bare, searched};
 
 use names::{Lookup, find_name, names_right};
 use refusal::Refusal;
 
-// The bit that is told where no entry equals the name.
-pub const NOT_FOUND: u32 = 4294967295;
-
 // The longest name without its NUL.
 const LONGEST: usize = 31;
 
-// What is told of a search: document 01's number, 0 where the list breaks no rule; the bit; the entries compared.
-#[derive(Clone, Copy)]
-pub struct Found {
-    pub number: u32,
-    pub bit: u32,
-    pub compared: usize,
-}
-
+#[tactic(auto, unfolding(crate::specs::Find::bare))]
 fn is_bare(name: &[u8]) -> bool
     ensures { result ≡ bare name.now }
 {
@@ -42,40 +32,18 @@ fn find_bare(names: &[u8], name: &[u8]) -> Lookup
         return find_name(names, name);
     }
     Lookup {
-        found: false,
-        bit: 0,
+        bit: None,
         compared: 0,
     }
 }
 
-fn told(lookup: Lookup) -> Found
-    requires { lookup.bit ≤ 4294967295 }
-    ensures { result ≡ told_of lookup }
-{
-    if lookup.found {
-        return Found {
-            number: 0,
-            bit: lookup.bit as u32,
-            compared: lookup.compared,
-        };
-    }
-    Found {
-        number: 0,
-        bit: NOT_FOUND,
-        compared: lookup.compared,
-    }
-}
-
-// Looks for a name in a list, and tells of it.
-pub fn find(names: &[u8], name: &[u8]) -> Found
-    ensures { result ≡ name_found names.now name.now }
+// Looks for a name in a list; a list that breaks a rule is refused.
+#[tactic(auto, unfolding(crate::specs::Find::searched))]
+pub fn find(names: &[u8], name: &[u8]) -> Result<Lookup, Refusal>
+    ensures { result ≡ searched names.now name.now }
 {
     if !names_right(names) {
-        return Found {
-            number: Refusal::Box.number(),
-            bit: 0,
-            compared: 0,
-        };
+        return Err(Refusal::Box);
     }
-    told(find_bare(names, name))
+    Ok(find_bare(names, name))
 }

@@ -6,11 +6,11 @@ ghost use Rattle.bits.specs.Change.{merge};
 
 use crate::word::{cut_word, merge_word};
 
-// The words of a set of n bits: n / 32 rounded up, with no sum that could wrap.
+// The words of a set of n bits: n / 32 rounded up.
 pub fn words_for(n: usize) -> usize
     ensures { result ≡ words_for n }
 {
-    if n % 32 == 0 { n / 32 } else { n / 32 + 1 }
+    n.div_ceil(32)
 }
 
 // Whether bit i is in the set; a bit past the words is not.
@@ -46,12 +46,10 @@ pub fn put_bit(words: &mut [u32], i: usize, v: bool)
 pub fn none_from(words: &[u32], n: usize) -> bool
     ensures { result ≡ none_from words.now n }
 {
-    let mut j = n / 32;
-    while j < words.len() {
+    for j in n / 32..words.len() {
         if words[j] != cut_word(words[j], n, j) {
             return false;
         }
-        j += 1;
     }
     true
 }
@@ -61,8 +59,8 @@ pub fn merge_words(words: &mut [u32], mask: &[u32], value: &[u32])
     requires { (length mask.now ≡ length words.old) × (length value.now ≡ length words.old) }
     ensures { words.new ≡ words_of (length words.old) (merge (has mask.now) (has value.now) (has words.old)) }
 {
-    for j in 0..words.len() {
-        words[j] = merge_word(mask[j], value[j], words[j]);
+    for (j, word) in words.iter_mut().enumerate() {
+        *word = merge_word(mask[j], value[j], *word);
     }
 }
 

@@ -1,5 +1,5 @@
 -- Document 01, "Bitsets": the contents of a bitset judged. It is walked whole; 18 first; with BITS it is a bit list, else compact.
-use Rattle.std.specs.Prelude.{ℕ, ◌-◌, ◌&&◌, cond, List}
+use Rattle.std.specs.Prelude.{ℕ, ◌-◌, ◌&&◌, cond, Option, Some, None, List}
 use Rattle.entries.specs.Entry.{count}
 use Rattle.netlink.specs.Walk.{walked}
 use Rattle.refusal.specs.declared.Refusal.TheVariants.{Mixed}
@@ -11,20 +11,18 @@ use Rattle.bitset_form.specs.Bitset.Reading.{refused}
 use Rattle.bitset_compact.specs.Compact.{compact_reading}
 use Rattle.refusal.specs.Refusal.{on_walk}
 use Rattle.bitset_list.specs.BitList.{list_reading}
-use Rattle.bitset.specs.declared.judge.Mixing.{Mixing}
-use Rattle.bitset.specs.declared.judge.Mixing.TheVariants.{Unmixed, At}
 
 -- "18, in order: BITS with VALUE; BITS with MASK; NOMASK with MASK"
-unfoldable pub mixed_at : BitsetParts → Mixing
+unfoldable pub mixed_at : BitsetParts → Option ℕ
 mixed_at parts =
-    cond (parts.bits.present && parts.value.present) (At (parts.value.start - 4))
-    (cond (parts.bits.present && parts.mask.present) (At (parts.mask.start - 4))
-    (cond (parts.nomask.present && parts.mask.present) (At (parts.mask.start - 4)) Unmixed))
+    cond (parts.bits.present && parts.value.present) (Some (parts.value.start - 4))
+    (cond (parts.bits.present && parts.mask.present) (Some (parts.mask.start - 4))
+    (cond (parts.nomask.present && parts.mask.present) (Some (parts.mask.start - 4)) None))
 
 -- 18 where the forms are mixed, else what comes after
-abbrev pub on_mixing : Mixing → Reading → Reading
-on_mixing Unmixed rest = rest
-on_mixing (At at) rest = refused (Mixed at)
+abbrev pub on_mixing : Option ℕ → Reading → Reading
+on_mixing None rest = rest
+on_mixing (Some at) rest = refused (Mixed at)
 
 -- the parts of a bitset whose place is `nest`
 unfoldable pub bitset_parts_reading : List ℕ → ℕ → List ℕ → BitsetParts → Reading

@@ -1,157 +1,104 @@
 // One BIT of a bit list: walked whole, then judged.
 #![tactic(auto)]
 
-ghost use Rattle.std.specs.Prelude.{◌≡◌};
+ghost use Rattle.std.specs.Prelude.{◌≡◌, Ok};
 ghost use Rattle.bitset_bit.specs.Bit.{bit_by_index, bit_by_name, combined, identified, bit_parts_reading, bit_walked, bit_reading};
-ghost use Rattle.bitset_bit.specs.declared.IdentityRead.TheVariants.{Read};
 ghost use Rattle.netlink.specs.Policy.{rule_of, judged};
 ghost use Rattle.bitset_form.specs.Policies.{bit_policy};
-ghost use Rattle.entries.specs.Entry.{count};
-ghost use Rattle.name_index.specs.Chain.{LinkedIf};
+ghost use Rattle.name_index.specs.NamesIn.{names_in};
 
 use bitset_form::parts::BitParts;
-use name_index::look_up;
+use name_index::NameIndex;
 use netlink::policy::{Fault, Rule, Verdict, judge_by_rule};
 use netlink::walk::{Slot, absent_slot, found, slot_number};
 use netlink_attributes::{AttributeRead, payload, place, read_attribute};
 use refusal::{Refusal, of_fault};
 
-// The bit that is identified: its number, or nothing where what would identify it is absent.
+// A BIT judged: its number, and whether its VALUE flag stands.
 #[derive(Clone, Copy)]
-pub enum Identity {
-    Number(usize),
-    Absent,
+pub struct Bit {
+    pub number: usize,
+    pub on: bool,
 }
 
-// What an INDEX, a NAME or both identify.
-#[derive(Clone, Copy)]
-pub enum IdentityRead {
-    Read(Identity),
-    Refused(Refusal),
-}
-
-// A BIT judged: the bit, and whether its VALUE flag stands.
-#[derive(Clone, Copy)]
-pub enum BitRead {
-    Bit { number: usize, on: bool },
-    Refused(Refusal),
-}
-
-// What walking a BIT gives: its parts, or the first fault.
-#[derive(Clone, Copy)]
-pub enum BitWalk {
-    Parts(BitParts),
-    Refused(Refusal),
-}
-
-fn bit_by_index(s: &[u8], n: usize, index: Slot) -> IdentityRead
+// The bit that INDEX means, where it stands.
+#[tactic(auto, unfolding(crate::specs::Bit::bit_by_index))]
+fn bit_by_index(s: &[u8], n: usize, index: Slot) -> Result<Option<usize>, Refusal>
     ensures { result ≡ bit_by_index s.now n index }
 {
     if !index.present {
-        return IdentityRead::Read(Identity::Absent);
+        return Ok(None);
     }
     let number = slot_number(s, index) as usize;
     if n <= number {
-        return IdentityRead::Refused(Refusal::PastLength(place(index.start)));
+        return Err(Refusal::PastLength(place(index.start)));
     }
-    IdentityRead::Read(Identity::Number(number))
+    Ok(Some(number))
 }
 
-// The bit that NAME means.
-fn bit_by_name(
-    s: &[u8],
-    names: &[u8],
-    indexed: bool,
-    head: &[u16],
-    links: &[u16],
-    name: Slot,
-) -> IdentityRead
-    requires { LinkedIf indexed names.now head.now links.now }
-    ensures { result ≡ bit_by_name s.now names.now name }
+// The bit that NAME means, where it stands.
+#[tactic(auto, unfolding(crate::specs::Bit::bit_by_name))]
+fn bit_by_name(s: &[u8], names: &NameIndex, name: Slot) -> Result<Option<usize>, Refusal>
+    ensures { result ≡ bit_by_name s.now (names_in names.now) name }
 {
     if !name.present {
-        return IdentityRead::Read(Identity::Absent);
+        return Ok(None);
     }
-    let bytes = payload(s, name.start, name.end);
-    let lookup = look_up(names, indexed, head, links, bytes);
-    if lookup.found {
-        return IdentityRead::Read(Identity::Number(lookup.bit));
+    let lookup = names.look_up(payload(s, name.start, name.end));
+    if lookup.bit.is_none() {
+        return Err(Refusal::UnknownBit(place(name.start)));
     }
-    IdentityRead::Refused(Refusal::UnknownBit(place(name.start)))
+    Ok(lookup.bit)
 }
 
-// What INDEX means beside what NAME comes to: where the BIT at `at` carries both, both must mean the same bit.
-fn combine(at: usize, index: Identity, name: IdentityRead) -> IdentityRead
-    ensures { result ≡ combined at (Read index) name }
+// Where the BIT at `at` carries INDEX and NAME, both must mean the same bit.
+fn combine(at: usize, index: Option<usize>, name: Option<usize>) -> Result<Option<usize>, Refusal>
+    ensures { result ≡ combined at (Ok index) (Ok name) }
 {
-    let Identity::Number(by_index) = index else {
-        return name;
+    let Some(by_index) = index else {
+        return Ok(name);
     };
-    match name {
-        IdentityRead::Refused(unknown) => IdentityRead::Refused(unknown),
-        IdentityRead::Read(identity) => {
-            let Identity::Number(by_name) = identity else {
-                return IdentityRead::Read(Identity::Number(by_index));
-            };
-            if by_index == by_name {
-                return IdentityRead::Read(Identity::Number(by_index));
-            }
-            IdentityRead::Refused(Refusal::TwoBits(at))
-        }
+    let Some(by_name) = name else {
+        return Ok(index);
+    };
+    if by_index == by_name {
+        return Ok(index);
     }
+    Err(Refusal::TwoBits(at))
 }
 
 // INDEX is judged first, then NAME is looked up.
+#[tactic(auto, unfolding(crate::specs::Bit::identified))]
 fn identify(
     s: &[u8],
-    names: &[u8],
-    indexed: bool,
-    head: &[u16],
-    links: &[u16],
+    names: &NameIndex,
     at: usize,
     parts: BitParts,
-) -> IdentityRead
-    requires { LinkedIf indexed names.now head.now links.now }
-    ensures { result ≡ identified s.now names.now at parts }
+) -> Result<Option<usize>, Refusal>
+    ensures { result ≡ identified s.now (names_in names.now) at parts }
 {
-    match bit_by_index(s, names::count(names), parts.index) {
-        IdentityRead::Refused(past) => IdentityRead::Refused(past),
-        IdentityRead::Read(index) => {
-            let name = bit_by_name(s, names, indexed, head, links, parts.name);
-            combine(at, index, name)
-        }
-    }
+    let index = bit_by_index(s, names::count(names.list()), parts.index)?;
+    let name = bit_by_name(s, names, parts.name)?;
+    combine(at, index, name)
 }
 
 // Judges the parts of the BIT that stands at `at`.
-fn judge_bit_parts(
-    s: &[u8],
-    names: &[u8],
-    indexed: bool,
-    head: &[u16],
-    links: &[u16],
-    at: usize,
-    parts: BitParts,
-) -> BitRead
-    requires { LinkedIf indexed names.now head.now links.now }
-    ensures { result ≡ bit_parts_reading s.now names.now at parts }
+#[tactic(auto, unfolding(crate::specs::Bit::bit_parts_reading))]
+fn judge_bit_parts(s: &[u8], names: &NameIndex, at: usize, parts: BitParts) -> Result<Bit, Refusal>
+    ensures { result ≡ bit_parts_reading s.now (names_in names.now) at parts }
 {
-    match identify(s, names, indexed, head, links, at, parts) {
-        IdentityRead::Refused(why) => BitRead::Refused(why),
-        IdentityRead::Read(identity) => {
-            let Identity::Number(number) = identity else {
-                return BitRead::Refused(Refusal::NoBit(at));
-            };
-            let on = parts.on;
-            BitRead::Bit {
-                number,
-                on: on.present,
-            }
-        }
-    }
+    let Some(number) = identify(s, names, at, parts)? else {
+        return Err(Refusal::NoBit(at));
+    };
+    let on = parts.on;
+    Ok(Bit {
+        number,
+        on: on.present,
+    })
 }
 
 // Judges one attribute of a BIT. The rule is written out for each type, so that each is judged by short code of its own.
+#[tactic(auto, unfolding(netlink::specs::Policy::rule_of))]
 fn judge_attribute(kind: u16, bits: u16, payload: &[u8]) -> Verdict
     ensures { result ≡ judged (rule_of bit_policy kind) bits payload.now }
 {
@@ -164,7 +111,8 @@ fn judge_attribute(kind: u16, bits: u16, payload: &[u8]) -> Verdict
 }
 
 // Walks the BIT whose contents are the bytes of s from `from` on, keeping only the slots of its three types.
-fn walk_bit(s: &[u8], from: usize) -> BitWalk
+#[tactic(auto, using(crate::proofs::Laws::bit_laws))]
+fn walk_bit(s: &[u8], from: usize) -> Result<BitParts, Refusal>
     ensures { result ≡ bit_walked s.now from }
 {
     let mut index = absent_slot();
@@ -174,16 +122,16 @@ fn walk_bit(s: &[u8], from: usize) -> BitWalk
     loop {
         match read_attribute(s, at) {
             AttributeRead::End => {
-                return BitWalk::Parts(BitParts { index, name, on });
+                return Ok(BitParts { index, name, on });
             }
             AttributeRead::Broken => {
-                return BitWalk::Refused(of_fault(Fault::Length, at));
+                return Err(of_fault(Fault::Length, at));
             }
             AttributeRead::Attribute(x) => {
                 let kind = x.kind;
                 match judge_attribute(kind, x.bits, payload(s, x.start, x.end)) {
                     Verdict::Wrong(fault) => {
-                        return BitWalk::Refused(of_fault(fault, at));
+                        return Err(of_fault(fault, at));
                     }
                     Verdict::Right => {
                         at = x.next;
@@ -200,21 +148,10 @@ fn walk_bit(s: &[u8], from: usize) -> BitWalk
 }
 
 // Judges that BIT.
-pub fn judge_bit(
-    s: &[u8],
-    names: &[u8],
-    indexed: bool,
-    head: &[u16],
-    links: &[u16],
-    from: usize,
-) -> BitRead
-    requires { LinkedIf indexed names.now head.now links.now }
-    ensures { result ≡ bit_reading s.now names.now from }
+#[tactic(auto, unfolding(crate::specs::Bit::bit_reading))]
+pub fn judge_bit(s: &[u8], names: &NameIndex, from: usize) -> Result<Bit, Refusal>
+    ensures { result ≡ bit_reading s.now (names_in names.now) from }
 {
-    match walk_bit(s, from) {
-        BitWalk::Refused(why) => BitRead::Refused(why),
-        BitWalk::Parts(parts) => {
-            judge_bit_parts(s, names, indexed, head, links, place(from), parts)
-        }
-    }
+    let parts = walk_bit(s, from)?;
+    judge_bit_parts(s, names, place(from), parts)
 }

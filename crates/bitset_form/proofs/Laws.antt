@@ -15,11 +15,7 @@ use Rattle.word_bytes.specs.Bytes.{words_in}
 use Rattle.bits.specs.Change.{merge}
 use Rattle.bits.proofs.Bit.{number-cong, test_zero}
 use Rattle.bits.proofs.Words.{length-words_of, get_or-words_of, has_word}
-use Rattle.refusal.specs.declared.Refusal.{Refusal}
-use Rattle.bitset_form.specs.Form.{cut_at, both, refused_as, listed_in, on_judgement, under_nomask}
-use Rattle.bitset_form.specs.declared.Judgement.{Judgement}
-use Rattle.bitset_form.specs.declared.Judgement.TheVariants.{Accepted, Refused}
-use Rattle.bitset_form.specs.declared.Judged.{Judged}
+use Rattle.bitset_form.specs.Form.{cut_at, both, listed_in}
 
 -- sixteen words of which those before j are the set's
 unfoldable pub filled : (ℕ → Bool) → ℕ → List ℕ
@@ -65,29 +61,11 @@ module _ (p : List ℕ) (j w : ℕ) (e : w ≡ get_or (words_in p) j 0) where
       ∙ ap (λ (t : Bool). t && test w b) (ap (λ (y : ℕ). test y b) q ∙ sym (has_word m j b l))
       ∙ ap (λ (t : Bool). has m (j * 32 + b) && t) (ap (λ (y : ℕ). test y b) e ∙ sym (has_word (words_in p) j b l)))
 
-pub ruleset fill-laws = (fill_start, fill_more, fill_done, cut-word-is, both-word-is)
-
-module _ (n : ℕ) (j : Judged) (t : Judgement) (e : t ≡ j.judgement) where
-  -- the answer for a list that is accepted
-  abbrev accepted : Judged
-  accepted = record { judgement = Accepted; form = record { mask = words_of 16 (all_below n); value = j.form.mask } }
-
-  by-judgement : under_nomask n j ≡ on_judgement t accepted
-  unfolding under_nomask
-  by-judgement = ap (λ (x : Judgement). on_judgement x accepted) (sym e)
-
-  pub nomask-refused : (why : Refusal) (r : Judged) → t ≡ Refused why → r ≡ refused_as why → r ≡ under_nomask n j
-  nomask-refused why r q er = er ∙ sym (by-judgement ∙ ap (λ (x : Judgement). on_judgement x accepted) q)
-
-  pub nomask-accepted : (m l : List ℕ) → t ≡ Accepted → m ≡ words_of 16 (all_below n) → l ≡ j.form.mask
-      → record { judgement = Accepted; form = record { mask = m; value = l } } ≡ under_nomask n j
-  nomask-accepted m l q em el = rw (em, el) (sym (by-judgement ∙ ap (λ (x : Judgement). on_judgement x accepted) q))
-
-pub ruleset nomask-laws = (nomask-refused, nomask-accepted)
+pub ruleset fill_laws = (fill_start, fill_more, fill_done, cut-word-is, both-word-is)
 
 -- one more listed bit: both arrays have sixteen words
 module _ (mask value : List ℕ) (i : ℕ) (on : Bool) (long-mask : length mask ≡ 16) (long-value : length value ≡ 16) where
-  pub list-bit-is : (m v : List ℕ) → m ≡ words_of (length mask) (put_bit i true (has mask)) → v ≡ words_of (length value) (put_bit i on (has value))
+  pub list_bit_is : (m v : List ℕ) → m ≡ words_of (length mask) (put_bit i true (has mask)) → v ≡ words_of (length value) (put_bit i on (has value))
       → record { mask = m; value = v } ≡ listed_in (record { mask = mask; value = value }) i on
   unfolding listed_in
-  list-bit-is m v em ev = rw (em, ev, long-mask, long-value)
+  list_bit_is m v em ev = rw (em, ev, long-mask, long-value)

@@ -1,4 +1,5 @@
 -- Laws of judging a bit list: one for each return, and for each turn of the loop over its BITs.
+use Rattle.std.specs.Prelude.{Result, Ok, Err}
 use Prim.Native.Nat.{ℕ, ◌-◌, ◌<◌}
 use mathlib.Core.Path.{◌≡◌, refl, sym, ap, ◌∙◌, fun_ext}
 use mathlib.Core.List.{List, [], ◌∷◌}
@@ -28,7 +29,7 @@ use Rattle.refusal.specs.declared.Refusal.{Refusal}
 use Rattle.bitset_form.specs.Policies.{bits_policy}
 use Rattle.bitset_form.specs.declared.parts.BitsetParts.{BitsetParts}
 use Rattle.bitset_form.specs.Bitset.{mask_of, value_of}
-use Rattle.bitset_form.specs.Form.{refused_as, judged_as, listed_in, under_nomask}
+use Rattle.bitset_form.specs.Form.{judged_as, listed_in, under_nomask}
 use Rattle.bitset_form.specs.Bitset.Reading.{refused}
 use Rattle.bitset_bit.specs.Bit.{bit_reading}
 use Rattle.refusal.specs.Refusal.{on_stop}
@@ -36,19 +37,16 @@ use Rattle.bitset_list.specs.BitList.{ListReading, on_bit, bits_reading, as_bits
 use Rattle.bitset_list.specs.BitList.ListReading.{list_refused, list_entries}
 use Rattle.bitset_list.specs.Judged.{list_judged}
 use Rattle.bitset_form.specs.declared.Form.{Form}
-use Rattle.bitset_form.specs.declared.Judgement.TheVariants.{Accepted}
-use Rattle.bitset_form.specs.declared.Judged.{Judged}
-use Rattle.bitset_bit.specs.declared.BitRead.{BitRead}
-use Rattle.bitset_bit.specs.declared.BitRead.TheVariants as B
+use Rattle.bitset_bit.specs.declared.Bit.{Bit}
 
 -- The loop over the BITs: the form of what is listed so far, and what is left.
 unfoldable pub form_after : Form → List Listed → Form
 form_after f [] = f
 form_after f (e ∷ es) = form_after (listed_in f e.bit e.on) es
 
-unfoldable pub judged_after : Form → ListReading → Judged
-judged_after f (list_refused r) = refused_as r
-judged_after f (list_entries es) = record { judgement = Accepted; form = form_after f es }
+unfoldable pub judged_after : Form → ListReading → Result Form Refusal
+judged_after f (list_refused r) = Err r
+judged_after f (list_entries es) = Ok (form_after f es)
 
 abbrev pub empty : Form
 empty = record { mask = replicate 16 0; value = replicate 16 0 }
@@ -117,19 +115,19 @@ bits-start s names from = go (bits_reading s names (attributes s from))
   where
     go : (x : ListReading) → list_judged x ≡ judged_after empty x
     go (list_refused r) = refl
-    go (list_entries es) = ap (λ (f : Form). record { judgement = Accepted; form = f }) (sym (after-all es))
+    go (list_entries es) = ap (λ (f : Form). Ok f) (sym (after-all es))
 
 module _ (s names : List ℕ) (from : ℕ) (f : Form) (at : ℕ) (inv : BitsFrom s names from f at) (r : AttributeRead) (e : r ≡ attribute_at s at) where
   step : list_judged (bits_reading s names (attributes s from)) ≡ judged_after f (bits_reading s names (on_read r at (attributes s)))
   step = inv ∙ ap (λ (x : Attributes). judged_after f (bits_reading s names x)) (attributes-step s at ∙ ap (λ (x : AttributeRead). on_read x at (attributes s)) (sym e))
 
-  pub bits-end : (y : Judged) → r ≡ A.End → y ≡ record { judgement = Accepted; form = f } → y ≡ list_judged (bits_reading s names (attributes s from))
+  pub bits-end : r ≡ A.End → Ok f ≡ list_judged (bits_reading s names (attributes s from))
   unfolding bits_reading judged_after form_after
-  bits-end y q ey = ey ∙ sym (rw q at step)
+  bits-end q = sym (rw q at step)
 
-  pub bits-broken : (y : Judged) → r ≡ A.Broken → y ≡ record { judgement = Accepted; form = f } → y ≡ list_judged (bits_reading s names (attributes s from))
+  pub bits-broken : r ≡ A.Broken → Ok f ≡ list_judged (bits_reading s names (attributes s from))
   unfolding bits_reading judged_after form_after
-  bits-broken y q ey = ey ∙ sym (rw q at step)
+  bits-broken q = sym (rw q at step)
 
   module _ (x : Attribute) (q : r ≡ A.Attribute x) where
     inside : Bounded s at (A.Attribute x)
@@ -138,28 +136,27 @@ module _ (s names : List ℕ) (from : ℕ) (f : Form) (at : ℕ) (inv : BitsFrom
     pub bits-less : length s - x.next < length s - at
     bits-less = let i = inside in omega arith
 
-    module _ (p : List ℕ) (ep : p ≡ part_of s 0 x.end) (v : BitRead) (ev : v ≡ bit_reading p names x.start) where
+    module _ (p : List ℕ) (ep : p ≡ part_of s 0 x.end) (v : Result Bit Refusal) (ev : v ≡ bit_reading p names x.start) where
       one : list_judged (bits_reading s names (attributes s from)) ≡ judged_after f (on_bit v (bits_reading s names (attributes s x.next)))
       unfolding bits_reading
       one =
           rw q at step
-          ∙ ap (λ (y : BitRead). judged_after f (on_bit y (bits_reading s names (attributes s x.next)))) (sym (ev ∙ ap (λ (y : List ℕ). bit_reading y names x.start) ep))
+          ∙ ap (λ (y : Result Bit Refusal). judged_after f (on_bit y (bits_reading s names (attributes s x.next)))) (sym (ev ∙ ap (λ (y : List ℕ). bit_reading y names x.start) ep))
 
-      pub bits-refused : (why : Refusal) (y : Judged) → v ≡ B.Refused why → y ≡ refused_as why
-          → y ≡ list_judged (bits_reading s names (attributes s from))
+      pub bits-refused : (why : Refusal) → v ≡ Err why → Err why ≡ list_judged (bits_reading s names (attributes s from))
       unfolding judged_after
-      bits-refused why y h ey = ey ∙ sym (rw h at one)
+      bits-refused why h = sym (rw h at one)
 
-      pub bits-more : (i : ℕ) (on : Bool) (m y : List ℕ) → v ≡ B.Bit i on → record { mask = m; value = y } ≡ listed_in f i on
+      pub bits-more : (b : Bit) (m y : List ℕ) → v ≡ Ok b → record { mask = m; value = y } ≡ listed_in f b.number b.on
           → BitsFrom s names from (record { mask = m; value = y }) x.next
       unfolding judged_after form_after
-      bits-more i on m y h eg = rw eg (rw h at one ∙ go (bits_reading s names (attributes s x.next)))
+      bits-more b m y h eg = rw eg (rw h at one ∙ go (bits_reading s names (attributes s x.next)))
         where
-          go : (l : ListReading) → judged_after f (on_bit (B.Bit i on) l) ≡ judged_after (listed_in f i on) l
+          go : (l : ListReading) → judged_after f (on_bit (Ok b) l) ≡ judged_after (listed_in f b.number b.on) l
           go (list_refused r) = refl
           go (list_entries es) = refl
 
-pub ruleset bits-laws = (bits-start, bits-end, bits-broken, bits-less, bits-refused, bits-more)
+pub ruleset bits_laws = (bits-start, bits-end, bits-broken, bits-less, bits-refused, bits-more)
 
 -- the whole list
 module _ (s names : List ℕ) (parts : BitsetParts) (c : List ℕ) (ec : c ≡ part_of s 0 parts.bits.end)
@@ -175,17 +172,17 @@ module _ (s names : List ℕ) (parts : BitsetParts) (c : List ℕ) (ec : c ≡ p
       ∙ ap (λ (x : Walked). on_stop x.stop refused (as_bitset parts.nomask.present (bits_read c)))
       (sym (ew ∙ ap (λ (x : List Rule). walked x c parts.bits.start) ep))
 
-  pub list-fault : (f : Fault) (at : ℕ) (y : Refusal) (r : Judged) → w.stop ≡ S.At f at → y ≡ of_fault f at → r ≡ refused_as y
+  pub list-fault : (f : Fault) (at : ℕ) (y : Refusal) (r : Result Form Refusal) → w.stop ≡ S.At f at → y ≡ of_fault f at → r ≡ Err y
       → r ≡ judged_as (count names) (list_reading s names parts)
   unfolding judged_as
   list-fault f at y r q ey er =
-      er ∙ ap refused_as ey ∙ sym (ap (judged_as (count names)) (by_bits ∙ ap (λ (x : Stop). on_stop x refused (as_bitset parts.nomask.present (bits_read c))) q))
+      er ∙ ap Err ey ∙ sym (ap (judged_as (count names)) (by_bits ∙ ap (λ (x : Stop). on_stop x refused (as_bitset parts.nomask.present (bits_read c))) q))
 
-  module _ (q : w.stop ≡ S.Whole) (j : Judged) (ej : j ≡ list_judged (bits_read c)) where
+  module _ (q : w.stop ≡ S.Whole) (j : Result Form Refusal) (ej : j ≡ list_judged (bits_read c)) where
     whole-list : list_reading s names parts ≡ as_bitset parts.nomask.present (bits_read c)
     whole-list = by_bits ∙ ap (λ (x : Stop). on_stop x refused (as_bitset parts.nomask.present (bits_read c))) q
 
-    pub list-nomask : (n : ℕ) (r : Judged) → n ≡ count names → parts.nomask.present ≡ true → r ≡ under_nomask n j
+    pub list-nomask : (n : ℕ) (r : Result Form Refusal) → n ≡ count names → parts.nomask.present ≡ true → r ≡ under_nomask n j
         → r ≡ judged_as (count names) (list_reading s names parts)
     unfolding under_nomask judged_as list_judged mask_of value_of
     list-nomask n r en h er =

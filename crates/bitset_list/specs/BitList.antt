@@ -1,5 +1,5 @@
 -- Document 01, "Bitsets": a bit list. BITS is walked whole; then each BIT in order is walked whole and judged.
-use Rattle.std.specs.Prelude.{ℕ, Bool, true, false, List, [], ◌∷◌}
+use Rattle.std.specs.Prelude.{ℕ, Bool, true, false, List, [], ◌∷◌, Result, Ok, Err}
 use Rattle.bits.specs.Change.{Listed}
 use Rattle.netlink_attributes.specs.Attributes.{Attributes, attributes, part_of}
 use Rattle.netlink_attributes.specs.Attributes.Attributes.{done, broken, attribute}
@@ -12,8 +12,7 @@ use Rattle.bitset_form.specs.Bitset.{Reading}
 use Rattle.bitset_form.specs.Bitset.Bitset.{masked_list, nomask_list}
 use Rattle.bitset_form.specs.Bitset.Reading.{refused, accepted}
 use Rattle.bitset_bit.specs.Bit.{bit_reading}
-use Rattle.bitset_bit.specs.declared.BitRead.{BitRead}
-use Rattle.bitset_bit.specs.declared.BitRead.TheVariants as B
+use Rattle.bitset_bit.specs.declared.Bit.{Bit}
 
 -- what the BITs say, in order
 pub data ListReading : Type 0 where
@@ -21,10 +20,10 @@ pub data ListReading : Type 0 where
   list_entries : List Listed → ListReading
 
 -- one BIT and those after it
-abbrev pub on_bit : BitRead → ListReading → ListReading
-on_bit (B.Refused r) rest = list_refused r
-on_bit (B.Bit number on) (list_entries es) = list_entries (record { bit = number; on = on } ∷ es)
-on_bit (B.Bit number on) (list_refused r) = list_refused r
+abbrev pub on_bit : Result Bit Refusal → ListReading → ListReading
+on_bit (Err r) rest = list_refused r
+on_bit (Ok b) (list_entries es) = list_entries (record { bit = b.number; on = b.on } ∷ es)
+on_bit (Ok b) (list_refused r) = list_refused r
 
 -- each BIT in turn; BITS is walked whole before, so none is broken
 unfoldable pub bits_reading : List ℕ → List ℕ → Attributes → ListReading

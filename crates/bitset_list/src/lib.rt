@@ -6,81 +6,50 @@ ghost use Rattle.netlink_attributes.specs.Attributes.{attributes};
 ghost use Rattle.bitset_form.specs.Form.{judged_as};
 ghost use Rattle.bitset_list.specs.BitList.{bits_reading, list_reading};
 ghost use Rattle.bitset_list.specs.Judged.{list_judged};
-ghost use Rattle.bitset_form.specs.declared.Judgement.TheVariants.{Accepted};
 ghost use Rattle.entries.specs.Entry.{count};
-ghost use Rattle.name_index.specs.Chain.{LinkedIf};
+ghost use Rattle.name_index.specs.NamesIn.{names_in};
 
-use bitset_bit::{BitRead, judge_bit};
+use bitset_bit::judge_bit;
 use bitset_form::parts::BitsetParts;
 use bitset_form::policies::bits_policy;
-use bitset_form::{Form, Judged, Judgement, list_bit, refused, under_nomask};
+use bitset_form::{Form, list_bit, under_nomask};
+use name_index::NameIndex;
 use netlink::walk::{Stop, walk};
 use netlink_attributes::{AttributeRead, payload, read_attribute};
-use refusal::of_fault;
-
-fn accepted(form: Form) -> Judged
-    ensures { result ≡ record { judgement = Accepted; form = form } }
-{
-    Judged {
-        judgement: Judgement::Accepted,
-        form,
-    }
-}
+use refusal::{Refusal, of_fault};
 
 // Judges each BIT in turn, and lists its bit. No setting moves before all are judged.
-fn judge_bits(
-    s: &[u8],
-    names: &[u8],
-    indexed: bool,
-    head: &[u16],
-    links: &[u16],
-    from: usize,
-) -> Judged
-    requires { LinkedIf indexed names.now head.now links.now }
-    ensures { result ≡ list_judged (bits_reading s.now names.now (attributes s.now from)) }
+#[tactic(auto, using(crate::proofs::Laws::bits_laws))]
+fn judge_bits(s: &[u8], names: &NameIndex, from: usize) -> Result<Form, Refusal>
+    ensures { result ≡ list_judged (bits_reading s.now (names_in names.now) (attributes s.now from)) }
 {
     let mut mask = [0u32; 16];
     let mut value = [0u32; 16];
     let mut at = from;
-    loop {
-        match read_attribute(s, at) {
-            AttributeRead::End => {
-                return accepted(Form { mask, value });
-            }
-            AttributeRead::Broken => {
-                return accepted(Form { mask, value });
-            }
-            AttributeRead::Attribute(x) => {
-                match judge_bit(payload(s, 0, x.end), names, indexed, head, links, x.start) {
-                    BitRead::Refused(why) => {
-                        return refused(why);
-                    }
-                    BitRead::Bit { number, on } => {
-                        list_bit(&mut mask, &mut value, number, on);
-                        at = x.next;
-                    }
-                }
-            }
-        }
+    while let AttributeRead::Attribute(x) = read_attribute(s, at) {
+        let bit = judge_bit(payload(s, 0, x.end), names, x.start)?;
+        list_bit(&mut mask, &mut value, bit.number, bit.on);
+        at = x.next;
     }
+    Ok(Form { mask, value })
 }
 
 // Judges each BIT in turn, where tables lead to the names.
-fn judge_many(s: &[u8], names: &[u8], from: usize) -> Judged
+fn judge_many(s: &[u8], names: &[u8], from: usize) -> Result<Form, Refusal>
     ensures { result ≡ list_judged (bits_reading s.now names.now (attributes s.now from)) }
 {
     let mut head = [0u16; 8192];
     let mut links = [0u16; 512];
     let indexed = name_index::index(names, &mut head, &mut links);
-    judge_bits(s, names, indexed, &head, &links, from)
+    let names_in = NameIndex::with_tables(names, indexed, &head, &links);
+    judge_bits(s, &names_in, from)
 }
 
 // Judges each BIT in turn, where there are few: tables would cost more than they spare.
-fn judge_few(s: &[u8], names: &[u8], from: usize) -> Judged
+fn judge_few(s: &[u8], names: &[u8], from: usize) -> Result<Form, Refusal>
     ensures { result ≡ list_judged (bits_reading s.now names.now (attributes s.now from)) }
 {
-    let none = [0u16; 1];
-    judge_bits(s, names, false, &none, &none, from)
+    judge_bits(s, &NameIndex::bare(names), from)
 }
 
 // So many bytes of BITs, from where on tables are made (docs/PERFORMANCE.md, "The search for a name").
@@ -89,14 +58,11 @@ const MANY: usize = 320;
 fn is_short(s: &[u8], from: usize) -> bool
     ensures { result ≡ ltb (length s.now - from) 320 }
 {
-    if s.len() <= from {
-        return true;
-    }
-    s.len() - from < MANY
+    s.len().saturating_sub(from) < MANY
 }
 
 // Judges each BIT in turn, with or without tables.
-fn judge_each(s: &[u8], names: &[u8], from: usize) -> Judged
+fn judge_each(s: &[u8], names: &[u8], from: usize) -> Result<Form, Refusal>
     ensures { result ≡ list_judged (bits_reading s.now names.now (attributes s.now from)) }
 {
     if is_short(s, from) {
@@ -106,7 +72,7 @@ fn judge_each(s: &[u8], names: &[u8], from: usize) -> Judged
 }
 
 // BITS is walked whole before the first BIT is opened.
-pub fn judge_list(s: &[u8], names: &[u8], parts: BitsetParts) -> Judged
+pub fn judge_list(s: &[u8], names: &[u8], parts: BitsetParts) -> Result<Form, Refusal>
     ensures { result ≡ judged_as (count names.now) (list_reading s.now names.now parts) }
 {
     let bits = parts.bits;
@@ -114,7 +80,7 @@ pub fn judge_list(s: &[u8], names: &[u8], parts: BitsetParts) -> Judged
     let walked = walk(bits_policy(), contents, bits.start);
     let stop = walked.stop;
     if let Stop::At { fault, at } = stop {
-        return refused(of_fault(fault, at));
+        return Err(of_fault(fault, at));
     }
     let judged = judge_each(contents, names, bits.start);
     let nomask = parts.nomask;

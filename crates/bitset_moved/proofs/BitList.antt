@@ -1,4 +1,5 @@
 -- A bit list behind other bytes.
+use Rattle.std.specs.Prelude.{Result, Ok, Err}
 use Prim.Native.Nat.{ℕ, ◌+◌}
 use mathlib.Core.Path.{◌≡◌, refl}
 use mathlib.Core.List.{List, ◌++◌}
@@ -18,8 +19,8 @@ use Rattle.bitset_form.specs.declared.parts.BitsetParts.{BitsetParts}
 use Rattle.bitset_form.specs.Bitset.{Reading}
 use Rattle.bitset_form.specs.Bitset.Reading.{refused}
 use Rattle.bitset_bit.specs.Bit.{bit_reading}
-use Rattle.bitset_bit.specs.declared.BitRead.{BitRead}
-use Rattle.bitset_bit.specs.declared.BitRead.TheVariants as B
+use Rattle.refusal.specs.declared.Refusal.{Refusal}
+use Rattle.bitset_bit.specs.declared.Bit.{Bit}
 use Rattle.bitset_list.specs.BitList.{ListReading, on_bit, bits_reading, as_bitset, list_reading}
 use Rattle.bitset_list.specs.BitList.ListReading.{list_refused, list_entries}
 use Rattle.bitset_moved.specs.Moved.{moved, moved_reading}
@@ -34,10 +35,10 @@ moved_list by (list_refused why) = list_refused (moved by why)
 moved_list by (list_entries es) = list_entries es
 
 -- one BIT and those after it; a list, under NOMASK or not
-on-bit : (by : ℕ) (x : BitRead) (y : ListReading) → on_bit (moved_bit by x) (moved_list by y) ≡ moved_list by (on_bit x y)
-on-bit by (B.Refused why) y = refl
-on-bit by (B.Bit number on) (list_refused why) = refl
-on-bit by (B.Bit number on) (list_entries es) = refl
+on-bit : (by : ℕ) (x : Result Bit Refusal) (y : ListReading) → on_bit (moved_bit by x) (moved_list by y) ≡ moved_list by (on_bit x y)
+on-bit by (Err why) y = refl
+on-bit by (Ok bit) (list_refused why) = refl
+on-bit by (Ok bit) (list_entries es) = refl
 
 as-bitset : (by : ℕ) (nomask : Bool) (x : ListReading) → as_bitset nomask (moved_list by x) ≡ moved_reading by (as_bitset nomask x)
 as-bitset by true (list_refused why) = refl

@@ -1,5 +1,6 @@
 -- A bitset behind other bytes reads as the bitset alone, with every place moved.
 --     reading-moved     for every prefix, contents and name list
+use Rattle.std.specs.Prelude.{Option, Some, None}
 use Prim.Native.Nat.{ℕ, ◌+◌, ◌-◌}
 use mathlib.Core.Path.{◌≡◌, refl, sym, ap, ◌∙◌}
 use mathlib.Core.List.{List, ◌++◌}
@@ -18,32 +19,30 @@ use Rattle.bitset_compact.specs.Compact.{compact_reading}
 use Rattle.bitset_list.specs.BitList.{list_reading}
 use Rattle.bitset.specs.Judge.{mixed_at, on_mixing, bitset_parts_reading, bitset_reading}
 use Rattle.bitset.proofs.judge.Laws.{mixed_by, mixed-is}
-use Rattle.bitset.specs.declared.judge.Mixing.{Mixing}
-use Rattle.bitset.specs.declared.judge.Mixing.TheVariants.{Unmixed, At}
 use Rattle.bitset_moved.specs.Moved.{moved_reading}
 use Rattle.bitset_moved.proofs.Walk.{there, stop-moved, on-stop}
 use Rattle.bitset_moved.proofs.Parts.{ShiftBitset, place-moved, bitset-parts}
 use Rattle.bitset_moved.proofs.Compact.{compact-moved}
 use Rattle.bitset_moved.proofs.BitList.{list-moved}
 
-abbrev moved_mixing : ℕ → Mixing → Mixing
-moved_mixing by Unmixed = Unmixed
-moved_mixing by (At at) = At (by + at)
+abbrev moved_mixing : ℕ → Option ℕ → Option ℕ
+moved_mixing by None = None
+moved_mixing by (Some at) = Some (by + at)
 
-on-mixing : (by : ℕ) (x : Mixing) (rest rest' : Reading) → rest' ≡ moved_reading by rest
+on-mixing : (by : ℕ) (x : Option ℕ) (rest rest' : Reading) → rest' ≡ moved_reading by rest
     → on_mixing (moved_mixing by x) rest' ≡ moved_reading by (on_mixing x rest)
-on-mixing by Unmixed rest rest' e = e
-on-mixing by (At at) rest rest' e = refl
+on-mixing by None rest rest' e = e
+on-mixing by (Some at) rest rest' e = refl
 
 -- 18, by which attributes stand
 mixed-flags : (by : ℕ) (nomask bits value mask : Bool) (a e : ℕ) {a' e' : ℕ} → (value ≡ true → a' ≡ by + a) → (mask ≡ true → e' ≡ by + e)
     → mixed_by nomask bits value mask a' e' ≡ moved_mixing by (mixed_by nomask bits value mask a e)
 unfolding mixed_by
-mixed-flags by nomask true true mask a e f g = ap At (f refl)
-mixed-flags by nomask true false true a e f g = ap At (g refl)
+mixed-flags by nomask true true mask a e f g = ap Some (f refl)
+mixed-flags by nomask true false true a e f g = ap Some (g refl)
 mixed-flags by true true false false a e f g = refl
 mixed-flags by false true false false a e f g = refl
-mixed-flags by true false value true a e f g = ap At (g refl)
+mixed-flags by true false value true a e f g = ap Some (g refl)
 mixed-flags by false false value true a e f g = refl
 mixed-flags by true false value false a e f g = refl
 mixed-flags by false false value false a e f g = refl

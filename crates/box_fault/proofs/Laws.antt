@@ -6,6 +6,7 @@ use mathlib.Core.Bool.{Bool, true, false, not}
 use lib.ListN.{length}
 use borrow.Author.Tests.{le-leb, lt-leb, not-true, not-false}
 use Rattle.entries.specs.Entry.{count}
+use Rattle.std.specs.Prelude.{Option}
 use Rattle.names.specs.Rule.{names_right}
 use Rattle.names.proofs.Rules as N
 use Rattle.roll.specs.Table.{TableRead}
@@ -32,11 +33,11 @@ sizes-few debug flags d f sizes ed qd ef qf es =
       flags = (N.right-means flags (sym ef ∙ not-false f qf)).few;
     })
 
-module _ (family admin : ℕ) (roll debug flags settings : List ℕ) (r : Fault) where
+module _ (family admin : ℕ) (roll debug flags settings : List ℕ) (r : Option Fault) where
   abbrev box : Box
   box = box_of roll debug flags
 
-  abbrev told : Fault
+  abbrev told : Option Fault
   told = box_fault family admin box settings
 
   pub family-low : family < 16 → r ≡ fault_at Family 0 → r ≡ told

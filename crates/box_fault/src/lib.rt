@@ -16,10 +16,9 @@ use names::names_right;
 use roll::table::{PORTS, read_ports};
 use roll_rule::roll_right;
 
-// The part that breaks a rule; none where the box is sound.
+// A part of a box.
 #[derive(Clone, Copy)]
 pub enum Part {
-    Sound,
     Family,
     Admin,
     Roll,
@@ -29,12 +28,11 @@ pub enum Part {
 }
 
 impl Part {
-    // Its number, in the order in which the parts are judged.
+    // Its number, in the order in which the parts are judged. A name says which number this is, where a `From` would not.
     pub fn number(self) -> u32
         ensures { result ≡ part_number self }
     {
         match self {
-            Part::Sound => 0,
             Part::Family => 1,
             Part::Admin => 2,
             Part::Roll => 3,
@@ -45,7 +43,7 @@ impl Part {
     }
 }
 
-// A part, and the offset in it.
+// The part that breaks a rule first, and the offset in it.
 #[derive(Clone, Copy)]
 pub struct Fault {
     pub part: Part,
@@ -53,13 +51,13 @@ pub struct Fault {
 }
 
 // A fault at an offset of a part.
-fn fault_at(part: Part, offset: usize) -> Fault
+fn fault_at(part: Part, offset: usize) -> Option<Fault>
     ensures { result ≡ fault_at part offset }
 {
-    Fault { part, offset }
+    Some(Fault { part, offset })
 }
 
-// Which part of a box breaks a rule first, and where. What is longer than a check of the box is done only for the part at fault.
+// Which part of a box breaks a rule first, and where; none where the box is sound. What is longer than a check of the box is done only for the part at fault.
 pub fn box_fault(
     family: u32,
     admin: u32,
@@ -67,7 +65,7 @@ pub fn box_fault(
     debug: &[u8],
     flags: &[u8],
     settings: &[u8],
-) -> Fault
+) -> Option<Fault>
     ensures { result ≡ box_fault family admin (box_of roll.now debug.now flags.now) settings.now }
 {
     if family < 16 {

@@ -39,43 +39,40 @@ fn right_words(words: &mut [u32], ports: usize, sizes: Sizes) -> usize
 }
 
 // The fault of settings of the right length, with room for their words.
-fn words_fault(settings: &[u8], words: &mut [u32], ports: usize, sizes: Sizes) -> Fault
+fn words_fault(settings: &[u8], words: &mut [u32], ports: usize, sizes: Sizes) -> Option<Fault>
     requires ports_bound { (ports ≤ 64) × AtMost 512 sizes }
     requires settings_len { (length settings.now ≡ right_length ports sizes) × (length words.old ≡ words_of ports (widths_of sizes)) }
     ensures { result ≡ settings_fault settings.now ports sizes }
 {
     read_words(settings, words);
     if settings_right(words, ports, sizes) {
-        return Fault {
-            part: Part::Sound,
-            offset: 0,
-        };
+        return None;
     }
     let offset = right_words(words, ports, sizes) * 4;
-    Fault {
+    Some(Fault {
         part: Part::Settings,
         offset,
-    }
+    })
 }
 
 // The fault of settings, none where they keep their rule.
-pub fn settings_fault(settings: &[u8], ports: usize, sizes: Sizes) -> Fault
+pub fn settings_fault(settings: &[u8], ports: usize, sizes: Sizes) -> Option<Fault>
     requires { (ports ≤ 64) × AtMost 512 sizes }
     ensures { result ≡ settings_fault settings.now ports sizes }
 {
     let n = words_of(ports, sizes);
     let right = n * 4;
     if settings.len() < right {
-        return Fault {
+        return Some(Fault {
             part: Part::Settings,
             offset: settings.len(),
-        };
+        });
     }
     if right < settings.len() {
-        return Fault {
+        return Some(Fault {
             part: Part::Settings,
             offset: right,
-        };
+        });
     }
     let mut room = [0u32; WORDS];
     let words = &mut room[..n];

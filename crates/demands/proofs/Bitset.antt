@@ -1,4 +1,7 @@
 -- What a bitset's definition tells is its first check that does not pass.
+use Rattle.std.specs.Prelude.{Option, Some, None, Ok, Err, is_none}
+use Rattle.basics.specs.Results.{and_then}
+use Rattle.bitset_bit.specs.declared.Bit.{Bit}
 use Prim.Native.Nat.{ℕ, ◌-◌}
 use mathlib.Core.Path.{◌≡◌, refl, sym, ap, ◌∙◌}
 use mathlib.Core.List.{List, [], ◌∷◌, ◌++◌}
@@ -18,21 +21,16 @@ use Rattle.bitset_form.specs.declared.parts.BitParts.{BitParts}
 use Rattle.bitset_form.specs.Bitset.{Reading}
 use Rattle.bitset_form.specs.Bitset.Reading.{refused, accepted}
 use Rattle.bitset_compact.specs.Compact.{nomask_reading, masked_reading, compact_reading}
-use Rattle.bitset_bit.specs.Bit.{bit_by_index, bit_by_name, combined, identified, on_identity_read, bit_parts_reading, bit_reading}
+use Rattle.bitset_bit.specs.Bit.{Identity, on_lookup, bit_by_index, bit_by_name, combined, identified, on_identity, bit_parts_reading, bit_reading}
 use Rattle.bitset_bit.proofs.Laws.{by-walk}
 use Rattle.refusal.specs.Refusal.{on_stop}
 use Rattle.bitset_list.specs.BitList.{ListReading, on_bit, bits_reading, as_bitset, list_reading}
 use Rattle.bitset_list.specs.BitList.ListReading.{list_refused, list_entries}
 use Rattle.bitset.specs.Judge as J
-use Rattle.bitset.specs.declared.judge.Mixing.{Mixing}
-use Rattle.bitset_bit.specs.declared.Identity.TheVariants.{Number, Absent}
-use Rattle.bitset_bit.specs.declared.IdentityRead.{IdentityRead}
-use Rattle.bitset_bit.specs.declared.IdentityRead.TheVariants as L
-use Rattle.bitset_bit.specs.declared.BitRead.TheVariants as B
 use Rattle.response.specs.declared.Kind.{Kind}
 use Rattle.response.specs.declared.Kind.TheVariants.{Done, Refused}
 use Rattle.demands.specs.Check.{Check, refuse_if, first_kind}
-use Rattle.demands.specs.Bitset.{mixed_checks, too_short, past_end, compact_checks, unknown_name, two_bits, part_checks, bit_checks, each_bit, list_checks, form_checks, bitset_checks}
+use Rattle.demands.specs.Bitset.{mixed_checks, too_short, past_end, compact_checks, unknown_name, is_other, two_bits, part_checks, bit_checks, each_bit, list_checks, form_checks, bitset_checks}
 use Rattle.demands.proofs.First.{step, walk_step, pass, fault, no_more, first-append}
 
 -- the kind that a reading comes to
@@ -74,7 +72,7 @@ unfolding J.mixed_at mixed_checks
 mixed-first parts rest checks e =
     step kind Done _ _ _ _ _ refl (step kind Done _ _ _ _ _ refl (step kind Done _ _ _ _ _ refl e))
   where
-    kind : Mixing → Kind
+    kind : Option ℕ → Kind
     kind m = kind_of (J.on_mixing m rest)
 
 -- the kind that the BITs of a list come to
@@ -82,9 +80,9 @@ abbrev list_kind : ListReading → Kind
 list_kind (list_refused why) = Refused why
 list_kind (list_entries es) = Done
 
-bit-passes : (number : ℕ) (on : Bool) (rest : ListReading) → list_kind (on_bit (B.Bit number on) rest) ≡ list_kind rest
-bit-passes number on (list_refused why) = refl
-bit-passes number on (list_entries es) = refl
+bit-passes : (bit : Bit) (rest : ListReading) → list_kind (on_bit (Ok bit) rest) ≡ list_kind rest
+bit-passes bit (list_refused why) = refl
+bit-passes bit (list_entries es) = refl
 
 -- one BIT, before the others
 module _ (s names : List ℕ) (rest : ListReading) where
@@ -92,41 +90,43 @@ module _ (s names : List ℕ) (rest : ListReading) where
   last = list_kind rest
 
   module _ (at : ℕ) (on : Bool) where
-    abbrev identity_kind : IdentityRead → Kind
-    identity_kind l = list_kind (on_bit (on_identity_read l at on) rest)
+    abbrev identity_kind : Identity → Kind
+    identity_kind l = list_kind (on_bit (and_then l (on_identity at on)) rest)
+
+    bit : ℕ → Bit
+    bit number = record { number = number; on = on }
 
     -- INDEX, NAME or both, by whether they stand; 20, 21 and 23 by what is told of them
-    combined-first : (t u : Bool) (index name past unknown : ℕ) (over found : Bool)
+    combined-first : (t u : Bool) (index past unknown : ℕ) (over : Bool) (found : Option ℕ)
         → identity_kind
-        (combined at (cond t (cond over (L.Refused (PastLength past)) (L.Read (Number index))) (L.Read Absent))
-        (cond u (cond found (L.Read (Number name)) (L.Refused (UnknownBit unknown))) (L.Read Absent)))
+        (combined at (cond t (cond over (Err (PastLength past)) (Ok (Some index))) (Ok None)) (cond u (on_lookup found unknown) (Ok None)))
         ≡ first_kind last
         (refuse_if (t && over) (PastLength past)
-        ∷ refuse_if (u && not found) (UnknownBit unknown)
+        ∷ refuse_if (u && is_none found) (UnknownBit unknown)
         ∷ refuse_if (not t && not u) (NoBit at)
-        ∷ refuse_if (t && (u && not (eqb index name))) (TwoBits at)
+        ∷ refuse_if (t && (u && is_other index found)) (TwoBits at)
         ∷ [])
-    combined-first true u index name past unknown true found = fault last _ _
-    combined-first true true index name past unknown false false = pass last _ _ _ (fault last _ _)
-    combined-first true true index name past unknown false true =
+    unfolding bit
+    combined-first true u index past unknown true found = fault last _ _
+    combined-first true true index past unknown false None = pass last _ _ _ (fault last _ _)
+    combined-first true true index past unknown false (Some name) =
         pass last _ _ _ (pass last _ _ _ (pass last _ _ _ (same (eqb index name))))
       where
-        same : (b : Bool) → identity_kind (cond b (L.Read (Number index)) (L.Refused (TwoBits at))) ≡ first_kind last (refuse_if (not b) (TwoBits at) ∷ [])
-        same true = pass last _ _ _ (bit-passes index on rest ∙ no_more last)
+        same : (b : Bool) → identity_kind (cond b (Ok (Some index)) (Err (TwoBits at))) ≡ first_kind last (refuse_if (not b) (TwoBits at) ∷ [])
+        same true = pass last _ _ _ (bit-passes (bit index) rest ∙ no_more last)
         same false = fault last _ _
-    combined-first true false index name past unknown false found =
-        pass last _ _ _ (pass last _ _ _ (pass last _ _ _ (pass last _ _ _ (bit-passes index on rest ∙ no_more last))))
-    combined-first false true index name past unknown over false = pass last _ _ _ (fault last _ _)
-    combined-first false true index name past unknown over true =
-        pass last _ _ _ (pass last _ _ _ (pass last _ _ _ (pass last _ _ _ (bit-passes name on rest ∙ no_more last))))
-    combined-first false false index name past unknown over found = pass last _ _ _ (pass last _ _ _ (fault last _ _))
+    combined-first true false index past unknown false found =
+        pass last _ _ _ (pass last _ _ _ (pass last _ _ _ (pass last _ _ _ (bit-passes (bit index) rest ∙ no_more last))))
+    combined-first false true index past unknown over None = pass last _ _ _ (fault last _ _)
+    combined-first false true index past unknown over (Some name) =
+        pass last _ _ _ (pass last _ _ _ (pass last _ _ _ (pass last _ _ _ (bit-passes (bit name) rest ∙ no_more last))))
+    combined-first false false index past unknown over found = pass last _ _ _ (pass last _ _ _ (fault last _ _))
 
     parts_first : (parts : BitParts) → identity_kind (identified s names at parts) ≡ first_kind last (part_checks s names at parts)
     unfolding identified bit_by_index bit_by_name part_checks unknown_name two_bits
     parts_first parts =
-        let l = lookup names (part_of s parts.name.start parts.name.end) in
-        combined-first parts.index.present parts.name.present (slot_number s parts.index) l.bit (parts.index.start - 4) (parts.name.start - 4)
-        (leb (count names) (slot_number s parts.index)) l.found
+        combined-first parts.index.present parts.name.present (slot_number s parts.index) (parts.index.start - 4) (parts.name.start - 4)
+        (leb (count names) (slot_number s parts.index)) (lookup names (part_of s parts.name.start parts.name.end)).bit
 
   bit-first : (from : ℕ) → list_kind (on_bit (bit_reading s names from) rest) ≡ first_kind last (bit_checks s names from)
   unfolding bit_parts_reading bit_checks
@@ -134,7 +134,7 @@ module _ (s names : List ℕ) (rest : ListReading) where
       let parts = bit_parts (walked bit_policy s from).slots in
       ap (λ r. list_kind (on_bit r rest)) (by-walk s names from)
       ∙ walk_step (λ r. list_kind (on_bit r rest)) last (walked bit_policy s from).stop
-      (λ stop. on_stop stop B.Refused (bit_parts_reading s names (from - 4) parts)) _ (λ fault at. refl)
+      (λ stop. on_stop stop Err (bit_parts_reading s names (from - 4) parts)) _ (λ fault at. refl)
       (parts_first (from - 4) parts.on.present parts)
 
 each_first : (s names : List ℕ) (xs : Attributes) → list_kind (bits_reading s names xs) ≡ first_kind Done (each_bit s names xs)

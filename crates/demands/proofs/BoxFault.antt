@@ -13,6 +13,7 @@ use native.Mathlib.Omega.{arith}
 use borrow.Author.Tests.{eqb-true, eqb-false, le-leb, leb-true}
 use Rattle.basics.proofs.Order.{lt-or-ge}
 use Rattle.basics.proofs.Truth.{both_true, clash}
+use Rattle.std.specs.Prelude.{Option, None}
 use Rattle.word_bytes.specs.Bytes.{words_in}
 use Rattle.word_bytes.proofs.WordBytes.{length-words_in}
 use Rattle.names.specs.Rule.{names_right}
@@ -22,7 +23,7 @@ use Rattle.boxes.specs.Rule.{family_right, admin_right}
 use Rattle.boxes.specs.Settings.{settings_right}
 use Rattle.box_fault.specs.Longest.{right_up_to}
 use Rattle.box_fault.specs.Settings.{fault_at, right_length, right_with_zeros, settings_fault}
-use Rattle.box_fault.specs.Fault.{part_number, box_fault}
+use Rattle.box_fault.specs.Fault.{part_number, fault_number, fault_offset, box_fault}
 use Rattle.box_fault.specs.declared.Fault.{Fault}
 use Rattle.box_fault.specs.declared.Part.{Part}
 use Rattle.box_fault.specs.declared.Part.TheVariants as P
@@ -133,11 +134,11 @@ module _ (c : BoxParts) where
         in-settings = λ e. absurd (omega arith);
       }
 
-  abbrev Tells : Fault → Type 0
-  Tells f = FaultTold c (part_number f.part) f.offset
+  abbrev Tells : Option Fault → Type 0
+  Tells f = FaultTold c (fault_number f) (fault_offset f)
 
   -- a part is judged by its test, where every part before it keeps its rule
-  stage : (part : Part) (o : ℕ) (t : Bool) (rest : Fault) → 1 ≤ part_number part → part_number part ≤ 6 → Exactly (t ≡ true) (Kept c (part_number part))
+  stage : (part : Part) (o : ℕ) (t : Bool) (rest : Option Fault) → 1 ≤ part_number part → part_number part ≤ 6 → Exactly (t ≡ true) (Kept c (part_number part))
       → Place c (part_number part) o → Before (part_number part) → (Before (suc (part_number part)) → Tells rest)
       → Tells (cond (not t) (fault_at part o) rest)
   stage part o true rest l u exactly place b next = next (before-next (part_number part) b (exactly.0 refl))
@@ -206,7 +207,7 @@ module _ (c : BoxParts) where
 
       go : (t u : Bool) → eqb (length stored) (right_length (ports_in box) (sizes_in box)) ≡ t → settings_right (words_in stored) (ports_in box) (sizes_in box) ≡ u
           → Tells (cond (not t) (fault_at P.Settings (min (length stored) (right_length (ports_in box) (sizes_in box))))
-          (cond (not u) (fault_at P.Settings (right_up_to (right_with_zeros (ports_in box) (sizes_in box)) (words_in stored) * 4)) (fault_at P.Sound 0)))
+          (cond (not u) (fault_at P.Settings (right_up_to (right_with_zeros (ports_in box) (sizes_in box)) (words_in stored) * 4)) None))
       go false u et eu =
           let n = eqb-false _ _ et in
           first-told 6 _ (omega arith) (omega arith) (b, λ k. n (kept-settings k).0) (placed _ (place_other (ports_in box) (sizes_in box) stored n))

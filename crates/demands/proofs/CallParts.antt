@@ -26,10 +26,6 @@ use Rattle.boxes.specs.Box.{Box, State}
 use Rattle.boxes.specs.declared.Call.{Call}
 use Rattle.admission.specs.Admission.{is_dump, no_dump, not_permitted, permitted, strset_permitted, on_command, admitted}
 use Rattle.admission.specs.Commands.{command_of}
-use Rattle.admission.specs.declared.Admission.{Admission}
-use Rattle.admission.specs.declared.Admission.TheVariants as A
-use Rattle.admission.specs.declared.commands.CommandRead.{CommandRead}
-use Rattle.admission.specs.declared.commands.CommandRead.TheVariants.{Listed, Strset, Unlisted}
 use Rattle.admission.specs.declared.commands.Command.{Command}
 use Rattle.response.specs.Answer.{Outcome, Response}
 use Rattle.response.specs.declared.Kind.{Kind}
@@ -47,13 +43,18 @@ use Rattle.demands.proofs.Stored.{over-words}
 use Rattle.demands.specs.StrsetParts.{NamesParts}
 use Rattle.demands.proofs.StrsetParts.{names-read}
 use Rattle.demands.proofs.Parts.{top_read}
+use Rattle.std.specs.Prelude.{Option, Some, None, Result, Ok, Err}
+use Rattle.admission.specs.declared.commands.Listed.{Listed}
+use Rattle.admission.specs.declared.Admission.{Admission}
+use Rattle.admission.specs.declared.Admission.TheVariants as A
+use Rattle.admission.specs.declared.commands.Listed.TheVariants.{OfSet, Strset}
 
 -- a message that is taken up
-abbrev taken : Admission → Bool
-taken A.Skipped = false
-taken (A.Refused why) = false
-taken A.Strset = true
-taken (A.Admitted command) = true
+abbrev taken : Result Admission Refusal → Bool
+taken (Ok A.Skipped) = false
+taken (Err why) = false
+taken (Ok A.Strset) = true
+taken (Ok (A.Admitted command)) = true
 
 -- it has room for its two headers
 admitted-long : (m : List ℕ) (h : MessageHeader) (family : ℕ) (admin : Bool) → taken (admitted m h family admin) ≡ true → 20 ≤ length m
@@ -61,7 +62,7 @@ unfolding admitted
 admitted-long m h family admin = go (ltb h.kind 16 || eqb (h.flags % 2) 0) (not (eqb h.kind family)) (ltb (length m) 20) refl
   where
     go : (a b c : Bool) → ltb (length m) 20 ≡ c
-        → taken (cond a A.Skipped (cond b (A.Refused R.Family) (cond c (A.Refused R.Short) (on_command (command_of (byte_at m 16)) (strset_permitted h) (permitted h admin))))) ≡ true
+        → taken (cond a (Ok A.Skipped) (cond b (Err R.Family) (cond c (Err R.Short) (on_command (command_of (byte_at m 16)) (strset_permitted h) (permitted h admin))))) ≡ true
         → 20 ≤ length m
     go true b c q e = absurd (clash e refl)
     go false true c q e = absurd (clash e refl)
@@ -100,7 +101,7 @@ module _ (box : Box) (datagram : List ℕ) (position : ℕ) where
     long-enough : 20 ≤ stated
     long-enough = omega (arith, size_is, admitted-long m h family admin up)
 
-  pub request-parts : (h : MessageHeader) (family : ℕ) (admin : Bool) (command : Command) → admitted m h family admin ≡ A.Admitted command
+  pub request-parts : (h : MessageHeader) (family : ℕ) (admin : Bool) (command : Command) → admitted m h family admin ≡ Ok (A.Admitted command)
       → RequestParts box datagram position command
   request-parts h family admin command e =
       let up = ap taken e in
@@ -113,7 +114,7 @@ module _ (box : Box) (datagram : List ℕ) (position : ℕ) where
         nested = top_read m box (asks_dump (message_header datagram position)) command;
       }
 
-  pub names-parts : (h : MessageHeader) (family : ℕ) (admin : Bool) → admitted m h family admin ≡ A.Strset → NamesParts datagram position
+  pub names-parts : (h : MessageHeader) (family : ℕ) (admin : Bool) → admitted m h family admin ≡ Ok A.Strset → NamesParts datagram position
   names-parts h family admin e =
       let up = ap taken e in
       record {
@@ -126,31 +127,31 @@ module _ (box : Box) (datagram : List ℕ) (position : ℕ) where
       }
 
 -- what comes past 9 is admitted
-admission-number : (m : List ℕ) (h : MessageHeader) (family : ℕ) (admin : Bool) (why : Refusal) → admitted m h family admin ≡ A.Refused why → number_of why ≤ 9
+admission-number : (m : List ℕ) (h : MessageHeader) (family : ℕ) (admin : Bool) (why : Refusal) → admitted m h family admin ≡ Err why → number_of why ≤ 9
 unfolding admitted permitted strset_permitted
 admission-number m h family admin why e =
     by (ltb h.kind 16 || eqb (h.flags % 2) 0) (not (eqb h.kind family)) (ltb (length m) 20) (command_of (byte_at m 16)) e
   where
-    told : (r : Refusal) → number_of r ≤ 9 → A.Refused r ≡ A.Refused why → number_of why ≤ 9
+    told : (r : Refusal) → number_of r ≤ 9 → ◌≡◌ {A = Result Admission Refusal} (Err r) (Err why) → number_of why ≤ 9
     told r l e = let q : r ≡ why = cc in rw (← q) l
 
-    permits : (a b : Bool) (c : Command) → cond a (A.Refused R.Dump) (cond b (A.Refused R.Permission) (A.Admitted c)) ≡ A.Refused why → number_of why ≤ 9
+    permits : (a b : Bool) (c : Command) → cond a (Err R.Dump) (cond b (Err R.Permission) (Ok (A.Admitted c))) ≡ Err why → number_of why ≤ 9
     permits true b c e = told R.Dump (omega arith) e
     permits false true c e = told R.Permission (omega arith) e
     permits false false c e = absurd (let z : ◌≡◌ {A = ℕ} 0 1 = cc in omega arith)
 
-    strset : (t : Bool) → cond t (A.Refused R.Dump) A.Strset ≡ A.Refused why → number_of why ≤ 9
+    strset : (t : Bool) → cond t (Err R.Dump) (Ok A.Strset) ≡ Err why → number_of why ≤ 9
     strset true e = told R.Dump (omega arith) e
     strset false e = absurd (let z : ◌≡◌ {A = ℕ} 0 1 = cc in omega arith)
 
-    by : (a b c : Bool) (x : CommandRead)
-        → cond a A.Skipped (cond b (A.Refused R.Family) (cond c (A.Refused R.Short) (on_command x (strset_permitted h) (permitted h admin)))) ≡ A.Refused why → number_of why ≤ 9
+    by : (a b c : Bool) (x : Option Listed)
+        → cond a (Ok A.Skipped) (cond b (Err R.Family) (cond c (Err R.Short) (on_command x (strset_permitted h) (permitted h admin)))) ≡ Err why → number_of why ≤ 9
     by true b c x e = absurd (let z : ◌≡◌ {A = ℕ} 0 1 = cc in omega arith)
     by false true c x e = told R.Family (omega arith) e
     by false false true x e = told R.Short (omega arith) e
-    by false false false Unlisted e = told R.Command (omega arith) e
-    by false false false Strset e = strset (is_dump h) e
-    by false false false (Listed c) e = permits (no_dump h c) (not_permitted c admin) c e
+    by false false false None e = told R.Command (omega arith) e
+    by false false false (Some Strset) e = strset (is_dump h) e
+    by false false false (Some (OfSet c)) e = permits (no_dump h c) (not_permitted c admin) c e
 
 module _ (box : Box) (stored : Stored) (call : Call) (datagram : List ℕ) (room : ℕ) where
   abbrev header : MessageHeader
@@ -164,19 +165,19 @@ module _ (box : Box) (stored : Stored) (call : Call) (datagram : List ℕ) (room
 
   abbrev Parted : Type 0
   Parted =
-      ((command : Command) × (admitted message header call.family (eqb call.admin 1) ≡ A.Admitted command) × RequestParts box datagram call.position command)
-      ⊎ ((admitted message header call.family (eqb call.admin 1) ≡ A.Strset) × NamesParts datagram call.position)
+      ((command : Command) × (admitted message header call.family (eqb call.admin 1) ≡ Ok (A.Admitted command)) × RequestParts box datagram call.position command)
+      ⊎ ((admitted message header call.family (eqb call.admin 1) ≡ (Ok A.Strset)) × NamesParts datagram call.position)
 
   -- what the message comes to is what the call says
-  by-admission : (next : ℕ) (a : Admission) → admitted message header call.family (eqb call.admin 1) ≡ a
+  by-admission : (next : ℕ) (a : Result Admission Refusal) → admitted message header call.family (eqb call.admin 1) ≡ a
       → kind (on_admission a box (in_words stored) call message header next) ≡ said → past_nine said ≡ true → Parted
-  by-admission next A.Skipped e q past = absurd (clash (ap past_nine q ∙ past) refl)
-  by-admission next (A.Refused why) e q past =
+  by-admission next (Ok A.Skipped) e q past = absurd (clash (ap past_nine q ∙ past) refl)
+  by-admission next (Err why) e q past =
       let l = leb-true 10 (number_of why) (ap past_nine q ∙ past) in
       let few = admission-number message header call.family (eqb call.admin 1) why e in
       absurd (omega arith)
-  by-admission next A.Strset e q past = inr (e, names-parts box datagram call.position header call.family (eqb call.admin 1) e)
-  by-admission next (A.Admitted command) e q past = inl (command, e, request-parts box datagram call.position header call.family (eqb call.admin 1) command e)
+  by-admission next (Ok A.Strset) e q past = inr (e, names-parts box datagram call.position header call.family (eqb call.admin 1) e)
+  by-admission next (Ok (A.Admitted command)) e q past = inl (command, e, request-parts box datagram call.position header call.family (eqb call.admin 1) command e)
 
   goes_on : (k : Kind) → past_nine k ≡ true → ends_run k ≡ false
   goes_on End e = absurd (clash e refl)

@@ -39,7 +39,6 @@ use Rattle.response.specs.declared.Kind.{Kind}
 use Rattle.response.specs.declared.Kind.TheVariants.{Done}
 use Rattle.refusal.specs.declared.Refusal.TheVariants as R
 use Rattle.admission.specs.Admission.{admitted}
-use Rattle.admission.specs.declared.Admission.TheVariants.{Admitted}
 use Rattle.handler.specs.Call.{ends_run}
 use Rattle.handler.specs.Bytes.{Stored, in_words, bytes_outcome}
 use Rattle.demands.specs.Check.{Check, refuse_if, first_kind, AllPass}
@@ -54,6 +53,8 @@ use Rattle.demands.proofs.Stored.{done-exactly, set-alike}
 use Rattle.demands.proofs.StoredBox.{right-box}
 use Rattle.demands.proofs.Normaliser.{part-short, bitset-inside}
 use Rattle.demands.specs.Change.{Change, change_of, NormalisedAs, SameForm, SameChange, HandledSet, handled_change}
+use Rattle.std.specs.Prelude.{Ok}
+use Rattle.admission.specs.declared.Admission.TheVariants.{Admitted}
 
 -- a bitset makes the same of the same set
 effect-same : (b : Bitset) (s t : ℕ → Bool) → Same s t → Same (effect b s) (effect b t)
@@ -128,7 +129,7 @@ module _ (box : Box) (stored : Stored) (call : Call) (datagram : List ℕ) (room
   asked = message_of datagram call.position
 
   pub same_number : ends_run said ≡ false → (n : Named box.roll asked) → n.command.change ≡ true
-      → admitted asked (message_header datagram call.position) call.family (eqb call.admin 1) ≡ Admitted n.command
+      → admitted asked (message_header datagram call.position) call.family (eqb call.admin 1) ≡ Ok (Admitted n.command)
       → (page : ℕ) → 144 ≤ page → refusal_number said ≡ (normaliser_answer box asked n page).number
   same_number going n change admit page wide = by (set-alike box stored call datagram room going n change admit page wide)
     where

@@ -17,8 +17,6 @@ use Rattle.layout.specs.Layout.{list_of, names_of}
 use Rattle.layout.specs.declared.Set.TheVariants.{Debug, Flags}
 use Rattle.roll.specs.Record.{name_of, port_at}
 use Rattle.roll.specs.Name.{name_right}
-use Rattle.roll.specs.declared.find.Found.{Found}
-use Rattle.roll.specs.declared.find.Found.TheVariants as F
 use Rattle.roll_rule.specs.Rule.{roll_right}
 use Rattle.roll_rule.proofs.Meaning.{port-right}
 use Rattle.boxes.specs.Box.{Box, State}
@@ -28,9 +26,8 @@ use Rattle.boxes.proofs.rule.Meaning.{box-means}
 use Rattle.reply.specs.Message.{heading_of, headers_bytes}
 use Rattle.reply.specs.declared.message.Heading.{Heading}
 use Rattle.response.specs.Answer.{ack_bytes}
-use Rattle.strset_request.specs.Asked.{is_named, asked_of}
+use Rattle.strset_request.specs.Asked.{asked_of}
 use Rattle.strset_request.specs.declared.asked.Asked.{Asked}
-use Rattle.strset_request.specs.declared.asked.AskedRead.TheVariants as A
 use Rattle.strset_request.specs.declared.list.Sets.{Sets}
 use Rattle.strset_reply.specs.Message.{StrsetContent, strset_content_of, port_nest, strset_attributes, strset_reply}
 use Rattle.strset_reply.proofs.sets.Lengths.{sets-whole}
@@ -46,6 +43,7 @@ use Rattle.demands.specs.Answer.Messages.{next}
 use Rattle.demands.specs.Done.{names_reply}
 use Rattle.demands.proofs.Count.{ack-counted}
 use Rattle.demands.proofs.Port.{port-short}
+use Rattle.std.specs.Prelude.{Option, Some, None, Ok, is_some}
 
 -- a first byte that is no NUL stands before the first
 nul-after : (s : List ℕ) → (get_or s 0 0 ≡ 0 → ⊥) → 0 < nul_at s
@@ -56,11 +54,11 @@ nul-after (suc b ∷ s) n = omega arith
 
 -- the port that is named has an index and a name that can be read back
 module _ (roll : List ℕ) (right : roll_right roll ≡ true) where
-  port-reads : (port : Found) → PortNamed roll port → is_named port ≡ true
+  port-reads : (port : Option ℕ) → PortNamed roll port → is_some port ≡ true
       → (index_in roll port < 4294967296) × (0 < nul_at (name_in roll port)) × (nul_at (name_in roll port) < 32)
-  unfolding PortNamed is_named index_in name_in name_right name_of byte_at
-  port-reads F.Nothing inside named = absurd (clash named refl)
-  port-reads (F.At k) inside named =
+  unfolding PortNamed index_in name_in name_right name_of byte_at
+  port-reads None inside named = absurd (clash named refl)
+  port-reads (Some k) inside named =
       let rules = port-right roll right k inside in
       let first = (both_true (not (eqb (get_or (port_at roll k).name 0 0) 0)) _ rules.name).0 in
       let short = port-short roll k right inside in
@@ -70,7 +68,7 @@ module _ (roll : List ℕ) (right : roll_right roll ≡ true) where
       not-false-of x e = rw e
 
 module _ (box : Box) (state : State) (call : Call) (right : box_right box state call ≡ true) (m : List ℕ) (h : MessageHeader) (asked : Asked)
-    (asks : asked_of m box.roll ≡ A.Asked asked) where
+    (asks : asked_of m box.roll ≡ Ok asked) where
   pub names-told : reply_told (names_reply box h asked) ≡ told (reply_owed (strset_content_in box asked))
   unfolding strset_content_in list_of
   names-told =
@@ -118,5 +116,5 @@ pub strset-counted : (box : Box) (m : List ℕ) (h : MessageHeader) (asked : Ask
     → CountedTo 32768 (strset_bytes m h (strset_content_in box asked))
 unfolding strset_bytes strset_content_in
 strset-counted box m h asked long few =
-    reply-counted (heading_of h 0 1) (is_named asked.port) (index_in box.roll asked.port) (name_in box.roll asked.port) box.names.debug box.names.flags
+    reply-counted (heading_of h 0 1) (is_some asked.port) (index_in box.roll asked.port) (name_in box.roll asked.port) box.names.debug box.names.flags
     asked.sets asked.counts (ack_bytes m h) (ack-counted m h long).0 few

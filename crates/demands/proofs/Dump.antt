@@ -24,9 +24,7 @@ use Rattle.roll_rule.proofs.Meaning.{port-right}
 use Rattle.boxes.specs.Rule.{box_right}
 use Rattle.admission.specs.Commands.{command_row}
 use Rattle.admission.specs.declared.commands.Command.{Command}
-use Rattle.admission.specs.declared.commands.CommandRead.TheVariants.{Listed}
 use Rattle.request.specs.declared.parts.TopParts.{TopParts}
-use Rattle.request.specs.declared.top.Top.TheVariants.{Nests}
 use Rattle.request.specs.Header.{header_of}
 use Rattle.reply.specs.Message.{heading_of, reply_bytes}
 use Rattle.reply.specs.declared.message.Heading.{Heading}
@@ -51,6 +49,9 @@ use Rattle.demands.proofs.GetOne.{kind-is, sequence-is, port-is, asks-one, one-g
 use Rattle.demands.proofs.Missing.{index-missing}
 use Rattle.demands.proofs.BoxRules.{stored-exactly}
 use Rattle.demands.proofs.Stored as S
+use Rattle.std.specs.Prelude.{Some, Ok}
+use Rattle.admission.specs.declared.commands.Listed.TheVariants.{OfSet}
+use Rattle.request.specs.declared.header.Header.{Header}
 
 -- a box that is right at a place is right at every place up to the port count
 right-at : (box : Box) (stored : Stored) (call : Call) (k : ℕ) → stored_right box stored call ≡ true → k ≤ ports_in box → stored_right box stored (at_place call k) ≡ true
@@ -120,10 +121,11 @@ one-command m d e = let q = sym d.listed ∙ e.listed in cc
 
 one-flags : (m : List ℕ) (d e : DumpAsked m) → d.flags ≡ e.flags
 one-flags m d e =
-    let top : Nests d.parts ≡ Nests e.parts = sym d.nests ∙ e.nests in
+    let top : Ok d.parts ≡ Ok e.parts = sym d.nests ∙ e.nests in
     let same : d.parts ≡ e.parts = cc in
     let head = sym d.read ∙ ap (λ (p : TopParts). header_of m p.header true) same ∙ e.read in
-    cc
+    let both : ◌≡◌ {A = Header} (record { parts = d.header; flags = d.flags }) (record { parts = e.header; flags = e.flags }) = cc in
+    ap (λ (x : Header). x.flags) both
 
 same-port : (box : Box) (state : State) (call : Call) (m : List ℕ) (h : MessageHeader) (d e : DumpAsked m) (r : Response) → DonePort box state call m h d r → DonePort box state call m h e r
 same-port box state call m h d e r p =
@@ -222,7 +224,7 @@ module _ (box : Box) (call : Call) (datagram : List ℕ) (room : ℕ) (found : �
         let same = facts.1 in
         S.exact box (found k) one g room ∙ ap (λ (t : Bool). first_kind Done (call_checks t box one g room)) (right-one box (found k) call (right k))
         ∙ sym (one_passes h command index first.flags box call.family call.admin 0 room (omega arith) (omega arith) same facts.0
-        first.command.number first.command.set first.command.reply first.command.dump (first.listed ∙ ap Listed row) first.flags-few index-small known)
+        first.command.number first.command.set first.command.reply first.command.dump (first.listed ∙ ap (λ (y : Command). Some (OfSet y)) row) first.flags-few index-small known)
 
     -- so it is a GET of this port
     get-of : DoneGet box (in_words (found k)) (message_of g 0) (message_header g 0) (as_words got)

@@ -68,5 +68,5 @@ pub names-run : (handled 0 ≡ answered Done 24 (classes_reply ++ classes_ack))
     × (handled 100 ≡ answered Done 132 flag_names_reply)
     × (handled 132 ≡ answered (Refused (NotOffered 44)) 184 portless_error)
     × (handled 184 ≡ answered End 184 [])
-unfolding example_roll example_debug two_flags names_box NB.byte_at NB.u16_at NB.u32_at SC.all SC.any SC.first NU.nul_then_nul NU.same_byte PU.put PU.splice Bi.number BS.has BS.words_of BS.none_from BS.clear_from BS.some_past BS.past Wb.table Wb.words_in Wb.bytes_of EN.entry_at EN.entries_distinct EN.entry_new EN.differs EN.same_entry NR.names_right NR.right_at NR.entry_right ME.message_at AT.attribute_at AT.part_of AT.attributes_up_to AT.attributes PO.rule_of PO.nul_at PO.is_name_payload PO.plain PO.nested PO.judged WA.first_fault WA.last_of_type WA.walked WA.slot_number HW.message_header_bytes HW.generic_header_bytes HW.attribute_header_bytes AW.padding AW.attr AW.nest AW.name_bytes ER.detail_bytes ER.flags_of ER.negative ER.error_header ER.error_start ER.error_message IN.index_nest IN.index_and_name IN.name_if_any LA.list_of LA.size_of LA.every_set LA.port_words LA.first_of LA.total_words LA.set_place LA.set_at RR.record_size RR.record_at RR.records_up_to RR.records RR.all_whole RR.record_ports RR.ports_of RR.port_count RR.port_at RR.index_of RR.name_of RR.ports_listed RN.name_at RN.same_name RN.holds_name RN.name_right RF.has_index RF.has_name RF.find_port RF.found_by_index RF.found_by_name RU.roll_right RU.port_right RU.ports_distinct RU.is_new RU.another BO.place_in BO.width_in BO.set_of SE.settings_right SE.port_clear SE.set_clear BR.family_right BR.admin_right BR.place_right BR.lists_right BR.box_right AD.is_dump AD.permitted AD.admitted CM.command_in CM.command_of PA.header_parts HE.flags_judged PT.other_name PT.port_by_index PT.port_by_name PT.port_of TA.with_flags RM.headers_bytes Ra.ack_bytes HC.message_outcome HC.position_outcome HC.outcome HB.words_outcome HB.are_words HB.bytes_outcome RO.optional_header_of RO.optional_target_of SQ.strset_parts SQ.with_header SQ.strset_top_of SS.id_of SS.set_of_id SS.id_judged SS.set_reading SL.same_set SL.with_asked SL.sets_reading SL.nest_reading SL.list_reading SA.is_named SA.or_default SA.sets_asked SA.asked_of YS.index_and_value YS.string_bytes YS.strings_bytes YE.strings_if YE.set_contents YE.string_set YE.other_set YE.sets_bytes YM.port_nest YM.strset_attributes YM.strset_reply SR.index_in SR.name_in SR.strset_content_in SR.strset_bytes SR.content_response SR.strset_response AD.strset_permitted
+unfolding example_roll example_debug two_flags names_box NB.byte_at NB.u16_at NB.u32_at SC.all SC.any SC.first NU.nul_then_nul NU.same_byte PU.put PU.splice Bi.number BS.has BS.words_of BS.none_from BS.clear_from BS.some_past BS.past Wb.table Wb.words_in Wb.bytes_of EN.entry_at EN.entries_distinct EN.entry_new EN.differs EN.same_entry NR.names_right NR.right_at NR.entry_right ME.message_at AT.attribute_at AT.part_of AT.attributes_up_to AT.attributes PO.rule_of PO.nul_at PO.is_name_payload PO.plain PO.nested PO.judged WA.first_fault WA.last_of_type WA.walked WA.slot_number HW.message_header_bytes HW.generic_header_bytes HW.attribute_header_bytes AW.padding AW.attr AW.nest AW.name_bytes ER.detail_bytes ER.flags_of ER.negative ER.error_header ER.error_start ER.error_message IN.index_nest IN.index_and_name IN.name_if_any LA.list_of LA.size_of LA.every_set LA.port_words LA.first_of LA.total_words LA.set_place LA.set_at RR.record_size RR.record_at RR.records_up_to RR.records RR.all_whole RR.record_ports RR.ports_of RR.port_count RR.port_at RR.index_of RR.name_of RR.ports_listed RN.name_at RN.same_name RN.holds_name RN.name_right RF.has_index RF.has_name RF.find_port RF.found_by_index RF.found_by_name RU.roll_right RU.port_right RU.ports_distinct RU.is_new RU.another BO.place_in BO.width_in BO.set_of SE.settings_right SE.port_clear SE.set_clear BR.family_right BR.admin_right BR.place_right BR.lists_right BR.box_right AD.is_dump AD.permitted AD.admitted CM.command_in CM.command_of PA.header_parts HE.flags_judged PT.other_name PT.port_by_index PT.port_by_name PT.port_of TA.with_flags RM.headers_bytes Ra.ack_bytes HC.message_outcome HC.position_outcome HC.outcome HB.words_outcome HB.are_words HB.bytes_outcome RO.optional_header_of RO.optional_target_of SQ.strset_parts SQ.with_header SQ.strset_top_of SS.id_of SS.set_of_id SS.id_judged SS.set_reading SL.same_set SL.with_asked SL.sets_reading SL.nest_reading SL.list_reading SA.or_default SA.sets_asked SA.asked_of YS.index_and_value YS.string_bytes YS.strings_bytes YE.strings_if YE.set_contents YE.string_set YE.other_set YE.sets_bytes YM.port_nest YM.strset_attributes YM.strset_reply SR.index_in SR.name_in SR.strset_content_in SR.strset_bytes SR.content_response SR.strset_response AD.strset_permitted
 names-run = (refl, refl, refl, refl, refl)

@@ -25,14 +25,11 @@ use Rattle.netlink.specs.declared.walk.Stop.TheVariants.{Whole}
 use Rattle.refusal.specs.declared.Refusal.{Refusal}
 use Rattle.roll.specs.Record.{port_at}
 use Rattle.roll.specs.Find.{found_by_index}
-use Rattle.roll.specs.declared.find.Found.{Found}
-use Rattle.roll.specs.declared.find.Found.TheVariants as F
 use Rattle.boxes.specs.Box.{Box}
 use Rattle.boxes.specs.declared.Call.{Call}
 use Rattle.layout.specs.declared.Set.{Set}
 use Rattle.admission.specs.Commands.{command_row, command_of}
 use Rattle.admission.specs.declared.commands.Command.{Command}
-use Rattle.admission.specs.declared.commands.CommandRead.TheVariants.{Listed}
 use Rattle.request.specs.Policies as RP
 use Rattle.request.specs.Policies.{top_policy, header_policy}
 use Rattle.request.specs.Parts.{top_parts, header_parts}
@@ -40,8 +37,6 @@ use Rattle.request.specs.Top.{nests_of, top_of}
 use Rattle.request.specs.Header.{flags_judged, parts_of, header_of}
 use Rattle.request.specs.declared.parts.TopParts.{TopParts}
 use Rattle.request.specs.declared.parts.HeaderParts.{HeaderParts}
-use Rattle.request.specs.declared.top.Top.TheVariants.{Nests}
-use Rattle.request.specs.declared.header.Header.TheVariants as H
 use Rattle.response.specs.declared.Kind.TheVariants.{Done}
 use Rattle.demands.specs.Check.{Check, refuse_if, walks, first_kind}
 use Rattle.demands.specs.Check.Check.{passes}
@@ -52,6 +47,9 @@ use Rattle.demands.specs.Message.{Named}
 use Rattle.demands.specs.Call.{message_of, end_if, call_checks}
 use Rattle.demands.specs.Dump.{get_one}
 use Rattle.demands.proofs.First.{pass, no_more}
+use Rattle.std.specs.Prelude.{Option, Some, None, Ok}
+use Rattle.admission.specs.declared.commands.Listed.TheVariants.{OfSet}
+use Rattle.request.specs.declared.header.Header.{Header}
 
 -- a check that passes, and what comes after it
 row : (t : Bool) (why : Refusal) (checks : List Check) → t ≡ false → Done ≡ first_kind Done checks → Done ≡ first_kind Done (refuse_if t why ∷ checks)
@@ -144,19 +142,19 @@ module _ (h : MessageHeader) (command index flags : ℕ) where
   skips-not low high = rw (kind-is high, le-ltb h.kind 16 low, odd)
 
   -- it is read as what it says
-  pub one-top : top_of g false ≡ Nests (record { header = found 24 40; bitset = absent })
+  pub one-top : top_of g false ≡ Ok (record { header = found 24 40; bitset = absent })
   unfolding top_of nests_of top_parts
   one-top = rw top-walk
 
-  pub one-read : flags ≤ 3 → header_of g (found 24 40) false ≡ H.Parts (record { index = found 28 32; name = absent; flags = found 36 40 }) flags
+  pub one-read : flags ≤ 3 → header_of g (found 24 40) false ≡ Ok (record { parts = record { index = found 28 32; name = absent; flags = found 36 40 }; flags = flags })
   unfolding header_of parts_of flags_judged header_parts
   one-read few = rw (header-walk, flags-are (omega arith), le-ltb 3 flags few)
 
-  pub one-get : (c : Command) → command_of command ≡ Listed c → c.change ≡ false → is_set (command_of (byte_at (message_of g 0) 16)) ≡ false
+  pub one-get : (c : Command) → command_of command ≡ Some (OfSet c) → c.change ≡ false → is_set (command_of (byte_at (message_of g 0) 16)) ≡ false
   unfolding is_set
   one-get c listed get = ap (λ (s : List ℕ). is_set (command_of (byte_at s 16))) message-is ∙ ap (λ (x : ℕ). is_set (command_of x)) command-is ∙ ap is_set listed ∙ get
 
-  pub one-about-port : (c : Command) → command_of command ≡ Listed c → is_strset (command_of (byte_at (message_of g 0) 16)) ≡ false
+  pub one-about-port : (c : Command) → command_of command ≡ Some (OfSet c) → is_strset (command_of (byte_at (message_of g 0) 16)) ≡ false
   unfolding is_strset
   one-about-port c listed = ap (λ (s : List ℕ). is_strset (command_of (byte_at s 16))) message-is ∙ ap (λ (x : ℕ). is_strset (command_of x)) command-is ∙ ap is_strset listed
 
@@ -166,15 +164,16 @@ module _ (h : MessageHeader) (command index flags : ℕ) where
 
   -- whatever it is found to name is what it says: its command, its flags and the port of its index
   pub names-one : (roll : List ℕ) (n : Named roll (message_of g 0)) → n.command.change ≡ false → flags ≤ 3 → index < 4294967296
-      → (command_of command ≡ Listed n.command) × (n.target.flags ≡ flags) × ((port_at roll n.target.position).index ≡ index)
+      → (command_of command ≡ Some (OfSet n.command)) × (n.target.flags ≡ flags) × ((port_at roll n.target.position).index ≡ index)
   names-one roll n get few small =
       let listed = ap (λ (s : List ℕ). command_of (byte_at s 16)) (sym message-is) ∙ n.listed in
       let top = sym one-top ∙ ap (λ (s : List ℕ). top_of s false) (sym message-is) ∙ ap (top_of (message_of g 0)) (sym get) ∙ n.nests in
       let parts : ◌≡◌ {A = TopParts} (record { header = found 24 40; bitset = absent }) n.parts = cc in
       let head = sym (one-read few) ∙ ap (λ (s : List ℕ). header_of s (found 24 40) false) (sym message-is)
       ∙ ap (λ (p : TopParts). header_of (message_of g 0) p.header false) parts ∙ n.read in
-      let header : ◌≡◌ {A = HeaderParts} (record { index = found 28 32; name = absent; flags = found 36 40 }) n.header = cc in
-      let asked : flags ≡ n.target.flags = cc in
+      let both : ◌≡◌ {A = Header} (record { parts = record { index = found 28 32; name = absent; flags = found 36 40 }; flags = flags }) (record { parts = n.header; flags = n.target.flags }) = cc in
+      let header : ◌≡◌ {A = HeaderParts} (record { index = found 28 32; name = absent; flags = found 36 40 }) n.header = ap (λ (x : Header). x.parts) both in
+      let asked : flags ≡ n.target.flags = ap (λ (x : Header). x.flags) both in
       let stands : n.header.index.present ≡ true = ap (λ (p : HeaderParts). p.index.present) (sym header) in (
         ap command_of (sym command-is) ∙ listed,
         sym asked,
@@ -183,7 +182,7 @@ module _ (h : MessageHeader) (command index flags : ℕ) where
 
   -- every check passes
   module _ (box : Box) (family admin place room : ℕ) (low : 16 ≤ h.kind) (high : h.kind < 65536) (ours : h.kind ≡ family)
-      (wide : 32768 ≤ room) (number : ℕ) (set : Set) (reply : ℕ) (dump : Bool) (listed : command_of command ≡ Listed (command_row number false set reply dump)) (few : flags ≤ 3) (small : index < 4294967296)
+      (wide : 32768 ≤ room) (number : ℕ) (set : Set) (reply : ℕ) (dump : Bool) (listed : command_of command ≡ Some (OfSet (command_row number false set reply dump))) (few : flags ≤ 3) (small : index < 4294967296)
       (known : no_port (found_by_index box.roll index) ≡ false) where
     abbrev call : Call
     call = record { family = family; admin = admin; position = 0; place = place }
@@ -191,10 +190,10 @@ module _ (h : MessageHeader) (command index flags : ℕ) where
     abbrev c : Command
     c = command_row number false set reply dump
 
-    unnamed : (f : Found) → named_otherwise g absent box.roll f ≡ false
+    unnamed : (f : Option ℕ) → named_otherwise g absent box.roll f ≡ false
     unfolding named_otherwise
-    unnamed F.Nothing = refl
-    unnamed (F.At k) = refl
+    unnamed None = refl
+    unnamed (Some k) = refl
 
     ports-pass : Done ≡ first_kind Done (port_checks g box.roll false (found 24 40) (record { index = found 28 32; name = absent; flags = found 36 40 }) ++ [])
     unfolding port_checks named_port_checks
@@ -205,13 +204,13 @@ module _ (h : MessageHeader) (command index flags : ℕ) where
         (row _ _ _ (ap (λ (x : ℕ). no_port (found_by_index box.roll x)) (index_is small) ∙ known)
         (row _ _ _ refl (row _ _ _ (unnamed _) (no_more Done))))))
 
-    levels-pass : Done ≡ first_kind Done (level_checks box g false (Listed c) (record { header = found 24 40; bitset = absent }))
+    levels-pass : Done ≡ first_kind Done (level_checks box g false (Some (OfSet c)) (record { header = found 24 40; bitset = absent }))
     unfolding level_checks top_checks header_checks header_parts is_set set_in
     levels-pass =
         rw header-walk
         (row _ _ _ refl (row _ _ _ refl (whole_row _ _ refl ports-pass)))
 
-    message-passes : Done ≡ first_kind Done (command_checks box call g (message_header g 0) (Listed c))
+    message-passes : Done ≡ first_kind Done (command_checks box call g (message_header g 0) (Some (OfSet c)))
     unfolding command_checks admission_checks top_parts unlisted is_set is_strset
     message-passes =
         rw (asks-one, top-walk)

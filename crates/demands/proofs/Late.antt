@@ -23,7 +23,6 @@ use Rattle.refusal.specs.declared.Refusal.{Refusal}
 use Rattle.boxes.specs.Box.{Box}
 use Rattle.boxes.specs.declared.Call.{Call}
 use Rattle.admission.specs.Commands.{command_of}
-use Rattle.admission.specs.declared.commands.CommandRead.{CommandRead}
 use Rattle.request.specs.declared.parts.TopParts.{TopParts}
 use Rattle.demands.specs.Check.{Check, walks, FirstIs}
 use Rattle.demands.specs.Check.Check.{passes, skips}
@@ -35,6 +34,8 @@ use Rattle.demands.specs.Strset.{id_checks, each_set, sets_checks, strset_port_c
 use Rattle.demands.specs.Request.{is_set, is_strset, skip_if, admission_checks, top_checks, port_checks, header_checks, level_checks, command_checks, message_checks}
 use Rattle.demands.proofs.Rows.{Every, OfBitset, first-every, row, walk, choice, weaker, bitset-rows}
 use Rattle.demands.proofs.Rows.Every.{nothing, pass, skip}
+use Rattle.std.specs.Prelude.{Option}
+use Rattle.admission.specs.declared.commands.Listed.{Listed}
 
 -- a refusal of the table's later rows
 abbrev pub Late : Refusal → Type 0
@@ -52,7 +53,7 @@ bitset-late s from names = weaker OfBitset Late (λ why n. from-five (number_of 
     from-five n (walking l u) = omega arith
     from-five n (judging l u) = omega arith
 
-level-late : (box : Box) (m : List ℕ) (dump : Bool) (command : CommandRead) (parts : TopParts) → Every Late (level_checks box m dump command parts)
+level-late : (box : Box) (m : List ℕ) (dump : Bool) (command : Option Listed) (parts : TopParts) → Every Late (level_checks box m dump command parts)
 unfolding level_checks top_checks header_checks port_checks named_port_checks
 level-late box m dump command parts =
     row Late _ _ (omega arith)

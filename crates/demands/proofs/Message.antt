@@ -21,21 +21,11 @@ use Rattle.admission.specs.Admission.{is_dump, no_dump, not_permitted, permitted
 use Rattle.request.specs.Target.{target_of}
 use Rattle.admission.specs.Commands.{command_of}
 use Rattle.request.specs.Top.{top_of}
-use Rattle.admission.specs.declared.Admission.{Admission}
-use Rattle.admission.specs.declared.Admission.TheVariants as A
-use Rattle.request.specs.declared.target.TargetRead.{TargetRead}
-use Rattle.request.specs.declared.target.TargetRead.TheVariants as P
 use Rattle.admission.specs.declared.commands.Command.{Command}
-use Rattle.admission.specs.declared.commands.CommandRead.{CommandRead}
-use Rattle.admission.specs.declared.commands.CommandRead.TheVariants.{Listed, Strset, Unlisted}
 use Rattle.request.specs.declared.parts.TopParts.{TopParts}
-use Rattle.request.specs.declared.top.Top.{Top}
-use Rattle.request.specs.declared.top.Top.TheVariants as T
 use Rattle.response.specs.Answer.{Outcome, response_of, error_response, unchanged}
 use Rattle.strset_request.specs.Asked.{asked_of}
 use Rattle.strset_request.specs.declared.asked.Asked.{Asked}
-use Rattle.strset_request.specs.declared.asked.AskedRead.{AskedRead}
-use Rattle.strset_request.specs.declared.asked.AskedRead.TheVariants as Q
 use Rattle.strset.specs.Strset.{strset_content_in, strset_bytes, content_response, asked_response, strset_response}
 use Rattle.response.specs.declared.Kind.TheVariants.{Done}
 use Rattle.execute.specs.Execute.{request_of, get_bytes, reading_outcome, set_outcome, port_outcome, target_outcome, header_outcome, top_outcome, request_outcome}
@@ -45,78 +35,86 @@ use Rattle.demands.specs.CallCase.{MessageCase}
 use Rattle.demands.proofs.Named.{header-gives, dump-gives, dump-unnamed, one-named}
 use Rattle.demands.proofs.Request.{listed-dump, not-both}
 use Rattle.demands.specs.CallCase.MessageCase.{message_skipped, message_refused, get_done, dump_done, strset_done, set_done}
+use Rattle.std.specs.Prelude.{Option, Some, None, Result, Ok, Err}
+use Rattle.refusal.specs.declared.Refusal.{Refusal}
+use Rattle.request.specs.declared.target.Addressee.{Addressee}
+use Rattle.admission.specs.declared.commands.Listed.{Listed}
+use Rattle.admission.specs.declared.Admission.{Admission}
+use Rattle.admission.specs.declared.Admission.TheVariants as A
+use Rattle.request.specs.declared.target.Addressee.TheVariants as P
+use Rattle.admission.specs.declared.commands.Listed.TheVariants.{OfSet, Strset}
 
 -- a command that is admitted is listed, and is no SET that asks for a dump
-pub go-listed : (m : List ℕ) (h : MessageHeader) (family : ℕ) (admin : Bool) (command : Command) → admitted m h family admin ≡ A.Admitted command
-    → (command_of (byte_at m 16) ≡ Listed command) × (no_dump h command ≡ false)
+pub go-listed : (m : List ℕ) (h : MessageHeader) (family : ℕ) (admin : Bool) (command : Command) → admitted m h family admin ≡ Ok (A.Admitted command)
+    → (command_of (byte_at m 16) ≡ Some (OfSet command)) × (no_dump h command ≡ false)
 unfolding admitted permitted strset_permitted
 go-listed m h family admin command e =
     by (ltb h.kind 16 || eqb (h.flags % 2) 0) (not (eqb h.kind family)) (ltb (length m) 20) (command_of (byte_at m 16)) e
   where
-    admits : (a b : Bool) (c : Command) → no_dump h c ≡ a → cond a (A.Refused R.Dump) (cond b (A.Refused R.Permission) (A.Admitted c)) ≡ A.Admitted command
+    admits : (a b : Bool) (c : Command) → no_dump h c ≡ a → cond a (Err R.Dump) (cond b (Err R.Permission) (Ok (A.Admitted c))) ≡ Ok (A.Admitted command)
         → (c ≡ command) × (no_dump h command ≡ false)
     admits true b c q e = absurd (let z : ◌≡◌ {A = ℕ} 0 1 = cc in omega arith)
     admits false true c q e = absurd (let z : ◌≡◌ {A = ℕ} 0 1 = cc in omega arith)
     admits false false c q e = let same : c ≡ command = cc in (same, rw same at q)
 
-    strset-not : (t : Bool) → cond t (A.Refused R.Dump) A.Strset ≡ A.Admitted command → ⊥
+    strset-not : (t : Bool) → cond t (Err R.Dump) (Ok A.Strset) ≡ Ok (A.Admitted command) → ⊥
     strset-not true e = let z : ◌≡◌ {A = ℕ} 0 1 = cc in omega arith
     strset-not false e = let z : ◌≡◌ {A = ℕ} 0 1 = cc in omega arith
 
-    by : (a b c : Bool) (x : CommandRead)
-        → cond a A.Skipped (cond b (A.Refused R.Family) (cond c (A.Refused R.Short) (on_command x (strset_permitted h) (permitted h admin)))) ≡ A.Admitted command
-        → (x ≡ Listed command) × (no_dump h command ≡ false)
+    by : (a b c : Bool) (x : Option Listed)
+        → cond a (Ok A.Skipped) (cond b (Err R.Family) (cond c (Err R.Short) (on_command x (strset_permitted h) (permitted h admin)))) ≡ Ok (A.Admitted command)
+        → (x ≡ Some (OfSet command)) × (no_dump h command ≡ false)
     by true b c x e = absurd (let z : ◌≡◌ {A = ℕ} 0 1 = cc in omega arith)
     by false true c x e = absurd (let z : ◌≡◌ {A = ℕ} 0 1 = cc in omega arith)
     by false false true x e = absurd (let z : ◌≡◌ {A = ℕ} 0 1 = cc in omega arith)
-    by false false false Unlisted e = absurd (let z : ◌≡◌ {A = ℕ} 0 1 = cc in omega arith)
-    by false false false Strset e = absurd (strset-not (is_dump h) e)
-    by false false false (Listed c) e = let a = admits (no_dump h c) (not_permitted c admin) c refl e in (ap Listed a.0, a.1)
+    by false false false None e = absurd (let z : ◌≡◌ {A = ℕ} 0 1 = cc in omega arith)
+    by false false false (Some Strset) e = absurd (strset-not (is_dump h) e)
+    by false false false (Some (OfSet c)) e = let a = admits (no_dump h c) (not_permitted c admin) c refl e in (ap (λ (y : Command). Some (OfSet y)) a.0, a.1)
 
 -- a STRSET_GET that is admitted is no dump
-pub go-strset : (m : List ℕ) (h : MessageHeader) (family : ℕ) (admin : Bool) → admitted m h family admin ≡ A.Strset
-    → (command_of (byte_at m 16) ≡ Strset) × (is_dump h ≡ false)
+pub go-strset : (m : List ℕ) (h : MessageHeader) (family : ℕ) (admin : Bool) → admitted m h family admin ≡ Ok A.Strset
+    → (command_of (byte_at m 16) ≡ (Some Strset)) × (is_dump h ≡ false)
 unfolding admitted permitted strset_permitted
 go-strset m h family admin e =
     by (ltb h.kind 16 || eqb (h.flags % 2) 0) (not (eqb h.kind family)) (ltb (length m) 20) (command_of (byte_at m 16)) e
   where
-    strset : (t : Bool) → is_dump h ≡ t → cond t (A.Refused R.Dump) A.Strset ≡ A.Strset → is_dump h ≡ false
+    strset : (t : Bool) → is_dump h ≡ t → cond t (Err R.Dump) (Ok A.Strset) ≡ Ok A.Strset → is_dump h ≡ false
     strset true q e = absurd (let z : ◌≡◌ {A = ℕ} 0 1 = cc in omega arith)
     strset false q e = q
 
-    other : (a b : Bool) (c : Command) → cond a (A.Refused R.Dump) (cond b (A.Refused R.Permission) (A.Admitted c)) ≡ A.Strset → ⊥
+    other : (a b : Bool) (c : Command) → cond a (Err R.Dump) (cond b (Err R.Permission) (Ok (A.Admitted c))) ≡ Ok A.Strset → ⊥
     other true b c e = let z : ◌≡◌ {A = ℕ} 0 1 = cc in omega arith
     other false true c e = let z : ◌≡◌ {A = ℕ} 0 1 = cc in omega arith
     other false false c e = let z : ◌≡◌ {A = ℕ} 0 1 = cc in omega arith
 
-    by : (a b c : Bool) (x : CommandRead)
-        → cond a A.Skipped (cond b (A.Refused R.Family) (cond c (A.Refused R.Short) (on_command x (strset_permitted h) (permitted h admin)))) ≡ A.Strset
-        → (x ≡ Strset) × (is_dump h ≡ false)
+    by : (a b c : Bool) (x : Option Listed)
+        → cond a (Ok A.Skipped) (cond b (Err R.Family) (cond c (Err R.Short) (on_command x (strset_permitted h) (permitted h admin)))) ≡ Ok A.Strset
+        → (x ≡ (Some Strset)) × (is_dump h ≡ false)
     by true b c x e = absurd (let z : ◌≡◌ {A = ℕ} 0 1 = cc in omega arith)
     by false true c x e = absurd (let z : ◌≡◌ {A = ℕ} 0 1 = cc in omega arith)
     by false false true x e = absurd (let z : ◌≡◌ {A = ℕ} 0 1 = cc in omega arith)
-    by false false false Unlisted e = absurd (let z : ◌≡◌ {A = ℕ} 0 1 = cc in omega arith)
-    by false false false Strset e = (refl, strset (is_dump h) refl e)
-    by false false false (Listed c) e = absurd (other (no_dump h c) (not_permitted c admin) c e)
+    by false false false None e = absurd (let z : ◌≡◌ {A = ℕ} 0 1 = cc in omega arith)
+    by false false false (Some Strset) e = (refl, strset (is_dump h) refl e)
+    by false false false (Some (OfSet c)) e = absurd (other (no_dump h c) (not_permitted c admin) c e)
 
 module _ (box : Box) (state : State) (call : Call) (m : List ℕ) (h : MessageHeader) (next : ℕ) where
-  strset-case : admitted m h call.family (eqb call.admin 1) ≡ A.Strset → MessageCase box state call m h next (unchanged (strset_response box m h next) state)
+  strset-case : admitted m h call.family (eqb call.admin 1) ≡ Ok A.Strset → MessageCase box state call m h next (unchanged (strset_response box m h next) state)
   unfolding strset_response content_response
   strset-case admit =
       let l = go-strset m h call.family (eqb call.admin 1) admit in
       go l.0 l.1 (asked_of m box.roll) refl
     where
-      by : command_of (byte_at m 16) ≡ Strset → is_dump h ≡ false → (asked : Asked) → asked_of m box.roll ≡ Q.Asked asked
+      by : command_of (byte_at m 16) ≡ Some Strset → is_dump h ≡ false → (asked : Asked) → asked_of m box.roll ≡ Ok asked
           → (t : Bool) → ltb 32768 (length (strset_bytes m h (strset_content_in box asked))) ≡ t
           → MessageCase box state call m h next
           (unchanged (cond t (error_response m next R.LongReply) (response_of Done next (strset_bytes m h (strset_content_in box asked)))) state)
       by listed one asked q true e = message_refused R.LongReply refl
       by listed one asked q false e = strset_done one listed asked q (ltb-false 32768 (length (strset_bytes m h (strset_content_in box asked))) e) refl
 
-      go : command_of (byte_at m 16) ≡ Strset → is_dump h ≡ false → (x : AskedRead) → asked_of m box.roll ≡ x
+      go : command_of (byte_at m 16) ≡ Some Strset → is_dump h ≡ false → (x : Result Asked Refusal) → asked_of m box.roll ≡ x
           → MessageCase box state call m h next (unchanged (asked_response x box m h next) state)
-      go listed one (Q.Refused why) q = message_refused why refl
-      go listed one (Q.Asked asked) q = by listed one asked q (ltb 32768 (length (strset_bytes m h (strset_content_in box asked)))) refl
+      go listed one (Err why) q = message_refused why refl
+      go listed one (Ok asked) q = by listed one asked q (ltb 32768 (length (strset_bytes m h (strset_content_in box asked)))) refl
 
   module _ (one : is_dump h ≡ false) (n : Named box.roll m) where
     set-case : n.command.change ≡ true → MessageCase box state call m h next (set_outcome box state m (request_of call h next n.command) n.parts.bitset n.target.position)
@@ -140,22 +138,22 @@ module _ (box : Box) (state : State) (call : Call) (m : List ℕ) (h : MessageHe
         go true e = set-case e
         go false e = get_done one n e refl
 
-  module _ (command : Command) (listed : command_of (byte_at m 16) ≡ Listed command) (may : no_dump h command ≡ false) where
+  module _ (command : Command) (listed : command_of (byte_at m 16) ≡ Some (OfSet command)) (may : no_dump h command ≡ false) where
     -- a dump is of a GET
     dump-get : is_dump h ≡ true → command.change ≡ false
     unfolding no_dump
     dump-get d = sym (listed-dump (byte_at m 16) command listed) ∙ not-both (is_dump h) (not command.dump) may d
 
-    header-case : (parts : TopParts) → top_of m command.change ≡ T.Nests parts
+    header-case : (parts : TopParts) → top_of m command.change ≡ Ok parts
         → MessageCase box state call m h next (header_outcome box state m (request_of call h next command) parts)
     unfolding header_outcome
     header-case parts nests = go (is_dump h) refl (target_of m parts.header (is_dump h) box.roll) refl
       where
-        go : (d : Bool) → is_dump h ≡ d → (a : TargetRead) → target_of m parts.header d box.roll ≡ a → MessageCase box state call m h next (target_outcome a box state m (request_of call h next command) (port_outcome box state m (request_of call h next command) parts.bitset))
-        go d q (P.Refused why) e = message_refused why refl
-        go false q (P.Unnamed flags) e = absurd (one-named box.roll m parts.header flags e)
-        go true q (P.Port target) e = absurd (dump-unnamed box.roll m parts.header target e)
-        go true q (P.Unnamed flags) e =
+        go : (d : Bool) → is_dump h ≡ d → (a : Result Addressee Refusal) → target_of m parts.header d box.roll ≡ a → MessageCase box state call m h next (target_outcome a box state m (request_of call h next command) (port_outcome box state m (request_of call h next command) parts.bitset))
+        go d q (Err why) e = message_refused why refl
+        go false q (Ok (P.Unnamed flags)) e = absurd (one-named box.roll m parts.header flags e)
+        go true q (Ok (P.Port target)) e = absurd (dump-unnamed box.roll m parts.header target e)
+        go true q (Ok (P.Unnamed flags)) e =
             let given = dump-gives box.roll m parts.header flags e in
             dump_done q
             (record {
@@ -173,7 +171,7 @@ module _ (box : Box) (state : State) (call : Call) (m : List ℕ) (h : MessageHe
               no_name = given.no_name;
             })
             refl
-        go false q (P.Port target) e =
+        go false q (Ok (P.Port target)) e =
             let given = header-gives box.roll m parts.header target e in
             port-outcome-case q
             (record {
@@ -193,17 +191,17 @@ module _ (box : Box) (state : State) (call : Call) (m : List ℕ) (h : MessageHe
     unfolding request_outcome
     request-case = go (top_of m command.change) refl
       where
-        go : (t : Top) → top_of m command.change ≡ t → MessageCase box state call m h next (top_outcome t state m (request_of call h next command) (header_outcome box state m (request_of call h next command)))
-        go (T.Refused why) e = message_refused why refl
-        go (T.Nests parts) e = header-case parts e
+        go : (t : Result TopParts Refusal) → top_of m command.change ≡ t → MessageCase box state call m h next (top_outcome t state m (request_of call h next command) (header_outcome box state m (request_of call h next command)))
+        go (Err why) e = message_refused why refl
+        go (Ok parts) e = header-case parts e
 
   pub message-case : MessageCase box state call m h next (message_outcome box state call m h next)
   unfolding message_outcome
   message-case = go (admitted m h call.family (eqb call.admin 1)) refl
     where
-      go : (a : Admission) → admitted m h call.family (eqb call.admin 1) ≡ a
+      go : (a : Result Admission Refusal) → admitted m h call.family (eqb call.admin 1) ≡ a
           → MessageCase box state call m h next (on_admission a box state call m h next)
-      go A.Skipped e = message_skipped refl
-      go (A.Refused why) e = message_refused why refl
-      go A.Strset e = strset-case e
-      go (A.Admitted command) e = let l = go-listed m h call.family (eqb call.admin 1) command e in request-case command l.0 l.1
+      go (Ok A.Skipped) e = message_skipped refl
+      go (Err why) e = message_refused why refl
+      go (Ok A.Strset) e = strset-case e
+      go (Ok (A.Admitted command)) e = let l = go-listed m h call.family (eqb call.admin 1) command e in request-case command l.0 l.1

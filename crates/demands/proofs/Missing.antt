@@ -16,8 +16,8 @@ use Rattle.basics.proofs.Truth.{clash}
 use Rattle.roll.specs.Name.{holds_name}
 use Rattle.roll.specs.Record.{port_count, port_at, index_of, name_of}
 use Rattle.roll.specs.Find.{has_index, has_name, find_port, found_by_index, found_by_name}
-use Rattle.roll.specs.declared.find.Found.TheVariants as F
 use Rattle.demands.specs.PortChecks.{no_port}
+use Rattle.std.specs.Prelude.{Some, None}
 
 module _ (f : ℕ → Bool) where
   -- the first number of which f holds is at most the bound
@@ -49,7 +49,7 @@ module _ (f : ℕ → Bool) where
   unfolding find_port no_port
   none_found n e k l = go (ltb (first n f) n) refl e
     where
-      go : (t : Bool) → ltb (first n f) n ≡ t → no_port (cond t (F.At (first n f)) F.Nothing) ≡ true → f k ≡ false
+      go : (t : Bool) → ltb (first n f) n ≡ t → no_port (cond t (Some (first n f)) None) ≡ true → f k ≡ false
       go true et e = absurd (clash e refl)
       go false et e = let x = ltb-false (first n f) n et in let y = first-le n in none_passed n k (omega arith) l
 

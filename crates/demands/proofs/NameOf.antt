@@ -1,4 +1,5 @@
 -- The name of an entry in plain bytes, and the search for it.
+use Rattle.std.specs.Prelude.{Some}
 use Prim.Native.Nat.{ℕ}
 use mathlib.Core.Path.{◌≡◌, sym, ◌∙◌}
 use mathlib.Core.List.{List}
@@ -15,15 +16,15 @@ use Rattle.demands.specs.Says.{IsNameOf}
 
 module _ (names name : List ℕ) where
   -- what is found is the name of the entry
-  pub found-names : (lookup names name).found ≡ true → IsNameOf names (lookup names name).bit name
-  found-names h =
-      let f = lookup-found names name h in
-      let n = lookup-named names name h in
+  pub found-names : (k : ℕ) → (lookup names name).bit ≡ Some k → IsNameOf names k name
+  found-names k h =
+      let f = lookup-found names name k h in
+      let n = lookup-named names name k h in
       record {
         inside = f.0;
         some = n.0;
         short = n.1;
-        bytes = λ j l. sym (entry-byte names (lookup names name).bit f.0 j l) ∙ same_bytes (entry_at names (lookup names name).bit) name j f.1 l;
+        bytes = λ j l. sym (entry-byte names k f.0 j l) ∙ same_bytes (entry_at names k) name j f.1 l;
       }
 
   -- in a list that breaks no rule the name of an entry is found there

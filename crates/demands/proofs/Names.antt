@@ -21,20 +21,17 @@ use Rattle.layout.specs.declared.Set.{Set}
 use Rattle.layout.specs.declared.Set.TheVariants.{Debug, Flags}
 use Rattle.strset_request.specs.Policies.{string_sets_policy, string_set_policy}
 use Rattle.strset_request.specs.Set.{id_of, set_of_id, id_judged, set_reading}
-use Rattle.strset_request.specs.List.{same_set, with_asked, on_set, sets_reading, nest_reading, list_reading}
-use Rattle.roll.specs.declared.find.Found.{Found}
-use Rattle.strset_request.specs.Asked.{is_named, or_default, with_sets}
+use Rattle.strset_request.specs.List.{same_set, with_asked, sets_reading, nest_reading, list_reading}
+use Rattle.strset_request.specs.Asked.{or_default, with_sets}
 use Rattle.strset_request.specs.declared.asked.Asked.{Asked}
-use Rattle.strset_request.specs.declared.asked.AskedRead.TheVariants as A
-use Rattle.strset_request.specs.declared.set.SetRead.{SetRead}
-use Rattle.strset_request.specs.declared.set.SetRead.TheVariants as S
 use Rattle.strset_request.specs.declared.list.Sets.{Sets}
 use Rattle.strset_request.specs.declared.list.Sets.TheVariants.{Nothing, One, Both}
-use Rattle.strset_request.specs.declared.list.SetsRead.{SetsRead}
-use Rattle.strset_request.specs.declared.list.SetsRead.TheVariants as L
 use Rattle.strset_reply.specs.Sets.{other_set}
 use Rattle.read_back.specs.Strset.{set_owed, sets_owed}
 use Rattle.demands.specs.Names.{ids_in, ids_of, without, once, ids_owed, list_with, set_with, sets_with}
+use Rattle.std.specs.Prelude.{Option, Result, Ok, Err, is_some}
+use Rattle.refusal.specs.declared.Refusal.{Refusal}
+use Rattle.basics.specs.Results.{and_then}
 
 -- the ids of some sets, in order
 ids_asked : Sets → List ℕ
@@ -85,7 +82,7 @@ more (Both Flags) Debug ids = ap (λ (l : List ℕ). 2 ∷ 10 ∷ without 2 l) (
 more (Both Flags) Flags ids = ap (λ (l : List ℕ). 2 ∷ 10 ∷ l) (without-swap 2 10 (without 2 ids) ∙ ap (without 10) (without-twice 2 ids) ∙ without-swap 10 2 ids)
 
 -- the id of a STRINGSET that is read as a set
-set-id : (s : List ℕ) (from : ℕ) (named : Bool) (set : Set) → set_reading s from named ≡ S.Set set
+set-id : (s : List ℕ) (from : ℕ) (named : Bool) (set : Set) → set_reading s from named ≡ Ok set
     → slot_number s (last_of_type 1 absent (attributes s from)) ≡ id_of set
 unfolding set_reading id_judged set_of_id
 set-id s from named set = go (walked string_set_policy s from).stop refl
@@ -94,7 +91,7 @@ set-id s from named set = go (walked string_set_policy s from).stop refl
     slot = get_or (walked string_set_policy s from).slots 1 absent
 
     by : (p : Bool) (d f n : Bool) (id : ℕ) → eqb id (id_of Debug) ≡ d → eqb id (id_of Flags) ≡ f
-        → cond (not p) (S.Refused (R.MissingIn 1 (from - 4))) (cond d (S.Set Debug) (cond (f && n) (S.Set Flags) (S.Refused (R.NotOffered (slot.start - 4))))) ≡ S.Set set
+        → cond (not p) (Err (R.MissingIn 1 (from - 4))) (cond d (Ok Debug) (cond (f && n) (Ok Flags) (Err (R.NotOffered (slot.start - 4))))) ≡ Ok set
         → id ≡ id_of set
     by false d f n id ed ef e = absurd (let z : ◌≡◌ {A = ℕ} 0 1 = cc in omega arith)
     by true true f n id ed ef e = let q : Debug ≡ set = cc in eqb-true id (id_of Debug) ed ∙ ap id_of q
@@ -103,11 +100,11 @@ set-id s from named set = go (walked string_set_policy s from).stop refl
     by true false false n id ed ef e = absurd (let z : ◌≡◌ {A = ℕ} 0 1 = cc in omega arith)
 
     go : (t : Stop) → (walked string_set_policy s from).stop ≡ t
-        → on_stop t S.Refused
-        (cond (not slot.present) (S.Refused (R.MissingIn 1 (from - 4)))
-        (cond (eqb (slot_number s slot) (id_of Debug)) (S.Set Debug)
-        (cond (eqb (slot_number s slot) (id_of Flags) && named) (S.Set Flags) (S.Refused (R.NotOffered (slot.start - 4))))))
-        ≡ S.Set set
+        → on_stop t Err
+        (cond (not slot.present) (Err (R.MissingIn 1 (from - 4)))
+        (cond (eqb (slot_number s slot) (id_of Debug)) (Ok Debug)
+        (cond (eqb (slot_number s slot) (id_of Flags) && named) (Ok Flags) (Err (R.NotOffered (slot.start - 4))))))
+        ≡ Ok set
         → slot_number s (last_of_type 1 absent (attributes s from)) ≡ id_of set
     go (At fault at) w e = absurd (let z : ◌≡◌ {A = ℕ} 0 1 = cc in omega arith)
     go Whole w e =
@@ -121,11 +118,11 @@ none_left Nothing = refl
 none_left (One set) = refl
 none_left (Both first) = refl
 
-listed_same : (x y : Sets) → L.Listed x ≡ L.Listed y → x ≡ y
+listed_same : (x y : Sets) → ◌≡◌ {A = Result Sets Refusal} (Ok x) (Ok y) → x ≡ y
 listed_same x y e = cc
 
 -- the STRINGSETs one after the other
-sets-ids : (s : List ℕ) (named : Bool) (sets : Sets) (xs : Attributes) (all : Sets) → sets_reading s named sets xs ≡ L.Listed all
+sets-ids : (s : List ℕ) (named : Bool) (sets : Sets) (xs : Attributes) (all : Sets) → sets_reading s named sets xs ≡ Ok all
     → ids_asked all ≡ ids_asked sets ++ left sets (once (ids_in s xs))
 unfolding sets_reading ids_in once
 sets-ids s named sets done all e = sym (ap ids_asked (listed_same sets all e)) ∙ none_left sets
@@ -133,34 +130,34 @@ sets-ids s named sets (broken at) all e = sym (ap ids_asked (listed_same sets al
 sets-ids s named sets (attribute k b a e rest) all q =
     go (set_reading (part_of s 0 e) a named) refl q (λ next r. sets-ids s named next rest all r)
   where
-    go : (v : SetRead) → set_reading (part_of s 0 e) a named ≡ v → on_set v (λ set. sets_reading s named (with_asked sets set) rest) ≡ L.Listed all
-        → ((next : Sets) → sets_reading s named next rest ≡ L.Listed all → ids_asked all ≡ ids_asked next ++ left next (once (ids_in s rest)))
+    go : (v : Result Set Refusal) → set_reading (part_of s 0 e) a named ≡ v → and_then v (λ set. sets_reading s named (with_asked sets set) rest) ≡ Ok all
+        → ((next : Sets) → sets_reading s named next rest ≡ Ok all → ids_asked all ≡ ids_asked next ++ left next (once (ids_in s rest)))
         → ids_asked all
         ≡ ids_asked sets
         ++ left sets
         (slot_number (part_of s 0 e) (last_of_type 1 absent (attributes (part_of s 0 e) a))
         ∷ without (slot_number (part_of s 0 e) (last_of_type 1 absent (attributes (part_of s 0 e) a))) (once (ids_in s rest)))
-    go (S.Refused why) v q others = absurd (let z : ◌≡◌ {A = ℕ} 0 1 = cc in omega arith)
-    go (S.Set set) v q others =
+    go (Err why) v q others = absurd (let z : ◌≡◌ {A = ℕ} 0 1 = cc in omega arith)
+    go (Ok set) v q others =
         others (with_asked sets set) q
         ∙ sym (more sets set (once (ids_in s rest)))
         ∙ ap (λ (x : ℕ). ids_asked sets ++ left sets (x ∷ without x (once (ids_in s rest)))) (sym (set-id (part_of s 0 e) a named set v))
 
 -- STRINGSETS
-list-ids : (m : List ℕ) (nest : Slot) (named : Bool) (all : Sets) → list_reading m nest named ≡ L.Listed all → ids_asked all ≡ once (ids_of m nest)
+list-ids : (m : List ℕ) (nest : Slot) (named : Bool) (all : Sets) → list_reading m nest named ≡ Ok all → ids_asked all ≡ once (ids_of m nest)
 unfolding list_reading nest_reading ids_of ids_asked left once
 list-ids m nest named all = go nest.present
   where
     s : List ℕ
     s = part_of m 0 nest.end
 
-    whole : (t : Stop) → on_stop t L.Refused (sets_reading s named Nothing (attributes s nest.start)) ≡ L.Listed all
+    whole : (t : Stop) → on_stop t Err (sets_reading s named Nothing (attributes s nest.start)) ≡ Ok all
         → ids_asked all ≡ once (ids_in s (attributes s nest.start))
     whole Whole e = sets-ids s named Nothing (attributes s nest.start) all e
     whole (At fault at) e = absurd (let z : ◌≡◌ {A = ℕ} 0 1 = cc in omega arith)
 
     go : (t : Bool)
-        → cond t (on_stop (walked string_sets_policy s nest.start).stop L.Refused (sets_reading s named Nothing (attributes s nest.start))) (L.Listed Nothing) ≡ L.Listed all
+        → cond t (on_stop (walked string_sets_policy s nest.start).stop Err (sets_reading s named Nothing (attributes s nest.start))) (Ok Nothing) ≡ Ok all
         → ids_asked all ≡ once (cond t (ids_in s (attributes s nest.start)) [])
     go true e = whole (walked string_sets_policy s nest.start).stop e
     go false e = sym (ap ids_asked (listed_same Nothing all e)) ∙ nothing-once
@@ -195,17 +192,17 @@ owed-sets counts names (One set) = rw (owed-set counts names set)
 owed-sets counts names (Both first) = rw (owed-set counts names first, owed-set counts names (other_set first))
 
 -- what STRINGSETS lists, or the default, for a port or for none
-pub sets-told : (m : List ℕ) (nest : Slot) (port : Found) (counts : Bool) (asked : Asked) → with_sets (list_reading m nest (is_named port)) port counts ≡ A.Asked asked → (names : Names)
-    → (asked.port ≡ port) × (sets_owed asked.counts names asked.sets ≡ sets_with counts names (ids_owed (is_named port) (ids_of m nest)))
-sets-told m nest port counts asked q names = listed (list_reading m nest (is_named port)) refl q
+pub sets-told : (m : List ℕ) (nest : Slot) (port : Option ℕ) (counts : Bool) (asked : Asked) → with_sets (list_reading m nest (is_some port)) port counts ≡ Ok asked → (names : Names)
+    → (asked.port ≡ port) × (sets_owed asked.counts names asked.sets ≡ sets_with counts names (ids_owed (is_some port) (ids_of m nest)))
+sets-told m nest port counts asked q names = listed (list_reading m nest (is_some port)) refl q
   where
-    listed : (l : SetsRead) → list_reading m nest (is_named port) ≡ l → with_sets l port counts ≡ A.Asked asked
-        → (asked.port ≡ port) × (sets_owed asked.counts names asked.sets ≡ sets_with counts names (ids_owed (is_named port) (ids_of m nest)))
-    listed (L.Refused why) e q = absurd (let z : ◌≡◌ {A = ℕ} 0 1 = cc in omega arith)
-    listed (L.Listed sets) e q =
-        let same : record { port = port; sets = or_default sets (is_named port); counts = counts } ≡ asked = cc in
+    listed : (l : Result Sets Refusal) → list_reading m nest (is_some port) ≡ l → with_sets l port counts ≡ Ok asked
+        → (asked.port ≡ port) × (sets_owed asked.counts names asked.sets ≡ sets_with counts names (ids_owed (is_some port) (ids_of m nest)))
+    listed (Err why) e q = absurd (let z : ◌≡◌ {A = ℕ} 0 1 = cc in omega arith)
+    listed (Ok sets) e q =
+        let same : record { port = port; sets = or_default sets (is_some port); counts = counts } ≡ asked = cc in
         rw (← same) (
           refl,
-          owed-sets counts names (or_default sets (is_named port))
-              ∙ ap (sets_with counts names) (default-ids sets (is_named port) (ids_of m nest) (list-ids m nest (is_named port) sets e)),
+          owed-sets counts names (or_default sets (is_some port))
+              ∙ ap (sets_with counts names) (default-ids sets (is_some port) (ids_of m nest) (list-ids m nest (is_some port) sets e)),
         )

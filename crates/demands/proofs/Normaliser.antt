@@ -34,16 +34,11 @@ use Rattle.boxes.specs.declared.Call.{Call}
 use Rattle.boxes.specs.Rule.{box_right}
 use Rattle.boxes.proofs.rule.Meaning.{box-means}
 use Rattle.admission.specs.Admission.{is_dump, no_dump, admitted}
-use Rattle.admission.specs.declared.Admission.{Admission}
-use Rattle.admission.specs.declared.Admission.TheVariants as A
 use Rattle.request.specs.Policies.{top_policy}
 use Rattle.request.specs.Parts.{top_parts}
 use Rattle.request.specs.Top.{nests_of, top_of}
 use Rattle.request.specs.declared.parts.TopParts.{TopParts}
-use Rattle.request.specs.declared.top.Top.{Top}
-use Rattle.request.specs.declared.top.Top.TheVariants as T
 use Rattle.request.specs.Target.{target_of}
-use Rattle.request.specs.declared.target.TargetRead.{TargetRead}
 use Rattle.response.specs.Answer.{Outcome, response_of, unchanged}
 use Rattle.response.specs.declared.Kind.TheVariants.{Done}
 use Rattle.execute.specs.declared.Request.{Request}
@@ -59,6 +54,11 @@ use Rattle.demands.proofs.Bitset.{kind_of}
 use Rattle.demands.proofs.Request.{kind, message-first, listed-dump}
 use Rattle.demands.proofs.Message.{go-listed}
 use Rattle.demands.proofs.CallCase.{call-case}
+use Rattle.std.specs.Prelude.{Result, Ok, Err}
+use Rattle.refusal.specs.declared.Refusal.{Refusal}
+use Rattle.request.specs.declared.target.Addressee.{Addressee}
+use Rattle.admission.specs.declared.Admission.{Admission}
+use Rattle.admission.specs.declared.Admission.TheVariants as A
 
 -- a part is no longer than the whole
 pub part-short : (s : List ℕ) (a e : ℕ) → length (part_of s a e) ≤ length s
@@ -80,13 +80,13 @@ module _ (roll m : List ℕ) (n : Named roll m) where
   unfolding top_of nests_of top_parts
   bitset-inside = go top.stop refl n.nests
     where
-      is-it : (a b : Bool) (parts : TopParts) → cond a (T.Refused (R.MissingTop 1)) (cond b (T.Refused (R.MissingTop 2)) (T.Nests parts)) ≡ T.Nests n.parts
+      is-it : (a b : Bool) (parts : TopParts) → cond a (Err (R.MissingTop 1)) (cond b (Err (R.MissingTop 2)) (Ok parts)) ≡ Ok n.parts
           → parts ≡ n.parts
       is-it true b parts e = absurd (let z : ◌≡◌ {A = ℕ} 0 1 = cc in omega arith)
       is-it false true parts e = absurd (let z : ◌≡◌ {A = ℕ} 0 1 = cc in omega arith)
       is-it false false parts e = cc
 
-      go : (t : Stop) → top.stop ≡ t → on_stop t T.Refused (nests_of n.command.change (top_parts top.slots)) ≡ T.Nests n.parts
+      go : (t : Stop) → top.stop ≡ t → on_stop t Err (nests_of n.command.change (top_parts top.slots)) ≡ Ok n.parts
           → (n.parts.bitset.start ≤ n.parts.bitset.end) × (n.parts.bitset.end ≤ length m)
       go (At fault at) w e = absurd (let z : ◌≡◌ {A = ℕ} 0 1 = cc in omega arith)
       go Whole w e =
@@ -144,7 +144,7 @@ module _ (box : Box) (state : State) (call : Call) (datagram : List ℕ) (room :
       reading = bitset_reading (part_of m 0 n.parts.bitset.end) n.parts.bitset.start (names_for box m n)
 
       -- a SET that is admitted, names a port and so comes to its bitset
-      module _ (change : n.command.change ≡ true) (admit : admitted m h call.family (eqb call.admin 1) ≡ A.Admitted n.command) where
+      module _ (change : n.command.change ≡ true) (admit : admitted m h call.family (eqb call.admin 1) ≡ Ok (A.Admitted n.command)) where
         -- it asks for no dump
         one : is_dump h ≡ false
         unfolding no_dump
@@ -160,10 +160,10 @@ module _ (box : Box) (state : State) (call : Call) (datagram : List ℕ) (room :
         set-kind : (next : ℕ) → kind (message_outcome box state call m h next) ≡ kind_of reading
         unfolding message_outcome request_outcome header_outcome port_outcome set_outcome
         set-kind next =
-            ap (λ (a : Admission). kind (on_admission a box state call m h next)) admit
-            ∙ ap (λ (t : Top). kind (top_outcome t state m request (header_outcome box state m request))) n.nests
+            ap (λ (a : Result Admission Refusal). kind (on_admission a box state call m h next)) admit
+            ∙ ap (λ (t : Result TopParts Refusal). kind (top_outcome t state m request (header_outcome box state m request))) n.nests
             ∙ ap (λ (d : Bool). kind (target_outcome (target_of m n.parts.header d box.roll) box state m request (port_outcome box state m request n.parts.bitset))) one
-            ∙ ap (λ (a : TargetRead). kind (target_outcome a box state m request (port_outcome box state m request n.parts.bitset))) n.found
+            ∙ ap (λ (a : Result Addressee Refusal). kind (target_outcome a box state m request (port_outcome box state m request n.parts.bitset))) n.found
             ∙ ap (λ (t : Bool). kind (cond t (set_outcome box state m request n.parts.bitset n.target.position) got)) change
             ∙ read-kind reading
           where

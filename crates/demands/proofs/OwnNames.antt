@@ -3,15 +3,19 @@
 --     set-own-names        of the bitset that a done SET of the exported handler carries out
 --     normal-own-names     of contents that the normaliser answers by 0
 --     name-tests           what 21 and 23 test, in plain bytes
+use Rattle.std.specs.Prelude.{Option, Some, Result, Ok, Err, is_none}
+use Rattle.std.specs.Prelude as O
+use Rattle.refusal.specs.declared.Refusal.{Refusal}
+use Rattle.bitset_bit.specs.declared.Bit.{Bit}
 use Prim.Native.Nat.{ℕ, ◌-◌}
-use mathlib.Core.Path.{◌≡◌, refl, sym, ap, ◌∙◌}
+use mathlib.Core.Path.{◌≡◌, refl, ap, ◌∙◌}
 use mathlib.Core.List.{List}
 use mathlib.Core.Bool.{Bool, true, false, not, cond}
 use lib.Dec.{eqb}
 use lib.ListN.{get_or}
 use mathlib.Core.Logic.{inl, inr}
 use native.Mathlib.Omega.{arith}
-use borrow.Author.Tests.{eq-eqb, ne_eqb, eqb-true, not-true, not-false}
+use borrow.Author.Tests.{eq-eqb, ne_eqb, eqb-true, not-false}
 use Rattle.basics.specs.Numbers.{byte_at, u32_at}
 use Rattle.basics.proofs.Truth.{clash, true_of}
 use Rattle.bits.specs.Change.{Listed}
@@ -35,13 +39,9 @@ use Rattle.bitset_form.specs.Bitset.{Bitset}
 use Rattle.bitset_form.specs.Bitset.Reading.{accepted}
 use Rattle.bitset_compact.specs.Compact.{compact_reading}
 use Rattle.bitset_bit.specs.Bit.{bit_reading}
-use Rattle.bitset_bit.specs.declared.BitRead.{BitRead}
-use Rattle.bitset_bit.specs.declared.BitRead.TheVariants as B
 use Rattle.bitset_list.specs.BitList.{ListReading, on_bit, bits_reading, as_bitset, list_reading}
 use Rattle.bitset_list.specs.BitList.ListReading.{list_refused, list_entries}
 use Rattle.bitset.specs.Judge.{mixed_at, on_mixing, bitset_parts_reading, bitset_reading}
-use Rattle.bitset.specs.declared.judge.Mixing.{Mixing}
-use Rattle.bitset.specs.declared.judge.Mixing.TheVariants.{At, Unmixed}
 use Rattle.normal.specs.Normal.{normalised}
 use Rattle.normal.proofs.Demand3.{accepted-exactly}
 use Rattle.normal.proofs.Fits.{never, pass-stop}
@@ -53,7 +53,7 @@ use Rattle.handler.specs.Bytes.{Stored, bytes_outcome}
 use Rattle.demands.specs.Call.{message_of}
 use Rattle.demands.specs.Request.{is_set}
 use Rattle.demands.specs.Stored.{DoneSetStored}
-use Rattle.demands.specs.Bitset.{unknown_name, two_bits}
+use Rattle.demands.specs.Bitset.{unknown_name, is_other, two_bits}
 use Rattle.demands.specs.BoxFault.{Exactly}
 use Rattle.demands.specs.Says.{payload_in, IsNameOf, Means}
 use Rattle.demands.specs.OwnNames.{Among, OwnName, BitOwnName, EachOwnName, ListOwnNames, OwnNames, RequestOwnNames, NameTests}
@@ -96,18 +96,18 @@ own_name s names from number whole means a e b z index name =
 -- the BITs of a list
 module _ (s names : List ℕ) where
   -- a BIT that stands before others, and those others, where all are read
-  bit-then : (v : BitRead) (x : ListReading) (es : List Listed) → on_bit v x ≡ list_entries es
-      → ((number : ℕ) × (on : Bool) × (v ≡ B.Bit number on)) × ((fs : List Listed) × (x ≡ list_entries fs))
-  bit-then (B.Refused r) x es e = absurd (let c : ◌≡◌ {A = ℕ} 0 1 = cc in omega arith)
-  bit-then (B.Bit number on) (list_refused r) es e = absurd (let c : ◌≡◌ {A = ℕ} 0 1 = cc in omega arith)
-  bit-then (B.Bit number on) (list_entries fs) es e = ((number, on, refl), (fs, refl))
+  bit-then : (v : Result Bit Refusal) (x : ListReading) (es : List Listed) → on_bit v x ≡ list_entries es
+      → ((b : Bit) × (v ≡ Ok b)) × ((fs : List Listed) × (x ≡ list_entries fs))
+  bit-then (Err r) x es e = absurd (let c : ◌≡◌ {A = ℕ} 0 1 = cc in omega arith)
+  bit-then (Ok b) (list_refused r) es e = absurd (let c : ◌≡◌ {A = ℕ} 0 1 = cc in omega arith)
+  bit-then (Ok b) (list_entries fs) es e = ((b, refl), (fs, refl))
 
   each-own-name : (start end : ℕ) {xs : Attributes} → Among start end xs → (es : List Listed) → bits_reading s names xs ≡ list_entries es → BitOwnName s names start end
   unfolding bits_reading
   each-own-name start end (first {kind} {bits} {rest}) es e =
       let read = (bit-then (bit_reading (part_of s 0 end) names start) (bits_reading s names rest) es e).0 in
-      let bit = bit-read s names start end read.0 read.1 read.2 in
-      own_name (part_of s 0 end) names start read.0 bit.0 bit.1
+      let bit = bit-read s names start end read.0 read.1 in
+      own_name (part_of s 0 end) names start read.0.number bit.0 bit.1
   each-own-name start end (later {kind} {bits} {a} {z} {rest} among) es e =
       let others = (bit-then (bit_reading (part_of s 0 z) names a) (bits_reading s names rest) es e).1 in
       each-own-name start end among others.0 others.1
@@ -137,11 +137,11 @@ accepted-own-names s from names b e there =
     parts : BitsetParts
     parts = bitset_parts (walked bitset_policy s from).slots
 
-    go : (m : Mixing) (t : Bool) → t ≡ true → on_mixing m (cond t (list_reading s names parts) (compact_reading s (from - 4) (count names) parts)) ≡ accepted b
+    go : (m : Option ℕ) (t : Bool) → t ≡ true → on_mixing m (cond t (list_reading s names parts) (compact_reading s (from - 4) (count names) parts)) ≡ accepted b
         → ListOwnNames s names parts
-    go (At at) t h e = absurd (never _ b e)
-    go Unmixed true h e = list-own-names s names parts b e
-    go Unmixed false h e = absurd (clash h refl)
+    go (Some at) t h e = absurd (never _ b e)
+    go O.None true h e = list-own-names s names parts b e
+    go O.None false h e = absurd (clash h refl)
 
 -- of a call of the exported handler
 module _ (box : Box) (stored : Stored) (call : Call) (datagram : List ℕ) (room : ℕ) where
@@ -167,23 +167,30 @@ module _ (s names : List ℕ) (right : names_right names ≡ true) (index name :
   unknown-exactly : Exactly (unknown_name s names name ≡ true) ((entry : ℕ) → IsNameOf names entry named → ⊥)
   unfolding unknown_name
   unknown-exactly = (
-    λ u entry is. clash (ap (λ (l : Lookup). l.found) (found-at entry is)) (not-true (lookup names named).found u),
-    λ none. true_of (not (lookup names named).found) (λ e. none (lookup names named).bit (found-names names named (not-false (lookup names named).found e))),
+    λ u entry is. clash u (ap (λ (l : Lookup). is_none l.bit) (found-at entry is)),
+    λ none. go none (lookup names named).bit refl,
   )
+    where
+      go : ((entry : ℕ) → IsNameOf names entry named → ⊥) → (o : Option ℕ) → (lookup names named).bit ≡ o → is_none (lookup names named).bit ≡ true
+      go none O.None e = ap is_none e
+      go none (Some k) e = absurd (none k (found-names names named k e))
 
   two-bits-exactly : unknown_name s names name ≡ false
       → Exactly (two_bits s names index name ≡ true) (IsNameOf names (slot_number s index) named → ⊥)
   unfolding unknown_name two_bits
   two-bits-exactly known = (
-    λ t is. clash (eq-eqb (slot_number s index) bit (sym (ap (λ (l : Lookup). l.bit) (found-at (slot_number s index) is)))) (not-true (eqb (slot_number s index) bit) t),
-    λ other. true_of (not (eqb (slot_number s index) bit)) (λ e. other (rw (eqb-true (slot_number s index) bit (not-false (eqb (slot_number s index) bit) e)) is_name)),
+    λ t is. clash t (ap (λ (l : Lookup). is_other number l.bit) (found-at number is) ∙ ap not (eq-eqb number number refl)),
+    λ other. go other (lookup names named).bit refl,
   )
     where
-      bit : ℕ
-      bit = (lookup names named).bit
+      number : ℕ
+      number = slot_number s index
 
-      is_name : IsNameOf names bit named
-      is_name = found-names names named (not-false (lookup names named).found known)
+      go : (IsNameOf names number named → ⊥) → (o : Option ℕ) → (lookup names named).bit ≡ o → is_other number (lookup names named).bit ≡ true
+      go other O.None e = absurd (clash (ap is_none e) known)
+      go other (Some k) e =
+          ap (is_other number) e
+          ∙ true_of (not (eqb number k)) (λ q. other (rw (eqb-true number k (not-false (eqb number k) q)) (found-names names named k e)))
 
   pub name-tests : NameTests s names index name
   name-tests = record { unknown = unknown-exactly; two-bits = two-bits-exactly }

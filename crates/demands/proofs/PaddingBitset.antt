@@ -3,6 +3,9 @@
 --     list_same          a bit list: BITS walked whole, then each BIT
 --     compact-same       a compact bitset
 --     bitset-same        the bitset
+use Rattle.std.specs.Prelude.{Result, Err}
+use Rattle.bitset_bit.specs.declared.Bit.{Bit}
+use Rattle.refusal.specs.declared.Refusal.{Refusal}
 use Prim.Native.Nat.{ℕ, zero, suc, ◌-◌}
 use mathlib.Core.Path.{◌≡◌, refl, sym, ap, ◌∙◌}
 use mathlib.Core.List.{List}
@@ -31,8 +34,6 @@ use Rattle.bitset_form.specs.declared.parts.BitParts.{BitParts}
 use Rattle.bitset_form.specs.Bitset.{Reading}
 use Rattle.bitset_form.specs.Bitset.Reading.{refused}
 use Rattle.bitset_bit.specs.Bit.{bit_by_index, bit_by_name, identified, bit_parts_reading, bit_reading}
-use Rattle.bitset_bit.specs.declared.BitRead.{BitRead}
-use Rattle.bitset_bit.specs.declared.BitRead.TheVariants as B
 use Rattle.bitset_bit.proofs.Laws.{by-walk}
 use Rattle.bitset_list.specs.BitList.{bits_reading, as_bitset, list_reading}
 use Rattle.bitset_compact.specs.Compact.{nomask_reading, masked_reading, compact_reading}
@@ -57,11 +58,11 @@ module _ (s t : List ℕ) (size : length s ≡ length t) (names : List ℕ) (fro
   unfolding bit_parts
   bit-same =
       let w = walked bit_policy s from in
-      let read : List ℕ → List Slot → BitRead = λ m slots. bit_parts_reading m names (from - 4) (bit_parts slots) in
+      let read : List ℕ → List Slot → Result Bit Refusal = λ m slots. bit_parts_reading m names (from - 4) (bit_parts slots) in
       by-walk t names from
-      ∙ ap (λ (x : Walked). on_walk x B.Refused (read t))
+      ∙ ap (λ (x : Walked). on_walk x Err (read t))
       (walked_same s t size (plain_payloads s t) bit_policy (λ kind start end q. same-judged s t (rule_of bit_policy kind) start end q) from agree)
-      ∙ on-whole w B.Refused (read t) (read s)
+      ∙ on-whole w Err (read t) (read s)
       (λ (whole : w.stop ≡ Whole).
       let slot = slot-agrees s t size (plain_payloads s t) bit_policy from agree whole in
       bit-parts-same (from - 4) (bit_parts w.slots) (slot 1 (omega arith)) (slot 2 (omega arith)))

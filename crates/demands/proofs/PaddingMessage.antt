@@ -32,22 +32,13 @@ use Rattle.boxes.specs.declared.Call.{Call}
 use Rattle.admission.specs.Admission.{is_dump, admitted}
 use Rattle.admission.specs.Commands.{command_row, command_in, command_of}
 use Rattle.admission.specs.declared.commands.Command.{Command}
-use Rattle.admission.specs.declared.commands.CommandRead.TheVariants as C
 use Rattle.layout.specs.declared.Set.TheVariants.{Debug, Flags}
 use Rattle.strset_request.specs.Asked.{asked_of}
-use Rattle.strset_request.specs.declared.asked.AskedRead.{AskedRead}
-use Rattle.strset_request.specs.declared.asked.AskedRead.TheVariants as Q
 use Rattle.strset.specs.Strset.{strset_bytes, content_response, asked_response, strset_response}
-use Rattle.admission.specs.declared.Admission.{Admission}
-use Rattle.admission.specs.declared.Admission.TheVariants as A
 use Rattle.request.specs.Top.{top_of}
 use Rattle.request.specs.Target.{target_of}
 use Rattle.request.specs.declared.parts.TopParts.{TopParts}
 use Rattle.request.specs.declared.target.Target.{Target}
-use Rattle.request.specs.declared.target.TargetRead.{TargetRead}
-use Rattle.request.specs.declared.target.TargetRead.TheVariants as G
-use Rattle.request.specs.declared.top.Top.{Top}
-use Rattle.request.specs.declared.top.Top.TheVariants as T
 use Rattle.response.specs.Answer.{Response, ack_bytes, error_response, unchanged}
 use Rattle.execute.specs.declared.Request.{Request}
 use Rattle.execute.specs.Execute.{request_of, port_reply, get_bytes, reading_outcome, set_outcome, port_outcome, target_outcome, header_outcome, top_outcome, request_outcome}
@@ -57,18 +48,25 @@ use Rattle.demands.proofs.PaddingWalk.{SlotAgrees}
 use Rattle.demands.proofs.Message.{go-listed, go-strset}
 use Rattle.demands.proofs.PaddingStrset.{asked-same}
 use Rattle.demands.proofs.PaddingRequest.{top_payloads, top-same, nests-agree, named-same, reading-same}
+use Rattle.std.specs.Prelude.{Some, None, Result, Ok, Err}
+use Rattle.strset_request.specs.declared.asked.Asked.{Asked}
+use Rattle.request.specs.declared.target.Addressee.{Addressee}
+use Rattle.admission.specs.declared.Admission.{Admission}
+use Rattle.admission.specs.declared.commands.Listed.TheVariants as C
+use Rattle.admission.specs.declared.Admission.TheVariants as A
+use Rattle.request.specs.declared.target.Addressee.TheVariants as G
 
 -- the number of STRSET_GET is 1, and of no other command
-strset-number : (n : ℕ) → command_of n ≡ C.Strset → n ≡ 1
+strset-number : (n : ℕ) → command_of n ≡ Some C.Strset → n ≡ 1
 unfolding command_of command_in
 strset-number n e = go (eqb 1 n) (eqb 7 n) (eqb 8 n) (eqb 13 n) (eqb 14 n) refl e
   where
     go : (z a b c d : Bool) → eqb 1 n ≡ z
-        → cond z C.Strset
-        (cond a (C.Listed (command_row 7 false Debug 7 true))
-        (cond b (C.Listed (command_row 8 true Debug 7 false))
-        (cond c (C.Listed (command_row 13 false Flags 14 true)) (cond d (C.Listed (command_row 14 true Flags 14 false)) C.Unlisted))))
-        ≡ C.Strset
+        → cond z (Some C.Strset)
+        (cond a (Some (C.OfSet (command_row 7 false Debug 7 true)))
+        (cond b (Some (C.OfSet (command_row 8 true Debug 7 false)))
+        (cond c (Some (C.OfSet (command_row 13 false Flags 14 true))) (cond d (Some (C.OfSet (command_row 14 true Flags 14 false))) None))))
+        ≡ Some C.Strset
         → n ≡ 1
     go true a b c d q e = sym (eqb-true 1 n q)
     go false true b c d q e = absurd (let z : ◌≡◌ {A = ℕ} 0 1 = cc in omega arith)
@@ -77,9 +75,9 @@ strset-number n e = go (eqb 1 n) (eqb 7 n) (eqb 8 n) (eqb 13 n) (eqb 14 n) refl 
     go false false false false true q e = absurd (let z : ◌≡◌ {A = ℕ} 0 1 = cc in omega arith)
     go false false false false false q e = absurd (let z : ◌≡◌ {A = ℕ} 0 1 = cc in omega arith)
 
-listed-number : (n : ℕ) (command : Command) → command_of n ≡ C.Listed command → n ≡ 1 → ⊥
+listed-number : (n : ℕ) (command : Command) → command_of n ≡ Some (C.OfSet command) → n ≡ 1 → ⊥
 unfolding command_of command_in
-listed-number n command e one = let q : C.Strset ≡ C.Listed command = rw one at e in let z : ◌≡◌ {A = ℕ} 0 1 = cc in omega arith
+listed-number n command e one = let q : (Some C.Strset) ≡ Some (C.OfSet command) = rw one at e in let z : ◌≡◌ {A = ℕ} 0 1 = cc in omega arith
 
 module _ (s t : List ℕ) (agree : MessagesAgree s t) where
   -- the two headers: all 20 bytes, or the whole message where it is shorter
@@ -130,12 +128,12 @@ module _ (s t : List ℕ) (agree : MessagesAgree s t) where
   strset-same : (box : Box) (h : MessageHeader) (next : ℕ) → byte_at s 16 ≡ 1 → strset_response box t h next ≡ strset_response box s h next
   unfolding strset_response content_response strset_bytes
   strset-same box h next e =
-      ap (λ (x : AskedRead). asked_response x box t h next) (asked-same s t agree.size (agree.names-agree e) box.roll)
+      ap (λ (x : Result Asked Refusal). asked_response x box t h next) (asked-same s t agree.size (agree.names-agree e) box.roll)
       ∙ go (asked_of s box.roll)
     where
-      go : (x : AskedRead) → asked_response x box t h next ≡ asked_response x box s h next
-      go (Q.Refused why) = rw (error-same (errno_of why) (detail_of why))
-      go (Q.Asked asked) = rw (ack-same h, error-same 90 Nothing)
+      go : (x : Result Asked Refusal) → asked_response x box t h next ≡ asked_response x box s h next
+      go (Err why) = rw (error-same (errno_of why) (detail_of why))
+      go (Ok asked) = rw (ack-same h, error-same 90 Nothing)
 
   -- an admitted request, level by level
   module _ (box : Box) (state : State) (request : Request) (other : byte_at s 16 ≡ 1 → ⊥) where
@@ -155,33 +153,33 @@ module _ (s t : List ℕ) (agree : MessagesAgree s t) where
     unfolding get_bytes port_reply
     get-same target = rw (ack-same request.header)
 
-    header-same : (parts : TopParts) → top_of s request.command.change ≡ T.Nests parts
+    header-same : (parts : TopParts) → top_of s request.command.change ≡ Ok parts
         → header_outcome box state t request parts ≡ header_outcome box state s request parts
     unfolding header_outcome port_outcome
     header-same parts e =
         let nests = nests-agree s t agree.size (agree.attributes-agree other) request.command.change parts e in
-        ap (λ (x : TargetRead). target_outcome x box state t request (port_outcome box state t request parts.bitset))
+        ap (λ (x : Result Addressee Refusal). target_outcome x box state t request (port_outcome box state t request parts.bitset))
         (named-same s t agree.size (agree.attributes-agree other) (is_dump request.header) box.roll nests.0 nests.1)
         ∙ go nests.2 (target_of s parts.header (is_dump request.header) box.roll)
       where
-        go : SlotAgrees s t (top_payloads s t) 2 parts.bitset → (x : TargetRead)
+        go : SlotAgrees s t (top_payloads s t) 2 parts.bitset → (x : Result Addressee Refusal)
             → target_outcome x box state t request (port_outcome box state t request parts.bitset)
             ≡ target_outcome x box state s request (port_outcome box state s request parts.bitset)
-        go a (G.Refused why) = refusal-same state request.next why
-        go a (G.Unnamed flags) = refl
-        go a (G.Port target) = rw (set_same parts.bitset target.position a, get-same target)
+        go a (Err why) = refusal-same state request.next why
+        go a (Ok (G.Unnamed flags)) = refl
+        go a (Ok (G.Port target)) = rw (set_same parts.bitset target.position a, get-same target)
 
     pub request-same : request_outcome box state t request ≡ request_outcome box state s request
     unfolding request_outcome
     request-same =
-        ap (λ (x : Top). top_outcome x state t request (header_outcome box state t request))
+        ap (λ (x : Result TopParts Refusal). top_outcome x state t request (header_outcome box state t request))
         (top-same s t agree.size (agree.attributes-agree other) request.command.change)
         ∙ go (top_of s request.command.change) refl
       where
-        go : (x : Top) → top_of s request.command.change ≡ x
+        go : (x : Result TopParts Refusal) → top_of s request.command.change ≡ x
             → top_outcome x state t request (header_outcome box state t request) ≡ top_outcome x state s request (header_outcome box state s request)
-        go (T.Refused why) e = refusal-same state request.next why
-        go (T.Nests parts) e = header-same parts e
+        go (Err why) e = refusal-same state request.next why
+        go (Ok parts) e = header-same parts e
 
   -- the message
   module _ (box : Box) (state : State) (call : Call) (h : MessageHeader) (next : ℕ) where
@@ -192,17 +190,17 @@ module _ (s t : List ℕ) (agree : MessagesAgree s t) where
     pub message-same : message_outcome box state call t h next ≡ message_outcome box state call s h next
     unfolding message_outcome
     message-same =
-        ap (λ (x : Admission). on_admission x box state call t h next) admitted-same
+        ap (λ (x : Result Admission Refusal). on_admission x box state call t h next) admitted-same
         ∙ go (admitted s h call.family (eqb call.admin 1)) refl
       where
-        strset-byte : admitted s h call.family (eqb call.admin 1) ≡ A.Strset → byte_at s 16 ≡ 1
+        strset-byte : admitted s h call.family (eqb call.admin 1) ≡ Ok A.Strset → byte_at s 16 ≡ 1
         strset-byte e = strset-number (byte_at s 16) (go-strset s h call.family (eqb call.admin 1) e).0
 
-        listed-byte : (command : Command) → admitted s h call.family (eqb call.admin 1) ≡ A.Admitted command → byte_at s 16 ≡ 1 → ⊥
+        listed-byte : (command : Command) → admitted s h call.family (eqb call.admin 1) ≡ Ok (A.Admitted command) → byte_at s 16 ≡ 1 → ⊥
         listed-byte command e = listed-number (byte_at s 16) command (go-listed s h call.family (eqb call.admin 1) command e).0
 
-        go : (x : Admission) → admitted s h call.family (eqb call.admin 1) ≡ x → on_admission x box state call t h next ≡ on_admission x box state call s h next
-        go A.Skipped e = refl
-        go (A.Refused why) e = refusal-same state next why
-        go A.Strset e = ap (λ (r : Response). unchanged r state) (strset-same box h next (strset-byte e))
-        go (A.Admitted command) e = request-same box state (request_of call h next command) (listed-byte command e)
+        go : (x : Result Admission Refusal) → admitted s h call.family (eqb call.admin 1) ≡ x → on_admission x box state call t h next ≡ on_admission x box state call s h next
+        go (Ok A.Skipped) e = refl
+        go (Err why) e = refusal-same state next why
+        go (Ok A.Strset) e = ap (λ (r : Response). unchanged r state) (strset-same box h next (strset-byte e))
+        go (Ok (A.Admitted command)) e = request-same box state (request_of call h next command) (listed-byte command e)

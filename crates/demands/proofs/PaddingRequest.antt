@@ -26,29 +26,28 @@ use Rattle.request.specs.Parts.{top_parts, header_parts}
 use Rattle.request.specs.Top.{nests_of, top_of}
 use Rattle.request.specs.Header.{flags_judged, parts_of, dump_parts_of, judged_parts, header_of}
 use Rattle.request.specs.Port.{other_name, port_by_index, port_by_name, port_of}
-use Rattle.request.specs.Target.{with_flags, on_header, target_of}
+use Rattle.request.specs.Target.{with_flags, target_of}
 use Rattle.request.specs.Optional.{gives_port, optional_header_of, optional_target_of}
 use Rattle.request.specs.declared.parts.HeaderParts.{HeaderParts}
 use Rattle.request.specs.declared.parts.TopParts.{TopParts}
-use Rattle.request.specs.declared.header.Header.{Header}
-use Rattle.request.specs.declared.header.Header.TheVariants as H
-use Rattle.request.specs.declared.port.PortRead.{PortRead}
-use Rattle.request.specs.declared.target.TargetRead.{TargetRead}
-use Rattle.request.specs.declared.target.TargetRead.TheVariants.{Unnamed}
-use Rattle.request.specs.declared.top.Top.TheVariants as T
 use Rattle.demands.specs.Padding.{SameBytes, Payloads, NestOf, PlainAgrees, BitsetAgrees, TopAgrees}
 use Rattle.demands.proofs.PaddingAttributes.{part_none, part-of-part, cut-long, part-long}
 use Rattle.demands.proofs.PaddingWalk.{JudgedAlike, nest-judged, unlisted-judged, nest-or, plain_payloads, same-judged, SlotAgrees, plain-number, walked_same, slot-agrees}
 use Rattle.demands.proofs.PaddingWalk.SlotAgrees.{none, some}
 use Rattle.demands.proofs.PaddingBitset.{bitset-same}
+use Rattle.std.specs.Prelude.{Result, Ok, Err}
+use Rattle.request.specs.declared.header.Header.{Header}
+use Rattle.request.specs.declared.target.Addressee.{Addressee}
+use Rattle.request.specs.declared.target.Addressee.TheVariants.{Unnamed}
+use Rattle.basics.specs.Results.{and_then}
 
 -- the port that the parts of a header name, or in a dump none
-abbrev named : List ℕ → Slot → Bool → List ℕ → HeaderParts → ℕ → TargetRead
-named m header dump roll parts flags = cond dump (Unnamed flags) (with_flags (port_of m header parts roll) flags)
+abbrev named : List ℕ → Slot → Bool → List ℕ → Header → Result Addressee Refusal
+named m header dump roll x = cond dump (Ok (Unnamed x.flags)) (with_flags (port_of m header x.parts roll) x.flags)
 
 -- the port that they name, if they name one
-abbrev optional : List ℕ → Slot → List ℕ → HeaderParts → ℕ → TargetRead
-optional m header roll parts flags = cond (gives_port parts) (with_flags (port_of m header parts roll) flags) (Unnamed flags)
+abbrev optional : List ℕ → Slot → List ℕ → Header → Result Addressee Refusal
+optional m header roll x = cond (gives_port x.parts) (with_flags (port_of m header x.parts roll) x.flags) (Ok (Unnamed x.flags))
 
 -- the parts of a header, whose flags and port are read where they stand in the message
 module _ (s t roll : List ℕ) (header : Slot) (p : HeaderParts)
@@ -63,19 +62,19 @@ module _ (s t roll : List ℕ) (header : Slot) (p : HeaderParts)
   number = slot_number s p.flags
 
   -- a refusal where a test holds, then 15
-  abbrev judge : Bool → Refusal → Bool → Header
-  judge a why b = cond a (H.Refused why) (cond b (H.Refused (R.HeaderFlag (p.flags.start - 4))) (H.Parts p number))
+  abbrev judge : Bool → Refusal → Bool → Result Header Refusal
+  judge a why b = cond a (Err why) (cond b (Err (R.HeaderFlag (p.flags.start - 4))) (Ok (record { parts = p; flags = number })))
 
-  parts_same : (nest : ℕ) (dump : Bool) → on_header (judged_parts t nest dump p) (named t header dump roll) ≡ on_header (judged_parts s nest dump p) (named s header dump roll)
+  parts_same : (nest : ℕ) (dump : Bool) → and_then (judged_parts t nest dump p) (named t header dump roll) ≡ and_then (judged_parts s nest dump p) (named s header dump roll)
   unfolding parts_of dump_parts_of flags_judged
   parts_same nest dump = rw (plain-number s t p.flags flags) (by dump)
     where
-      one : (a b : Bool) → on_header (judge a (R.NoPort nest) b) (named t header false roll) ≡ on_header (judge a (R.NoPort nest) b) (named s header false roll)
+      one : (a b : Bool) → and_then (judge a (R.NoPort nest) b) (named t header false roll) ≡ and_then (judge a (R.NoPort nest) b) (named s header false roll)
       one true b = refl
       one false true = refl
-      one false false = ap (λ (x : PortRead). with_flags x number) port-same
+      one false false = ap (λ (x : Result ℕ Refusal). with_flags x number) port-same
 
-      all : (a b : Bool) → on_header (judge a R.Dump b) (named t header true roll) ≡ on_header (judge a R.Dump b) (named s header true roll)
+      all : (a b : Bool) → and_then (judge a R.Dump b) (named t header true roll) ≡ and_then (judge a R.Dump b) (named s header true roll)
       all true b = refl
       all false true = refl
       all false false = refl
@@ -84,20 +83,20 @@ module _ (s t roll : List ℕ) (header : Slot) (p : HeaderParts)
       given = p.index.present || p.name.present
 
       by : (d : Bool)
-          → on_header (cond d (judge given R.Dump (ltb 3 number)) (judge (not given) (R.NoPort nest) (ltb 3 number))) (named t header d roll)
-          ≡ on_header (cond d (judge given R.Dump (ltb 3 number)) (judge (not given) (R.NoPort nest) (ltb 3 number))) (named s header d roll)
+          → and_then (cond d (judge given R.Dump (ltb 3 number)) (judge (not given) (R.NoPort nest) (ltb 3 number))) (named t header d roll)
+          ≡ and_then (cond d (judge given R.Dump (ltb 3 number)) (judge (not given) (R.NoPort nest) (ltb 3 number))) (named s header d roll)
       by true = all given (ltb 3 number)
       by false = one (not given) (ltb 3 number)
 
   -- where it may name no port
-  optional-parts-same : on_header (flags_judged t p) (optional t header roll) ≡ on_header (flags_judged s p) (optional s header roll)
+  optional-parts-same : and_then (flags_judged t p) (optional t header roll) ≡ and_then (flags_judged s p) (optional s header roll)
   unfolding flags_judged
   optional-parts-same = rw (plain-number s t p.flags flags) (by (ltb 3 number))
     where
-      by : (b : Bool) → on_header (cond b (H.Refused (R.HeaderFlag (p.flags.start - 4))) (H.Parts p number)) (optional t header roll)
-          ≡ on_header (cond b (H.Refused (R.HeaderFlag (p.flags.start - 4))) (H.Parts p number)) (optional s header roll)
+      by : (b : Bool) → and_then (cond b (Err (R.HeaderFlag (p.flags.start - 4))) (Ok (record { parts = p; flags = number }))) (optional t header roll)
+          ≡ and_then (cond b (Err (R.HeaderFlag (p.flags.start - 4))) (Ok (record { parts = p; flags = number }))) (optional s header roll)
       by true = refl
-      by false = ap (λ (x : PortRead). cond (gives_port p) (with_flags x number) (Unnamed number)) port-same
+      by false = ap (λ (x : Result ℕ Refusal). cond (gives_port p) (with_flags x number) (Ok (Unnamed number))) port-same
 
 -- the header nest, from a to e
 module _ (s t : List ℕ) (size : length s ≡ length t) (dump : Bool) (roll : List ℕ) (a e : ℕ) (inside : e ≤ length s)
@@ -119,7 +118,7 @@ module _ (s t : List ℕ) (size : length s ≡ length t) (dump : Bool) (roll : L
   unfolding target_of header_of header_parts
   target-same =
       let w = walked header_policy c a in
-      ap (λ (x : Walked). on_header (on_walk x H.Refused (λ slots. judged_parts t (a - 4) dump (header_parts slots))) (named t (found a e) dump roll))
+      ap (λ (x : Walked). and_then (on_walk x Err (λ slots. judged_parts t (a - 4) dump (header_parts slots))) (named t (found a e) dump roll))
       (walked_same c d (cut-long s t size e inside) (plain_payloads c d) header_policy
       (λ kind start end q. same-judged c d (rule_of header_policy kind) start end q) a agree)
       ∙ go w.stop (judged_parts t (a - 4) dump (header_parts w.slots)) (judged_parts s (a - 4) dump (header_parts w.slots))
@@ -128,8 +127,8 @@ module _ (s t : List ℕ) (size : length s ≡ length t) (dump : Bool) (roll : L
       parts_same s t roll (found a e) (header_parts w.slots)
       (in-message (slot 1 (omega arith))) (in-message (slot 2 (omega arith))) (in-message (slot 3 (omega arith))) (a - 4) dump)
     where
-      go : (x : Stop) (f g : Header) → (x ≡ Whole → on_header f (named t (found a e) dump roll) ≡ on_header g (named s (found a e) dump roll))
-          → on_header (on_stop x H.Refused f) (named t (found a e) dump roll) ≡ on_header (on_stop x H.Refused g) (named s (found a e) dump roll)
+      go : (x : Stop) (f g : Result Header Refusal) → (x ≡ Whole → and_then f (named t (found a e) dump roll) ≡ and_then g (named s (found a e) dump roll))
+          → and_then (on_stop x Err f) (named t (found a e) dump roll) ≡ and_then (on_stop x Err g) (named s (found a e) dump roll)
       go Whole f g q = q refl
       go (At fault at) f g q = refl
 
@@ -137,7 +136,7 @@ module _ (s t : List ℕ) (size : length s ≡ length t) (dump : Bool) (roll : L
   unfolding optional_target_of optional_header_of header_parts
   optional-same =
       let w = walked header_policy c a in
-      ap (λ (x : Walked). on_header (on_walk x H.Refused (λ slots. flags_judged t (header_parts slots))) (optional t (found a e) roll))
+      ap (λ (x : Walked). and_then (on_walk x Err (λ slots. flags_judged t (header_parts slots))) (optional t (found a e) roll))
       (walked_same c d (cut-long s t size e inside) (plain_payloads c d) header_policy
       (λ kind start end q. same-judged c d (rule_of header_policy kind) start end q) a agree)
       ∙ go w.stop (flags_judged t (header_parts w.slots)) (flags_judged s (header_parts w.slots))
@@ -146,8 +145,8 @@ module _ (s t : List ℕ) (size : length s ≡ length t) (dump : Bool) (roll : L
       optional-parts-same s t roll (found a e) (header_parts w.slots)
       (in-message (slot 1 (omega arith))) (in-message (slot 2 (omega arith))) (in-message (slot 3 (omega arith))))
     where
-      go : (x : Stop) (f g : Header) → (x ≡ Whole → on_header f (optional t (found a e) roll) ≡ on_header g (optional s (found a e) roll))
-          → on_header (on_stop x H.Refused f) (optional t (found a e) roll) ≡ on_header (on_stop x H.Refused g) (optional s (found a e) roll)
+      go : (x : Stop) (f g : Result Header Refusal) → (x ≡ Whole → and_then f (optional t (found a e) roll) ≡ and_then g (optional s (found a e) roll))
+          → and_then (on_stop x Err f) (optional t (found a e) roll) ≡ and_then (on_stop x Err g) (optional s (found a e) roll)
       go Whole f g q = q refl
       go (At fault at) f g q = refl
 
@@ -180,20 +179,20 @@ module _ (s t : List ℕ) (size : length s ≡ length t) (agree : TopAgrees s t)
 
   -- the nests that are found: a header stands there, and both agree
   module _ (change : Bool) (parts : TopParts) where
-    pub nests-agree : top_of s change ≡ T.Nests parts
+    pub nests-agree : top_of s change ≡ Ok parts
         → SlotAgrees s t (top_payloads s t) 1 parts.header × (parts.header.present ≡ true) × SlotAgrees s t (top_payloads s t) 2 parts.bitset
     unfolding top_of nests_of top_parts
     nests-agree = go (walked (top_policy change) s 20).stop refl
       where
         is-it : (present lacks : Bool) (p : TopParts) → p.header.present ≡ present
-            → cond (not present) (T.Refused (R.MissingTop 1)) (cond lacks (T.Refused (R.MissingTop 2)) (T.Nests p)) ≡ T.Nests parts
+            → cond (not present) (Err (R.MissingTop 1)) (cond lacks (Err (R.MissingTop 2)) (Ok p)) ≡ Ok parts
             → (p ≡ parts) × (p.header.present ≡ true)
         is-it false lacks p f e = absurd (let z : ◌≡◌ {A = ℕ} 0 1 = cc in omega arith)
         is-it true true p f e = absurd (let z : ◌≡◌ {A = ℕ} 0 1 = cc in omega arith)
         is-it true false p f e = (cc, f)
 
         go : (x : Stop) → (walked (top_policy change) s 20).stop ≡ x
-            → on_stop x T.Refused (nests_of change (top_parts (walked (top_policy change) s 20).slots)) ≡ T.Nests parts
+            → on_stop x Err (nests_of change (top_parts (walked (top_policy change) s 20).slots)) ≡ Ok parts
             → SlotAgrees s t (top_payloads s t) 1 parts.header × (parts.header.present ≡ true) × SlotAgrees s t (top_payloads s t) 2 parts.bitset
         go (At fault at) w e = absurd (let z : ◌≡◌ {A = ℕ} 0 1 = cc in omega arith)
         go Whole w e =

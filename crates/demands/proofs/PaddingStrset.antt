@@ -21,30 +21,27 @@ use Rattle.netlink.specs.declared.walk.Walked.{Walked}
 use Rattle.refusal.specs.Refusal.{on_stop, on_walk}
 use Rattle.refusal.specs.declared.Refusal.{Refusal}
 use Rattle.refusal.specs.declared.Refusal.TheVariants as R
-use Rattle.roll.specs.declared.find.Found.{Found}
 use Rattle.request.specs.Optional.{optional_target_of}
-use Rattle.request.specs.declared.target.TargetRead.{TargetRead}
-use Rattle.request.specs.declared.target.TargetRead.TheVariants as T
 use Rattle.strset_request.specs.Policies.{strset_policy, string_sets_policy, string_set_policy}
 use Rattle.strset_request.specs.Top.{strset_parts, with_header, strset_top_of}
 use Rattle.strset_request.specs.Set.{id_judged, set_reading}
-use Rattle.strset_request.specs.List.{with_asked, on_set, sets_reading, nest_reading, list_reading}
-use Rattle.strset_request.specs.Asked.{is_named, with_sets, on_target, sets_asked, on_top, asked_of}
+use Rattle.strset_request.specs.List.{with_asked, sets_reading, nest_reading, list_reading}
+use Rattle.strset_request.specs.Asked.{with_sets, on_target, sets_asked, asked_of}
 use Rattle.strset_request.specs.declared.top.StrsetParts.{StrsetParts}
-use Rattle.strset_request.specs.declared.top.StrsetTop.TheVariants as P
-use Rattle.strset_request.specs.declared.set.SetRead.{SetRead}
-use Rattle.strset_request.specs.declared.set.SetRead.TheVariants as S
 use Rattle.strset_request.specs.declared.list.Sets.{Sets}
 use Rattle.strset_request.specs.declared.list.Sets.TheVariants.{Nothing}
-use Rattle.strset_request.specs.declared.list.SetsRead.{SetsRead}
-use Rattle.strset_request.specs.declared.list.SetsRead.TheVariants as L
-use Rattle.strset_request.specs.declared.asked.AskedRead.{AskedRead}
 use Rattle.demands.specs.Padding.{SameBytes, Payloads, EachAgrees, NestOf, PlainAgrees, StringSetsAgree, StrsetAgrees}
 use Rattle.demands.proofs.PaddingAttributes.{cut-long, attributes-same}
 use Rattle.demands.proofs.PaddingWalk.{on-whole, JudgedAlike, nest-judged, nest-or, plain_payloads, same-judged, SlotAgrees, plain-slot, plain-number, walked_same, slot-agrees}
 use Rattle.demands.proofs.PaddingWalk.SlotAgrees.{none, some}
 use Rattle.demands.proofs.PaddingBitset.{bits-kind, bits_payloads, bits-judged}
 use Rattle.demands.proofs.PaddingRequest.{optional-same}
+use Rattle.std.specs.Prelude.{Option, Result, Ok, Err, is_some}
+use Rattle.layout.specs.declared.Set.{Set}
+use Rattle.strset_request.specs.declared.asked.Asked.{Asked}
+use Rattle.request.specs.declared.target.Addressee.{Addressee}
+use Rattle.request.specs.declared.target.Addressee.TheVariants as T
+use Rattle.basics.specs.Results.{and_then}
 
 -- one STRINGSET
 module _ (s t : List ℕ) (size : length s ≡ length t) (named : Bool) (from : ℕ) (agree : PlainAgrees s t from) where
@@ -56,10 +53,10 @@ module _ (s t : List ℕ) (size : length s ≡ length t) (named : Bool) (from : 
   unfolding set_reading
   set_same =
       let w = walked string_set_policy s from in
-      let read : List ℕ → List Slot → SetRead = λ m slots. id_judged m (from - 4) named (get_or slots 1 absent) in
-      ap (λ (x : Walked). on_walk x S.Refused (read t))
+      let read : List ℕ → List Slot → (Result Set Refusal) = λ m slots. id_judged m (from - 4) named (get_or slots 1 absent) in
+      ap (λ (x : Walked). on_walk x Err (read t))
       (walked_same s t size (plain_payloads s t) string_set_policy (λ kind start end q. same-judged s t (rule_of string_set_policy kind) start end q) from agree)
-      ∙ on-whole w S.Refused (read t) (read s)
+      ∙ on-whole w Err (read t) (read s)
       (λ (whole : w.stop ≡ Whole). id_same (get_or w.slots 1 absent) (slot-agrees s t size (plain_payloads s t) string_set_policy from agree whole 1 (omega arith)))
 
 -- STRINGSETS from a position on
@@ -70,23 +67,23 @@ module _ (s t : List ℕ) (size : length s ≡ length t) (named : Bool) where
   sets_same at done a p q sets = refl
   sets_same at (broken b) a p q sets = refl
   sets_same at (attribute k b start end rest) a (next right p) q sets =
-      ap (λ (x : SetRead). on_set x (λ set. sets_reading t named (with_asked sets set) rest))
+      ap (λ (x : Result Set Refusal). and_then x (λ set. sets_reading t named (with_asked sets set) rest))
       (set_same (part_of s 0 end) (part_of t 0 end) (cut-long s t size end a.3) named start (q.1.0 (bits-kind k b (part_of s start end) right)))
       ∙ go (set_reading (part_of s 0 end) start named) (λ more. sets_same a.5.0 rest a.5.3 p q.2 more)
     where
-      go : (x : SetRead) → ((more : Sets) → sets_reading t named more rest ≡ sets_reading s named more rest)
-          → on_set x (λ set. sets_reading t named (with_asked sets set) rest) ≡ on_set x (λ set. sets_reading s named (with_asked sets set) rest)
-      go (S.Refused why) f = refl
-      go (S.Set set) f = f (with_asked sets set)
+      go : (x : Result Set Refusal) → ((more : Sets) → sets_reading t named more rest ≡ sets_reading s named more rest)
+          → and_then x (λ set. sets_reading t named (with_asked sets set) rest) ≡ and_then x (λ set. sets_reading s named (with_asked sets set) rest)
+      go (Err why) f = refl
+      go (Ok set) f = f (with_asked sets set)
 
   nest-at-same : (from : ℕ) → StringSetsAgree s t from
-      → on_stop (walked string_sets_policy t from).stop L.Refused (sets_reading t named Nothing (attributes t from))
-      ≡ on_stop (walked string_sets_policy s from).stop L.Refused (sets_reading s named Nothing (attributes s from))
+      → on_stop (walked string_sets_policy t from).stop Err (sets_reading t named Nothing (attributes t from))
+      ≡ on_stop (walked string_sets_policy s from).stop Err (sets_reading s named Nothing (attributes s from))
   nest-at-same from agree =
       let w = walked string_sets_policy s from in
-      let read : List ℕ → SetsRead = λ m. sets_reading m named Nothing (attributes m from) in
-      ap (λ (x : Walked). on_stop x.stop L.Refused (read t)) (walked_same s t size (bits_payloads s t) string_sets_policy (bits-judged s t size s) from agree)
-      ∙ on-whole w L.Refused (λ slots. read t) (λ slots. read s)
+      let read : List ℕ → (Result Sets Refusal) = λ m. sets_reading m named Nothing (attributes m from) in
+      ap (λ (x : Walked). on_stop x.stop Err (read t)) (walked_same s t size (bits_payloads s t) string_sets_policy (bits-judged s t size s) from agree)
+      ∙ on-whole w Err (λ slots. read t) (λ slots. read s)
       (λ (whole : w.stop ≡ Whole).
       let passed = whole-passed string_sets_policy s (attributes s from) (sym (stop_is string_sets_policy s from) ∙ whole) in
       ap (λ (xs : Attributes). sets_reading t named Nothing xs) (attributes-same s t size (bits_payloads s t) from agree)
@@ -113,15 +110,15 @@ module _ (s t : List ℕ) (size : length s ≡ length t) (agree : StrsetAgrees s
   list_same named none = refl
   list_same named (some a e l u q) = nest-at-same (part_of s 0 e) (part_of t 0 e) (cut-long s t size e u) named a ((q.1 (λ k. omega arith)).0 refl)
 
-  sets-asked-same : (parts : StrsetParts) → SlotAgrees s t (names_payloads s t) 2 parts.sets → (port : Found) → sets_asked t parts port ≡ sets_asked s parts port
+  sets-asked-same : (parts : StrsetParts) → SlotAgrees s t (names_payloads s t) 2 parts.sets → (port : Option ℕ) → sets_asked t parts port ≡ sets_asked s parts port
   unfolding sets_asked
-  sets-asked-same parts a port = ap (λ (l : SetsRead). with_sets l port parts.counts.present) (list_same (is_named port) a)
+  sets-asked-same parts a port = ap (λ (l : Result Sets Refusal). with_sets l port parts.counts.present) (list_same (is_some port) a)
 
-  target-asked-same : (parts : StrsetParts) (roll : List ℕ) → SlotAgrees s t (names_payloads s t) 2 parts.sets → (x : TargetRead)
+  target-asked-same : (parts : StrsetParts) (roll : List ℕ) → SlotAgrees s t (names_payloads s t) 2 parts.sets → (x : Result Addressee Refusal)
       → on_target x (sets_asked t parts) ≡ on_target x (sets_asked s parts)
-  target-asked-same parts roll a (T.Refused why) = refl
-  target-asked-same parts roll a (T.Unnamed flags) = sets-asked-same parts a _
-  target-asked-same parts roll a (T.Port target) = sets-asked-same parts a _
+  target-asked-same parts roll a (Err why) = refl
+  target-asked-same parts roll a (Ok (T.Unnamed flags)) = sets-asked-same parts a _
+  target-asked-same parts roll a (Ok (T.Port target)) = sets-asked-same parts a _
 
   header-asked-same : (parts : StrsetParts) (roll : List ℕ) {slot : Slot} → SlotAgrees s t (names_payloads s t) 1 slot → slot.present ≡ true
       → optional_target_of t slot roll ≡ optional_target_of s slot roll
@@ -132,8 +129,8 @@ module _ (s t : List ℕ) (size : length s ≡ length t) (agree : StrsetAgrees s
   unfolding asked_of strset_top_of with_header strset_parts
   asked-same roll =
       let w = walked strset_policy s 20 in
-      let rest : List ℕ → List Slot → AskedRead =
-      λ m slots. on_top (with_header (strset_parts slots)) (λ parts. on_target (optional_target_of m parts.header roll) (sets_asked m parts)) in
+      let rest : List ℕ → List Slot → (Result Asked Refusal) =
+      λ m slots. and_then (with_header (strset_parts slots)) (λ parts. on_target (optional_target_of m parts.header roll) (sets_asked m parts)) in
       moved t (walked strset_policy t 20)
       ∙ ap (λ (x : Walked). on_walk x Refused' (rest t)) (walked_same s t size (names_payloads s t) strset_policy names-judged 20 agree)
       ∙ on-whole w Refused' (rest t) (rest s)
@@ -143,25 +140,25 @@ module _ (s t : List ℕ) (size : length s ≡ length t) (agree : StrsetAgrees s
       go parts (slot 1 (omega arith)) (slot 2 (omega arith)) parts.header.present refl)
       ∙ sym (moved s w)
     where
-      Refused' : Refusal → AskedRead
-      Refused' why = on_top (P.Refused why) (λ parts. on_target (optional_target_of s parts.header roll) (sets_asked s parts))
+      Refused' : Refusal → Result Asked Refusal
+      Refused' why = Err why
 
       moved : (m : List ℕ) (w : Walked)
-          → on_top (on_walk w P.Refused (λ slots. with_header (strset_parts slots))) (λ parts. on_target (optional_target_of m parts.header roll) (sets_asked m parts))
-          ≡ on_walk w Refused' (λ slots. on_top (with_header (strset_parts slots)) (λ parts. on_target (optional_target_of m parts.header roll) (sets_asked m parts)))
+          → and_then (on_walk w Err (λ slots. with_header (strset_parts slots))) (λ parts. on_target (optional_target_of m parts.header roll) (sets_asked m parts))
+          ≡ on_walk w Refused' (λ slots. and_then (with_header (strset_parts slots)) (λ parts. on_target (optional_target_of m parts.header roll) (sets_asked m parts)))
       moved m w = by w.stop
         where
           by : (x : Stop)
-              → on_top (on_stop x P.Refused (with_header (strset_parts w.slots))) (λ parts. on_target (optional_target_of m parts.header roll) (sets_asked m parts))
-              ≡ on_stop x Refused' (on_top (with_header (strset_parts w.slots)) (λ parts. on_target (optional_target_of m parts.header roll) (sets_asked m parts)))
+              → and_then (on_stop x Err (with_header (strset_parts w.slots))) (λ parts. on_target (optional_target_of m parts.header roll) (sets_asked m parts))
+              ≡ on_stop x Refused' (and_then (with_header (strset_parts w.slots)) (λ parts. on_target (optional_target_of m parts.header roll) (sets_asked m parts)))
           by Whole = refl
           by (At fault at) = refl
 
       go : (parts : StrsetParts) → SlotAgrees s t (names_payloads s t) 1 parts.header → SlotAgrees s t (names_payloads s t) 2 parts.sets
           → (present : Bool) → parts.header.present ≡ present
-          → on_top (cond (not present) (P.Refused (R.MissingTop 1)) (P.Parts parts)) (λ parts. on_target (optional_target_of t parts.header roll) (sets_asked t parts))
-          ≡ on_top (cond (not present) (P.Refused (R.MissingTop 1)) (P.Parts parts)) (λ parts. on_target (optional_target_of s parts.header roll) (sets_asked s parts))
+          → and_then (cond (not present) (Err (R.MissingTop 1)) (Ok parts)) (λ parts. on_target (optional_target_of t parts.header roll) (sets_asked t parts))
+          ≡ and_then (cond (not present) (Err (R.MissingTop 1)) (Ok parts)) (λ parts. on_target (optional_target_of s parts.header roll) (sets_asked s parts))
       go parts one two false e = refl
       go parts one two true e =
-          ap (λ (x : TargetRead). on_target x (sets_asked t parts)) (header-asked-same parts roll one e)
+          ap (λ (x : Result Addressee Refusal). on_target x (sets_asked t parts)) (header-asked-same parts roll one e)
           ∙ target-asked-same parts roll two (optional_target_of s parts.header roll)

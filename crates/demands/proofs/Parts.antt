@@ -2,6 +2,7 @@
 --     bitset-read     the bitset: a fault in it, or its parts, and of BITS each BIT and its parts
 --     header_read_lem     the header: a fault in it, or index, name and flags in it
 --     top_read        header and bitset stand in the message behind byte 20, and what is read of them in them
+use Rattle.std.specs.Prelude.{Err}
 use Prim.Native.Nat.{ℕ, ◌+◌, ◌-◌, ◌≤◌, ◌<◌}
 use mathlib.Core.Path.{◌≡◌, refl, sym, ap, ◌∙◌}
 use mathlib.Core.List.{List, [], ◌∷◌}
@@ -31,7 +32,6 @@ use Rattle.bitset_form.specs.Policies.{bitset_policy, bits_policy, bit_policy}
 use Rattle.bitset_form.specs.Parts.{bitset_parts, bit_parts}
 use Rattle.bitset_form.specs.declared.parts.BitsetParts.{BitsetParts}
 use Rattle.bitset_bit.specs.Bit.{bit_parts_reading}
-use Rattle.bitset_bit.specs.declared.BitRead.TheVariants as B
 use Rattle.bitset_bit.proofs.Laws.{by-walk}
 use Rattle.bitset_list.specs.BitList.{ListReading, on_bit, bits_reading, as_bitset, list_reading}
 use Rattle.bitset.specs.Judge.{bitset_parts_reading, bitset_reading}
@@ -44,14 +44,13 @@ use Rattle.request.specs.Top.{nests_of, top_of}
 use Rattle.request.specs.Header.{judged_parts, header_of}
 use Rattle.request.specs.declared.parts.TopParts.{TopParts}
 use Rattle.request.specs.declared.parts.HeaderParts.{HeaderParts}
-use Rattle.request.specs.declared.top.Top.TheVariants as T
-use Rattle.request.specs.declared.header.Header.TheVariants as H
 use Rattle.demands.specs.Parts.{StandsIn, BitsRead, ListRead, BitsetRead, HeaderRead, NestParts}
 use Rattle.demands.specs.Parts.BitsRead.{no_bit, bit_fault, bit_read}
 use Rattle.demands.specs.Parts.ListRead.{bits_fault, bits_read}
 use Rattle.demands.specs.Parts.BitsetRead.{bitset_fault, bitset_read}
 use Rattle.demands.specs.Parts.HeaderRead.{header_fault, header_read}
 use Rattle.demands.proofs.Request.{kind}
+use Rattle.std.specs.Prelude.{Ok, Err}
 
 -- a list cut at an end inside it ends there
 pub front_length : (s : List ℕ) (end : ℕ) → end ≤ length s → length (part_of s 0 end) ≡ end
@@ -113,7 +112,7 @@ module _ (s names : List ℕ) where
 
       go : (t : Stop) → (walked bit_policy (part_of s 0 e) a).stop ≡ t → BitsRead s names e (bits_reading s names rest)
           → BitsRead s names before
-          (on_bit (on_stop t B.Refused (bit_parts_reading (part_of s 0 e) names (a - 4) (bit_parts (walked bit_policy (part_of s 0 e) a).slots))) (bits_reading s names rest))
+          (on_bit (on_stop t Err (bit_parts_reading (part_of s 0 e) names (a - 4) (bit_parts (walked bit_policy (part_of s 0 e) a).slots))) (bits_reading s names rest))
       go Whole w others = bit_read a e stands _ (rw cut at (three-parts bit_policy (part_of s 0 e) a w)) others
       go (At fault place) w others =
           let i = fault-inside bit_policy (part_of s 0 e) a fault place w in
@@ -169,7 +168,7 @@ module _ (m : List ℕ) where
       read : HeaderParts
       read = header_parts (walked header_policy s header.start).slots
 
-      go : (t : Stop) → (walked header_policy s header.start).stop ≡ t → header_of m header dump ≡ on_stop t H.Refused (judged_parts m (header.start - 4) dump read) → HeaderRead m header dump
+      go : (t : Stop) → (walked header_policy s header.start).stop ≡ t → header_of m header dump ≡ on_stop t Err (judged_parts m (header.start - 4) dump read) → HeaderRead m header dump
       go Whole w e = header_read read (rw (front_length m header.end hi) at (three-parts header_policy s header.start w)) e
       go (At fault place) w e =
           let i = fault-inside header_policy s header.start fault place w in
@@ -181,7 +180,7 @@ module _ (m : List ℕ) where
     abbrev change : Bool
     change = command.change
 
-    pub top_read : (top : TopParts) → top_of m change ≡ T.Nests top → NestParts box m dump command top
+    pub top_read : (top : TopParts) → top_of m change ≡ Ok top → NestParts box m dump command top
     unfolding top_of nests_of top_parts
     top_read top = go (walked (top_policy change) m 20).stop refl
       where
@@ -189,18 +188,18 @@ module _ (m : List ℕ) where
         read = top_parts (walked (top_policy change) m 20).slots
 
         -- the parts are those of the walk, and those that are required are present
-        is-it : (a b : Bool) → cond (not a) (T.Refused (R.MissingTop 1)) (cond (change && not b) (T.Refused (R.MissingTop 2)) (T.Nests read)) ≡ T.Nests top
+        is-it : (a b : Bool) → cond (not a) (Err (R.MissingTop 1)) (cond (change && not b) (Err (R.MissingTop 2)) (Ok read)) ≡ Ok top
             → (read ≡ top) × (a ≡ true) × (change ≡ true → b ≡ true)
         is-it false b e = absurd (let z : ◌≡◌ {A = ℕ} 0 1 = cc in omega arith)
         is-it true b e = by change refl b e
           where
-            by : (c : Bool) → change ≡ c → (b : Bool) → cond (c && not b) (T.Refused (R.MissingTop 2)) (T.Nests read) ≡ T.Nests top
+            by : (c : Bool) → change ≡ c → (b : Bool) → cond (c && not b) (Err (R.MissingTop 2)) (Ok read) ≡ Ok top
                 → (read ≡ top) × (true ≡ true) × (change ≡ true → b ≡ true)
             by true q true e = (cc, refl, λ t. refl)
             by true q false e = absurd (let z : ◌≡◌ {A = ℕ} 0 1 = cc in omega arith)
             by false q b e = (cc, refl, λ t. absurd (clash t q))
 
-        go : (t : Stop) → (walked (top_policy change) m 20).stop ≡ t → on_stop t T.Refused (nests_of change read) ≡ T.Nests top → NestParts box m dump command top
+        go : (t : Stop) → (walked (top_policy change) m 20).stop ≡ t → on_stop t Err (nests_of change read) ≡ Ok top → NestParts box m dump command top
         go (At fault place) w e = absurd (let z : ◌≡◌ {A = ℕ} 0 1 = cc in omega arith)
         go Whole w e =
             let is = is-it read.header.present read.bitset.present e in

@@ -25,7 +25,7 @@ use Rattle.boxes.specs.declared.Call.{Call}
 use Rattle.layout.specs.declared.Set.{Set}
 use Rattle.layout.specs.declared.Set.TheVariants.{Debug, Flags}
 use Rattle.admission.specs.Admission.{is_dump, no_dump, not_permitted, permitted, strset_permitted, on_command, admitted}
-use Rattle.request.specs.Target.{with_flags, on_header, target_of}
+use Rattle.request.specs.Target.{with_flags, target_of}
 use Rattle.admission.specs.Commands.{command_row, command_in, command_of}
 use Rattle.request.specs.Header.{flags_judged, parts_of, dump_parts_of, header_of}
 use Rattle.request.specs.Policies.{top_policy, header_policy}
@@ -35,18 +35,7 @@ use Rattle.request.specs.declared.parts.TopParts.{TopParts}
 use Rattle.request.specs.Port.{port_by_index, port_by_name, port_of}
 use Rattle.refusal.specs.Refusal.{on_stop}
 use Rattle.request.specs.Top.{nests_of, top_of}
-use Rattle.admission.specs.declared.Admission.{Admission}
-use Rattle.admission.specs.declared.Admission.TheVariants as A
 use Rattle.admission.specs.declared.commands.Command.{Command}
-use Rattle.admission.specs.declared.commands.CommandRead.{CommandRead}
-use Rattle.admission.specs.declared.commands.CommandRead.TheVariants.{Listed, Strset, Unlisted}
-use Rattle.request.specs.declared.header.Header.{Header}
-use Rattle.request.specs.declared.header.Header.TheVariants as H
-use Rattle.request.specs.declared.port.PortRead.{PortRead}
-use Rattle.request.specs.declared.top.Top.{Top}
-use Rattle.request.specs.declared.top.Top.TheVariants as T
-use Rattle.request.specs.declared.target.TargetRead.{TargetRead}
-use Rattle.request.specs.declared.target.TargetRead.TheVariants as G
 use Rattle.netlink_dump.specs.Dump.{done_message}
 use Rattle.response.specs.Answer.{Outcome, response_of, unchanged}
 use Rattle.request.specs.declared.target.Target.{Target}
@@ -65,23 +54,32 @@ use Rattle.demands.proofs.First.{step, stop_step, passed-step, walk_step, pass, 
 use Rattle.demands.proofs.Bitset.{kind_of, bitset-first}
 use Rattle.demands.proofs.PortRows.{target_first}
 use Rattle.demands.proofs.Strset.{strset-first}
+use Rattle.std.specs.Prelude.{Option, Some, None, Result, Ok, Err}
+use Rattle.request.specs.declared.header.Header.{Header}
+use Rattle.request.specs.declared.target.Addressee.{Addressee}
+use Rattle.admission.specs.declared.commands.Listed.{Listed}
+use Rattle.admission.specs.declared.Admission.{Admission}
+use Rattle.admission.specs.declared.Admission.TheVariants as A
+use Rattle.admission.specs.declared.commands.Listed.TheVariants.{OfSet, Strset}
+use Rattle.request.specs.declared.target.Addressee.TheVariants as G
+use Rattle.basics.specs.Results.{and_then}
 
 abbrev pub kind : Outcome State → Kind
 kind o = o.response.kind
 
 -- a listed command is a SET exactly where it may not be dumped
-pub listed-dump : (n : ℕ) (command : Command) → command_of n ≡ Listed command → not command.dump ≡ command.change
+pub listed-dump : (n : ℕ) (command : Command) → command_of n ≡ Some (OfSet command) → not command.dump ≡ command.change
 unfolding command_of command_in
 listed-dump n command = go (eqb 1 n) (eqb 7 n) (eqb 8 n) (eqb 13 n) (eqb 14 n)
   where
-    by : (x : Command) → not x.dump ≡ x.change → Listed x ≡ Listed command → not command.dump ≡ command.change
+    by : (x : Command) → not x.dump ≡ x.change → Some (OfSet x) ≡ Some (OfSet command) → not command.dump ≡ command.change
     by x q e = let same : x ≡ command = cc in rw same at q
 
     go : (z a b c d : Bool)
-        → cond z Strset (cond a (Listed (command_row 7 false Debug 7 true))
-        (cond b (Listed (command_row 8 true Debug 7 false))
-        (cond c (Listed (command_row 13 false Flags 14 true)) (cond d (Listed (command_row 14 true Flags 14 false)) Unlisted))))
-        ≡ Listed command
+        → cond z (Some Strset) (cond a (Some (OfSet (command_row 7 false Debug 7 true)))
+        (cond b (Some (OfSet (command_row 8 true Debug 7 false)))
+        (cond c (Some (OfSet (command_row 13 false Flags 14 true))) (cond d (Some (OfSet (command_row 14 true Flags 14 false))) None))))
+        ≡ Some (OfSet command)
         → not command.dump ≡ command.change
     go true a b c d e = absurd (let z : ◌≡◌ {A = ℕ} 0 1 = cc in omega arith)
     go false true b c d e = by (command_row 7 false Debug 7 true) refl e
@@ -148,7 +146,7 @@ module _ (box : Box) (state : State) (call : Call) (m : List ℕ) (h : MessageHe
 
     -- 16 and 17
     module _ (header : Slot) (parts : HeaderParts) (flags : ℕ) where
-      targeted : PortRead → Kind
+      targeted : Result ℕ Refusal → Kind
       targeted port = kind (target_outcome (with_flags port flags) box state m request (port_outcome box state m request bitset))
 
       port-rows : (t n : Bool) → t || n ≡ true
@@ -164,7 +162,7 @@ module _ (box : Box) (state : State) (call : Call) (m : List ℕ) (h : MessageHe
 
   -- the header level of a request that is no dump
   module _ (command : Command) (top : TopParts) where
-    abbrev targets : TargetRead → Outcome State
+    abbrev targets : Result Addressee Refusal → Outcome State
     targets target = target_outcome target box state m (request_of call h next command) (port_outcome box state m (request_of call h next command) top.bitset)
 
     abbrev below : Bool → List Check
@@ -176,15 +174,15 @@ module _ (box : Box) (state : State) (call : Call) (m : List ℕ) (h : MessageHe
         let nest = walked header_policy (part_of m 0 top.header.end) top.header.start in
         let parts = header_parts nest.slots in
         let given = parts.index.present || parts.name.present in
-        walk_step headed Done nest.stop (λ stop. on_stop stop H.Refused (parts_of m (top.header.start - 4) parts)) _
+        walk_step headed Done nest.stop (λ stop. on_stop stop Err (parts_of m (top.header.start - 4) parts)) _
         (λ fault at. refl)
         (pass Done _ _ _
         (passed-step headed Done (not given) _ _ _ _ refl
         (λ e. step headed Done _ _ _ _ _ refl
         (port-rows command top.bitset top.header parts (slot_number m parts.flags) parts.index.present parts.name.present (not-false given e)))))
       where
-        headed : Header → Kind
-        headed hd = kind (targets (on_header hd (λ parts flags. with_flags (port_of m top.header parts box.roll) flags)))
+        headed : Result Header Refusal → Kind
+        headed hd = kind (targets (and_then hd (λ x. with_flags (port_of m top.header x.parts box.roll) x.flags)))
 
     -- and of a dump, which is of a GET
     no_rows : (change index name x y z : Bool) (a b c : Refusal) → change ≡ false → index || name ≡ false
@@ -200,7 +198,7 @@ module _ (box : Box) (state : State) (call : Call) (m : List ℕ) (h : MessageHe
         let nest = walked header_policy (part_of m 0 top.header.end) top.header.start in
         let parts = header_parts nest.slots in
         let given = parts.index.present || parts.name.present in
-        walk_step headed Done nest.stop (λ stop. on_stop stop H.Refused (dump_parts_of m parts)) _
+        walk_step headed Done nest.stop (λ stop. on_stop stop Err (dump_parts_of m parts)) _
         (λ fault at. refl)
         (passed-step headed Done given _ _ _ _ refl
         (λ none. pass Done _ _ _
@@ -208,8 +206,8 @@ module _ (box : Box) (state : State) (call : Call) (m : List ℕ) (h : MessageHe
         (dump-kind box state (request_of call h next command) (slot_number m parts.flags)
         ∙ no_rows command.change parts.index.present parts.name.present _ _ _ _ _ _ get none))))
       where
-        headed : Header → Kind
-        headed hd = kind (targets (on_header hd (λ parts flags. G.Unnamed flags)))
+        headed : Result Header Refusal → Kind
+        headed hd = kind (targets (and_then hd (λ x. Ok (G.Unnamed x.flags))))
 
     header-first : (is_dump h ≡ true → command.change ≡ false) → kind (header_outcome box state m (request_of call h next command) top) ≡ first_kind Done (below (asks_dump h))
     unfolding header_outcome is_dump asks_dump
@@ -220,23 +218,23 @@ module _ (box : Box) (state : State) (call : Call) (m : List ℕ) (h : MessageHe
         go false get = one-first
 
   -- the top level
-  abbrev levels : CommandRead → List Check
+  abbrev levels : Option Listed → List Check
   levels command = cond (is_strset command) (strset_checks box m h) (walk_checks (walked (top_policy (is_set command)) m 20) (λ slots. level_checks box m (asks_dump h) command (top_parts slots)))
 
   level-first : (command : Command) → (is_dump h ≡ true → command.change ≡ false)
-      → kind (request_outcome box state m (request_of call h next command)) ≡ first_kind Done (levels (Listed command))
+      → kind (request_outcome box state m (request_of call h next command)) ≡ first_kind Done (levels (Some (OfSet command)))
   unfolding request_outcome top_of nests_of level_checks top_checks is_set is_strset set_in
   level-first command get =
       let top = walked (top_policy command.change) m 20 in
-      walk_step topped Done top.stop (λ stop. on_stop stop T.Refused (nests_of command.change (top_parts top.slots))) _
+      walk_step topped Done top.stop (λ stop. on_stop stop Err (nests_of command.change (top_parts top.slots))) _
       (λ fault at. refl)
       (step topped Done _ _ _ _ _ refl (step topped Done _ _ _ _ _ refl (header-first command (top_parts top.slots) get)))
     where
-      topped : Top → Kind
+      topped : Result TopParts Refusal → Kind
       topped top = kind (top_outcome top state m (request_of call h next command) (header_outcome box state m (request_of call h next command)))
 
   -- skipped, and 5 to 9
-  abbrev admission : Admission → Kind
+  abbrev admission : Result Admission Refusal → Kind
   admission a = kind (on_admission a box state call m h next)
 
   permitted-first : (command : Command) → not command.dump ≡ command.change
@@ -244,7 +242,7 @@ module _ (box : Box) (state : State) (call : Call) (m : List ℕ) (h : MessageHe
       ≡ first_kind Done
       (refuse_if (asks_dump h && (command.change || false)) R.Dump
       ∷ refuse_if (command.change && not (eqb call.admin 1)) R.Permission
-      ∷ levels (Listed command))
+      ∷ levels (Some (OfSet command)))
   unfolding permitted no_dump not_permitted asks_dump is_dump
   permitted-first command set =
       rw (set, or-false command.change)
@@ -256,9 +254,9 @@ module _ (box : Box) (state : State) (call : Call) (m : List ℕ) (h : MessageHe
   unfolding strset_permitted asks_dump is_dump
   strset-kind =
       rw (and-true (eqb (h.flags / 256 % 4) 3))
-      (step admission Done (eqb (h.flags / 256 % 4) 3) R.Dump (A.Refused R.Dump) A.Strset _ refl (pass Done _ _ _ (strset-first box m h next)))
+      (step admission Done (eqb (h.flags / 256 % 4) 3) R.Dump (Err R.Dump) (Ok A.Strset) _ refl (pass Done _ _ _ (strset-first box m h next)))
 
-  command-first : (c : CommandRead) → command_of (byte_at m 16) ≡ c
+  command-first : (c : Option Listed) → command_of (byte_at m 16) ≡ c
       → admission (on_command c (strset_permitted h) (permitted h (eqb call.admin 1)))
       ≡ first_kind Done
       (refuse_if (unlisted c) R.Command
@@ -266,9 +264,9 @@ module _ (box : Box) (state : State) (call : Call) (m : List ℕ) (h : MessageHe
       ∷ refuse_if (is_set c && not (eqb call.admin 1)) R.Permission
       ∷ levels c)
   unfolding unlisted is_set is_strset
-  command-first Unlisted listed = fault Done _ _
-  command-first Strset listed = pass Done _ _ _ strset-kind
-  command-first (Listed command) listed = pass Done _ _ _ (permitted-first command (listed-dump (byte_at m 16) command listed))
+  command-first None listed = fault Done _ _
+  command-first (Some Strset) listed = pass Done _ _ _ strset-kind
+  command-first (Some (OfSet command)) listed = pass Done _ _ _ (permitted-first command (listed-dump (byte_at m 16) command listed))
 
   admitted-first : admission (admitted m h call.family (eqb call.admin 1)) ≡ first_kind Done (command_checks box call m h (command_of (byte_at m 16)))
   unfolding admitted command_checks admission_checks skip_if
@@ -277,9 +275,9 @@ module _ (box : Box) (state : State) (call : Call) (m : List ℕ) (h : MessageHe
       let other = not (eqb h.kind call.family) in
       let short = ltb (length m) 20 in
       let rest = on_command (command_of (byte_at m 16)) (strset_permitted h) (permitted h (eqb call.admin 1)) in
-      stop_step admission Done skipped skips A.Skipped (cond other (A.Refused R.Family) (cond short (A.Refused R.Short) rest)) _ (skip Done _)
-      (step admission Done other R.Family (A.Refused R.Family) (cond short (A.Refused R.Short) rest) _ refl
-      (step admission Done short R.Short (A.Refused R.Short) rest _ refl (command-first (command_of (byte_at m 16)) refl)))
+      stop_step admission Done skipped skips (Ok A.Skipped) (cond other (Err R.Family) (cond short (Err R.Short) rest)) _ (skip Done _)
+      (step admission Done other R.Family (Err R.Family) (cond short (Err R.Short) rest) _ refl
+      (step admission Done short R.Short (Err R.Short) rest _ refl (command-first (command_of (byte_at m 16)) refl)))
 
   pub message-first : kind (message_outcome box state call m h next) ≡ first_kind Done (message_checks box call m h)
   unfolding message_outcome message_checks

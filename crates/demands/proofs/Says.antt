@@ -3,6 +3,11 @@
 --     set_says        of the bitset that a done SET of the exported handler carries out, where it stands in the request
 --     normal-says     of the bitset in contents that the normaliser answers by 0
 --     byte-bit        bit i below SIZE of a VALUE or a MASK is bit i % 8 of byte i / 8 of its payload
+use Rattle.refusal.specs.declared.Refusal.{Refusal}
+use Rattle.std.specs.Prelude.{Option, Some, Result, Ok, Err}
+use Rattle.std.specs.Prelude as O
+use Rattle.basics.specs.Results.{and_then}
+use Rattle.bitset_bit.specs.declared.Bit.{Bit}
 use Prim.Native.Nat.{ℕ, zero, suc, ◌+◌, ◌-◌, ◌*◌, ◌/◌, ◌%◌, ◌^◌, ◌≤◌, ◌<◌}
 use mathlib.Core.Path.{◌≡◌, refl, sym, ap, ◌∙◌}
 use mathlib.Core.List.{List, [], ◌∷◌}
@@ -42,7 +47,7 @@ use Rattle.netlink.specs.declared.walk.Stop.TheVariants.{Whole, At}
 use Rattle.netlink_headers.specs.Headers.{message_header}
 use Rattle.netlink_headers.specs.declared.headers.MessageHeader.{MessageHeader}
 use Rattle.refusal.specs.Refusal.{on_stop}
-use Rattle.refusal.specs.declared.Refusal.TheVariants.{MissingIn, ShortBitmap, PastLength, UnknownBit}
+use Rattle.refusal.specs.declared.Refusal.TheVariants.{MissingIn, ShortBitmap, PastLength}
 use Rattle.bitset_form.specs.Policies.{bitset_policy, bits_policy, bit_policy}
 use Rattle.bitset_form.specs.Parts.{bitset_parts, bit_parts}
 use Rattle.bitset_form.specs.declared.parts.BitsetParts.{BitsetParts}
@@ -51,19 +56,13 @@ use Rattle.bitset_form.specs.Bitset.{Bitset, Reading}
 use Rattle.bitset_form.specs.Bitset.Bitset.{masked_bitmap, nomask_bitmap, masked_list, nomask_list}
 use Rattle.bitset_form.specs.Bitset.Reading.{refused, accepted}
 use Rattle.bitset_compact.specs.Compact.{nomask_reading, masked_reading, compact_reading}
-use Rattle.bitset_bit.specs.Bit.{bit_by_index, bit_by_name, identified, on_identity_read, bit_parts_reading, bit_reading}
+use Rattle.bitset_bit.specs.Bit.{Identity, on_lookup, bit_by_index, bit_by_name, identified, on_identity, bit_parts_reading, bit_reading}
 use Rattle.bitset_bit.proofs.Laws.{by-walk}
 use Rattle.bitset_bit.proofs.Combined.{Said, combined-said}
 use Rattle.bitset_bit.proofs.Combined.Said.{both_say, index-says, name-says}
-use Rattle.bitset_bit.specs.declared.Identity.TheVariants.{Number, Absent}
-use Rattle.bitset_bit.specs.declared.IdentityRead.{IdentityRead}
-use Rattle.bitset_bit.specs.declared.IdentityRead.TheVariants as L
-use Rattle.bitset_bit.specs.declared.BitRead.{BitRead}
-use Rattle.bitset_bit.specs.declared.BitRead.TheVariants as B
 use Rattle.bitset_list.specs.BitList.{ListReading, on_bit, bits_reading, as_bitset, list_reading}
 use Rattle.bitset_list.specs.BitList.ListReading.{list_refused, list_entries}
 use Rattle.bitset.specs.Judge.{mixed_at, on_mixing, bitset_parts_reading, bitset_reading}
-use Rattle.bitset.specs.declared.judge.Mixing.TheVariants as Mx
 use Rattle.normal.specs.Normal.{normalised}
 use Rattle.normal.specs.Claims.{Accepts}
 use Rattle.normal.proofs.Demand3.{accepted-exactly}
@@ -116,24 +115,24 @@ bitset-parts-are s from w =
 
 -- one BIT: what INDEX and NAME say, each on its own
 module _ (s names : List ℕ) (parts : BitParts) where
-  index-stands : (k : ℕ) → bit_by_index s (count names) parts.index ≡ L.Read (Number k)
+  index-stands : (k : ℕ) → bit_by_index s (count names) parts.index ≡ Ok (Some k)
       → Stands parts.index × (k ≡ u32_at (payload_in s parts.index) 0)
   unfolding bit_by_index
   index-stands k = go parts.index.present refl (leb (count names) (slot_number s parts.index))
     where
       go : (t : Bool) → parts.index.present ≡ t → (u : Bool)
-          → cond t (cond u (L.Refused (PastLength (parts.index.start - 4))) (L.Read (Number (slot_number s parts.index)))) (L.Read Absent) ≡ L.Read (Number k)
+          → cond t (cond u (Err (PastLength (parts.index.start - 4))) (Ok (Some (slot_number s parts.index)))) (Ok O.None) ≡ Ok (Some k)
           → Stands parts.index × (k ≡ u32_at (payload_in s parts.index) 0)
       go true h true e = absurd (let z : ◌≡◌ {A = ℕ} 0 1 = cc in omega arith)
       go true h false e = let i : k ≡ slot_number s parts.index = cc in (h, i ∙ number_in s parts.index h)
       go false h u e = absurd (let z : ◌≡◌ {A = ℕ} 0 1 = cc in omega arith)
 
-  index-lacks : bit_by_index s (count names) parts.index ≡ L.Read Absent → Lacks parts.index
+  index-lacks : bit_by_index s (count names) parts.index ≡ Ok O.None → Lacks parts.index
   unfolding bit_by_index
   index-lacks = go parts.index.present (leb (count names) (slot_number s parts.index))
     where
       go : (t u : Bool)
-          → cond t (cond u (L.Refused (PastLength (parts.index.start - 4))) (L.Read (Number (slot_number s parts.index)))) (L.Read Absent) ≡ L.Read Absent → t ≡ false
+          → cond t (cond u (Err (PastLength (parts.index.start - 4))) (Ok (Some (slot_number s parts.index)))) (Ok O.None) ≡ Ok O.None → t ≡ false
       go true true e = absurd (let z : ◌≡◌ {A = ℕ} 0 1 = cc in omega arith)
       go true false e = absurd (let z : ◌≡◌ {A = ℕ} 0 1 = cc in omega arith)
       go false u e = refl
@@ -141,28 +140,27 @@ module _ (s names : List ℕ) (parts : BitParts) where
   abbrev named : List ℕ
   named = payload_in s parts.name
 
-  name-stands : (k : ℕ) → bit_by_name s names parts.name ≡ L.Read (Number k) → Stands parts.name × IsNameOf names k named
+  name-stands : (k : ℕ) → bit_by_name s names parts.name ≡ Ok (Some k) → Stands parts.name × IsNameOf names k named
   unfolding bit_by_name
-  name-stands k = go parts.name.present refl (lookup names named).found refl
+  name-stands k = go parts.name.present refl (lookup names named).bit refl
     where
-      go : (t : Bool) → parts.name.present ≡ t → (u : Bool) → (lookup names named).found ≡ u
-          → cond t (cond u (L.Read (Number (lookup names named).bit)) (L.Refused (UnknownBit (parts.name.start - 4)))) (L.Read Absent) ≡ L.Read (Number k)
+      go : (t : Bool) → parts.name.present ≡ t → (u : Option ℕ) → (lookup names named).bit ≡ u
+          → cond t (on_lookup u (parts.name.start - 4)) (Ok O.None) ≡ Ok (Some k)
           → Stands parts.name × IsNameOf names k named
-      go true h true q e = let i : k ≡ (lookup names named).bit = cc in (h, rw i (found-names names named q))
-      go true h false q e = absurd (let z : ◌≡◌ {A = ℕ} 0 1 = cc in omega arith)
+      go true h (Some j) q e = let i : k ≡ j = cc in (h, rw i (found-names names named j q))
+      go true h O.None q e = absurd (let z : ◌≡◌ {A = ℕ} 0 1 = cc in omega arith)
       go false h u q e = absurd (let z : ◌≡◌ {A = ℕ} 0 1 = cc in omega arith)
 
-  name-lacks : bit_by_name s names parts.name ≡ L.Read Absent → Lacks parts.name
+  name-lacks : bit_by_name s names parts.name ≡ Ok O.None → Lacks parts.name
   unfolding bit_by_name
-  name-lacks = go parts.name.present (lookup names named).found
+  name-lacks = go parts.name.present (lookup names named).bit
     where
-      go : (t u : Bool)
-          → cond t (cond u (L.Read (Number (lookup names named).bit)) (L.Refused (UnknownBit (parts.name.start - 4)))) (L.Read Absent) ≡ L.Read Absent → t ≡ false
-      go true true e = absurd (let z : ◌≡◌ {A = ℕ} 0 1 = cc in omega arith)
-      go true false e = absurd (let z : ◌≡◌ {A = ℕ} 0 1 = cc in omega arith)
+      go : (t : Bool) (u : Option ℕ) → cond t (on_lookup u (parts.name.start - 4)) (Ok O.None) ≡ Ok O.None → t ≡ false
+      go true (Some j) e = absurd (let z : ◌≡◌ {A = ℕ} 0 1 = cc in omega arith)
+      go true O.None e = absurd (let z : ◌≡◌ {A = ℕ} 0 1 = cc in omega arith)
       go false u e = refl
 
-  parts-mean : (at k : ℕ) → identified s names at parts ≡ L.Read (Number k) → Means s names parts k
+  parts-mean : (at k : ℕ) → identified s names at parts ≡ Ok (Some k) → Means s names parts k
   unfolding identified
   parts-mean at k e = go (identified-below s names at parts k e) (combined-said _ k _ _ e)
     where
@@ -185,28 +183,32 @@ module _ (s names : List ℕ) (start end : ℕ) where
   abbrev bit-part : BitParts
   bit-part = bit_parts (walked bit_policy bit start).slots
 
-  pub bit-read : (number : ℕ) (on : Bool) → bit_reading bit names start ≡ B.Bit number on
-      → ((walked bit_policy bit start).stop ≡ Whole) × Means bit names bit-part number × (on ≡ bit-part.on.present)
+  pub bit-read : (b : Bit) → bit_reading bit names start ≡ Ok b
+      → ((walked bit_policy bit start).stop ≡ Whole) × Means bit names bit-part b.number × (b.on ≡ bit-part.on.present)
   unfolding bit_parts_reading
-  bit-read number on e =
+  bit-read b e =
       go (walked bit_policy bit start).stop refl (identified bit names (start - 4) bit-part) refl (sym (by-walk bit names start) ∙ e)
     where
-      go : (t : Stop) → (walked bit_policy bit start).stop ≡ t → (l : IdentityRead) → identified bit names (start - 4) bit-part ≡ l
-          → on_stop t B.Refused (on_identity_read l (start - 4) bit-part.on.present) ≡ B.Bit number on
-          → ((walked bit_policy bit start).stop ≡ Whole) × Means bit names bit-part number × (on ≡ bit-part.on.present)
+      same : (x y : Bit) → ◌≡◌ {A = Result Bit Refusal} (Ok x) (Ok y) → x ≡ y
+      same x y q = cc
+
+      go : (t : Stop) → (walked bit_policy bit start).stop ≡ t → (l : Identity) → identified bit names (start - 4) bit-part ≡ l
+          → on_stop t Err (and_then l (on_identity (start - 4) bit-part.on.present)) ≡ Ok b
+          → ((walked bit_policy bit start).stop ≡ Whole) × Means bit names bit-part b.number × (b.on ≡ bit-part.on.present)
       go (At f at) w l q e = absurd (let z : ◌≡◌ {A = ℕ} 0 1 = cc in omega arith)
-      go Whole w (L.Refused r) q e = absurd (let z : ◌≡◌ {A = ℕ} 0 1 = cc in omega arith)
-      go Whole w (L.Read Absent) q e = absurd (let z : ◌≡◌ {A = ℕ} 0 1 = cc in omega arith)
-      go Whole w (L.Read (Number j)) q e =
-          let i : j ≡ number = cc in (w, parts-mean bit names bit-part (start - 4) number (q ∙ ap (λ (n : ℕ). L.Read (Number n)) i), cc)
+      go Whole w (Err r) q e = absurd (let z : ◌≡◌ {A = ℕ} 0 1 = cc in omega arith)
+      go Whole w (Ok O.None) q e = absurd (let z : ◌≡◌ {A = ℕ} 0 1 = cc in omega arith)
+      go Whole w (Ok (Some j)) q e =
+          let is = same (record { number = j; on = bit-part.on.present }) b e in
+          (w, parts-mean bit names bit-part (start - 4) b.number (q ∙ ap (λ (x : Bit). Ok (Some x.number)) is), ap (λ (x : Bit). x.on) (sym is))
 
-  pub bit-means : (number : ℕ) (on : Bool) → bit_reading bit names start ≡ B.Bit number on → Means bit names bit-part number
-  bit-means number on e = (bit-read number on e).1
+  pub bit-means : (b : Bit) → bit_reading bit names start ≡ Ok b → Means bit names bit-part b.number
+  bit-means b e = (bit-read b e).1
 
-  bit-says : end ≤ length s → (entry : Listed) → bit_reading bit names start ≡ B.Bit entry.bit entry.on → BitSays s names start end entry
+  bit-says : end ≤ length s → (b : Bit) → bit_reading bit names start ≡ Ok b → BitSays s names start end (record { bit = b.number; on = b.on })
   unfolding bit_parts
-  bit-says hi entry e =
-      let r = bit-read entry.bit entry.on e in
+  bit-says hi b e =
+      let r = bit-read b e in
       record {
         parts = bit-part;
         whole = r.0;
@@ -233,14 +235,14 @@ module _ (s names : List ℕ) where
       long : z ≡ a - 4 + u16_at s (a - 4)
       long = let i : a - 4 ≡ at = let j = q.0 in omega arith in q.1 ∙ ap (λ (n : ℕ). n + u16_at s n) (sym i)
 
-      go : (v : BitRead) → bit_reading (part_of s 0 z) names a ≡ v → (x : ListReading) → bits_reading s names rest ≡ x → on_bit v x ≡ list_entries es
+      go : (v : Result Bit Refusal) → bit_reading (part_of s 0 z) names a ≡ v → (x : ListReading) → bits_reading s names rest ≡ x → on_bit v x ≡ list_entries es
           → ((fs : List Listed) → bits_reading s names rest ≡ list_entries fs → Lists s names z fs) → Lists s names before es
-      go (B.Refused r) i x u e f = absurd (let c : ◌≡◌ {A = ℕ} 0 1 = cc in omega arith)
-      go (B.Bit j on) i (list_refused r) u e f = absurd (let c : ◌≡◌ {A = ℕ} 0 1 = cc in omega arith)
-      go (B.Bit j on) i (list_entries fs) u e f =
-          let entry : Listed = record { bit = j; on = on } in
+      go (Err r) i x u e f = absurd (let c : ◌≡◌ {A = ℕ} 0 1 = cc in omega arith)
+      go (Ok b) i (list_refused r) u e f = absurd (let c : ◌≡◌ {A = ℕ} 0 1 = cc in omega arith)
+      go (Ok b) i (list_entries fs) u e f =
+          let entry : Listed = record { bit = b.number; on = b.on } in
           let w : es ≡ entry ∷ fs = cc in
-          rw w (one_bit a z entry stands long (bit-says s names a z q.3 entry i) (f fs u))
+          rw w (one_bit a z entry stands long (bit-says s names a z q.3 b i) (f fs u))
 
 -- a bit list
 module _ (s : List ℕ) (from : ℕ) (names : List ℕ) (parts : BitsetParts) (opened : BitsetOpened s from parts) (b : Bitset) where
@@ -373,9 +375,9 @@ forms-say s from names parts opened b =
     go : (t : Bool) → parts.bits.present ≡ t → (v : Bool) → parts.value.present ≡ v → (m : Bool) → parts.mask.present ≡ m
         → (n : Bool) → parts.nomask.present ≡ n
         → on_mixing
-        (cond (t && v) (Mx.At (parts.value.start - 4))
-        (cond (t && m) (Mx.At (parts.mask.start - 4))
-        (cond (n && m) (Mx.At (parts.mask.start - 4)) Mx.Unmixed)))
+        (cond (t && v) (Some (parts.value.start - 4))
+        (cond (t && m) (Some (parts.mask.start - 4))
+        (cond (n && m) (Some (parts.mask.start - 4)) O.None)))
         (cond t list form) ≡ accepted b → BitsetSays s from names b
     go true et true ev m em n en e = absurd (never _ b e)
     go true et false ev true em n en e = absurd (never _ b e)

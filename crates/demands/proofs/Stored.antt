@@ -40,7 +40,6 @@ use Rattle.boxes.specs.Rule.{box_right}
 use Rattle.boxes.proofs.rule.Meaning.{box-means}
 use Rattle.admission.specs.Admission.{admitted}
 use Rattle.admission.specs.Commands.{command_of}
-use Rattle.admission.specs.declared.Admission.TheVariants.{Admitted}
 use Rattle.response.specs.Answer.{Outcome, Response, no_bytes, unchanged}
 use Rattle.response.specs.declared.Kind.TheVariants.{End, Skipped, Done, Refused}
 use Rattle.handler.specs.Call.{outcome, ends_run}
@@ -62,6 +61,8 @@ use Rattle.demands.proofs.Exact as E
 use Rattle.demands.proofs.Normaliser as N
 use Rattle.demands.proofs.Run.{moving-ends}
 use Rattle.demands.proofs.StoredBox.{right-whole, right-box, right-within, right-again}
+use Rattle.std.specs.Prelude.{Ok}
+use Rattle.admission.specs.declared.Admission.TheVariants.{Admitted}
 
 -- the call over bytes: the call over their words, or refusal 1
 data StoredCase (box : Box) (stored : Stored) (call : Call) (datagram : List ℕ) (room : ℕ) (o : Outcome Stored) : Type 0 where
@@ -185,7 +186,7 @@ module _ (box : Box) (stored : Stored) (call : Call) (datagram : List ℕ) (room
     pub next-is : o.response.next ≡ next_after box call datagram o.response.kind
     next-is = rw over-words (D1.next-is box (in_words stored) call datagram room goes)
 
-    pub set-alike : (n : Named box.roll m) → n.command.change ≡ true → admitted m h call.family (eqb call.admin 1) ≡ Admitted n.command
+    pub set-alike : (n : Named box.roll m) → n.command.change ≡ true → admitted m h call.family (eqb call.admin 1) ≡ Ok (Admitted n.command)
         → (page : ℕ) → 144 ≤ page → AnsweredAlike box m n page o.response.kind
     set-alike n change admit page wide = rw over-words (N.set-alike box (in_words stored) call datagram room goes n change admit page wide)
 

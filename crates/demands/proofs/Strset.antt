@@ -19,31 +19,17 @@ use Rattle.request.specs.Parts.{header_parts}
 use Rattle.request.specs.Header.{flags_judged}
 use Rattle.roll.specs.Find.{found_by_index, found_by_name}
 use Rattle.request.specs.Port.{port_by_index, port_by_name, port_of}
-use Rattle.request.specs.Target.{with_flags, on_header}
+use Rattle.request.specs.Target.{with_flags}
 use Rattle.request.specs.Optional.{gives_port, optional_header_of, optional_target_of}
 use Rattle.request.specs.declared.parts.HeaderParts.{HeaderParts}
-use Rattle.request.specs.declared.header.Header.{Header}
-use Rattle.request.specs.declared.header.Header.TheVariants as H
-use Rattle.request.specs.declared.port.PortRead.{PortRead}
-use Rattle.request.specs.declared.target.TargetRead.TheVariants as T
-use Rattle.roll.specs.declared.find.Found.{Found}
-use Rattle.roll.specs.declared.find.Found.TheVariants as F
 use Rattle.strset_request.specs.Policies.{strset_policy, string_sets_policy, string_set_policy}
 use Rattle.strset_request.specs.Top.{strset_parts, with_header, strset_top_of}
 use Rattle.strset_request.specs.Set.{id_of, set_of_id, id_judged, set_reading}
-use Rattle.strset_request.specs.List.{with_asked, on_set, sets_reading, nest_reading, list_reading}
-use Rattle.strset_request.specs.Asked.{is_named, with_sets, on_target, sets_asked, on_top, asked_of}
+use Rattle.strset_request.specs.List.{with_asked, sets_reading, nest_reading, list_reading}
+use Rattle.strset_request.specs.Asked.{with_sets, on_target, sets_asked, asked_of}
 use Rattle.strset_request.specs.declared.top.StrsetParts.{StrsetParts}
-use Rattle.strset_request.specs.declared.top.StrsetTop.{StrsetTop}
-use Rattle.strset_request.specs.declared.top.StrsetTop.TheVariants as P
-use Rattle.strset_request.specs.declared.set.SetRead.{SetRead}
-use Rattle.strset_request.specs.declared.set.SetRead.TheVariants as S
 use Rattle.strset_request.specs.declared.list.Sets.{Sets}
 use Rattle.strset_request.specs.declared.list.Sets.TheVariants.{Nothing}
-use Rattle.strset_request.specs.declared.list.SetsRead.{SetsRead}
-use Rattle.strset_request.specs.declared.list.SetsRead.TheVariants as L
-use Rattle.strset_request.specs.declared.asked.AskedRead.{AskedRead}
-use Rattle.strset_request.specs.declared.asked.AskedRead.TheVariants as A
 use Rattle.response.specs.Answer.{response_of, error_response}
 use Rattle.response.specs.declared.Kind.{Kind}
 use Rattle.response.specs.declared.Kind.TheVariants.{Done, Refused}
@@ -53,18 +39,25 @@ use Rattle.demands.specs.PortChecks.{no_port, named_otherwise, named_port_checks
 use Rattle.demands.specs.Strset.{not_offered, id_checks, each_set, sets_checks, too_long, strset_port_checks, strset_level_checks, strset_checks}
 use Rattle.demands.proofs.First.{step, walk_step, pass, fault, no_more, first-append}
 use Rattle.demands.proofs.PortRows.{target_first}
+use Rattle.std.specs.Prelude.{Option, Some, None, Result, Ok, Err, is_some}
+use Rattle.refusal.specs.declared.Refusal.{Refusal}
+use Rattle.layout.specs.declared.Set.{Set}
+use Rattle.strset_request.specs.declared.asked.Asked.{Asked}
+use Rattle.request.specs.declared.header.Header.{Header}
+use Rattle.request.specs.declared.target.Addressee.TheVariants as T
+use Rattle.basics.specs.Results.{and_then}
 
 -- the kind of one STRINGSET's reading, given that of its set
 module _ (last : Kind) where
-  abbrev set_kind : SetRead → Kind
-  set_kind (S.Refused why) = Refused why
-  set_kind (S.Set set) = last
+  abbrev set_kind : Result Set Refusal → Kind
+  set_kind (Err why) = Refused why
+  set_kind (Ok set) = last
 
   id-first : (id : ℕ) (named : Bool) (at : ℕ) → set_kind (set_of_id id named at) ≡ first_kind last (refuse_if (not_offered named id) (R.NotOffered at) ∷ [])
   unfolding set_of_id id_of not_offered
   id-first id named at = go (eqb id 10) (eqb id 2) named
     where
-      go : (d f n : Bool) → set_kind (cond d (S.Set Debug) (cond (f && n) (S.Set Flags) (S.Refused (R.NotOffered at))))
+      go : (d f n : Bool) → set_kind (cond d (Ok Debug) (cond (f && n) (Ok Flags) (Err (R.NotOffered at))))
           ≡ first_kind last (refuse_if (not (d || (f && n))) (R.NotOffered at) ∷ [])
       go true f n = pass last _ _ _ (no_more last)
       go false true true = pass last _ _ _ (no_more last)
@@ -78,14 +71,14 @@ module _ (last : Kind) where
   set_first s from named =
       let w = walked string_set_policy s from in
       let id = get_or w.slots 1 absent in
-      walk_step set_kind last w.stop (λ stop. on_stop stop S.Refused (id_judged s (from - 4) named id)) _
+      walk_step set_kind last w.stop (λ stop. on_stop stop Err (id_judged s (from - 4) named id)) _
       (λ fault at. refl)
       (step set_kind last (not id.present) _ _ _ _ refl (id-first (slot_number s id) named (id.start - 4)))
 
   -- the STRINGSETs one after the other
-  abbrev list_kind : SetsRead → Kind
-  list_kind (L.Refused why) = Refused why
-  list_kind (L.Listed sets) = last
+  abbrev list_kind : Result Sets Refusal → Kind
+  list_kind (Err why) = Refused why
+  list_kind (Ok sets) = last
 
 -- the STRINGSETs one after the other, whatever comes behind them
 sets_first : (s : List ℕ) (named : Bool) (last : Kind) (sets : Sets) (xs : Attributes) → list_kind last (sets_reading s named sets xs) ≡ first_kind last (each_set s named xs)
@@ -99,11 +92,11 @@ sets_first s named last sets (attribute k b a e rest) =
     after : Kind
     after = first_kind last (each_set s named rest)
 
-    go : (v : SetRead) → set_reading (part_of s 0 e) a named ≡ v → ((more : Sets) → list_kind last (sets_reading s named more rest) ≡ first_kind last (each_set s named rest))
-        → list_kind last (on_set v (λ set. sets_reading s named (with_asked sets set) rest))
+    go : (v : Result Set Refusal) → set_reading (part_of s 0 e) a named ≡ v → ((more : Sets) → list_kind last (sets_reading s named more rest) ≡ first_kind last (each_set s named rest))
+        → list_kind last (and_then v (λ set. sets_reading s named (with_asked sets set) rest))
         ≡ first_kind (first_kind last (each_set s named rest)) (walk_checks (walked string_set_policy (part_of s 0 e) a) (λ slots. id_checks (part_of s 0 e) named (a - 4) (get_or slots 1 absent)))
-    go (S.Refused why) q others = sym (ap (set_kind (first_kind last (each_set s named rest))) q) ∙ set_first (first_kind last (each_set s named rest)) (part_of s 0 e) a named
-    go (S.Set set) q others =
+    go (Err why) q others = sym (ap (set_kind (first_kind last (each_set s named rest))) q) ∙ set_first (first_kind last (each_set s named rest)) (part_of s 0 e) a named
+    go (Ok set) q others =
         others (with_asked sets set) ∙ (sym (ap (set_kind (first_kind last (each_set s named rest))) q) ∙ set_first (first_kind last (each_set s named rest)) (part_of s 0 e) a named)
 
 -- STRINGSETS
@@ -111,7 +104,7 @@ list-first : (m : List ℕ) (nest : Slot) (named : Bool) (last : Kind) → list_
 unfolding list_reading nest_reading sets_checks
 list-first m nest named last = go nest.present
   where
-    go : (t : Bool) → list_kind last (cond t (nest_reading m nest named) (L.Listed Nothing))
+    go : (t : Bool) → list_kind last (cond t (nest_reading m nest named) (Ok Nothing))
         ≡ first_kind last
         (cond t
         (walks (walked string_sets_policy (part_of m 0 nest.end) nest.start).stop
@@ -119,43 +112,43 @@ list-first m nest named last = go nest.present
         [])
     go true =
         let s = part_of m 0 nest.end in
-        walk_step (list_kind last) last (walked string_sets_policy s nest.start).stop (λ stop. on_stop stop L.Refused (sets_reading s named Nothing (attributes s nest.start))) _
+        walk_step (list_kind last) last (walked string_sets_policy s nest.start).stop (λ stop. on_stop stop Err (sets_reading s named Nothing (attributes s nest.start))) _
         (λ fault at. refl) (sets_first s named last Nothing (attributes s nest.start))
     go false = no_more last
 
 -- what is asked for: a refusal, or whatever comes behind it
 module _ (last : Kind) where
-  abbrev asked_kind : AskedRead → Kind
-  asked_kind (A.Refused why) = Refused why
-  asked_kind (A.Asked asked) = last
+  abbrev asked_kind : Result Asked Refusal → Kind
+  asked_kind (Err why) = Refused why
+  asked_kind (Ok asked) = last
 
   module _ (m roll : List ℕ) (parts : StrsetParts) where
-    sets-kind : (port : Found) → asked_kind (sets_asked m parts port) ≡ first_kind last (sets_checks m parts.sets (is_named port))
+    sets-kind : (port : Option ℕ) → asked_kind (sets_asked m parts port) ≡ first_kind last (sets_checks m parts.sets (is_some port))
     unfolding sets_asked
-    sets-kind port = go (list_reading m parts.sets (is_named port)) ∙ list-first m parts.sets (is_named port) last
+    sets-kind port = go (list_reading m parts.sets (is_some port)) ∙ list-first m parts.sets (is_some port) last
       where
-        go : (l : SetsRead) → asked_kind (with_sets l port parts.counts.present) ≡ list_kind last l
-        go (L.Refused why) = refl
-        go (L.Listed sets) = refl
+        go : (l : Result Sets Refusal) → asked_kind (with_sets l port parts.counts.present) ≡ list_kind last l
+        go (Err why) = refl
+        go (Ok sets) = refl
 
     -- 16 and 17 where a port is named, then STRINGSETS
     module _ (header : HeaderParts) (flags : ℕ) where
-      targeted : PortRead → Kind
+      targeted : Result ℕ Refusal → Kind
       targeted port = asked_kind (on_target (with_flags port flags) (sets_asked m parts))
 
       port-kind : (t n : Bool)
-          → asked_kind (on_target (cond (t || n) (with_flags (cond t (port_by_index m parts.header header roll) (port_by_name m header.name roll)) flags) (T.Unnamed flags)) (sets_asked m parts))
+          → asked_kind (on_target (cond (t || n) (with_flags (cond t (port_by_index m parts.header header roll) (port_by_name m header.name roll)) flags) (Ok (T.Unnamed flags))) (sets_asked m parts))
           ≡ first_kind last
           (refuse_if (t && no_port (found_by_index roll (slot_number m header.index))) (R.UnknownPort (header.index.start - 4))
           ∷ refuse_if (not t && (n && no_port (found_by_name roll (part_of m header.name.start header.name.end)))) (R.UnknownPort (header.name.start - 4))
           ∷ refuse_if (t && named_otherwise m header.name roll (found_by_index roll (slot_number m header.index))) (R.OtherName (parts.header.start - 4))
           ∷ sets_checks m parts.sets (t || n))
-      unfolding targeted with_flags is_named
+      unfolding targeted with_flags
       port-kind true n =
-          target_first m roll parts.header header last targeted (sets_checks m parts.sets true) (λ why. refl) (λ k. sets-kind (F.At k)) true n refl
+          target_first m roll parts.header header last targeted (sets_checks m parts.sets true) (λ why. refl) (λ k. sets-kind (Some k)) true n refl
       port-kind false true =
-          target_first m roll parts.header header last targeted (sets_checks m parts.sets true) (λ why. refl) (λ k. sets-kind (F.At k)) false true refl
-      port-kind false false = pass last _ _ _ (pass last _ _ _ (pass last _ _ _ (sets-kind F.Nothing)))
+          target_first m roll parts.header header last targeted (sets_checks m parts.sets true) (λ why. refl) (λ k. sets-kind (Some k)) false true refl
+      port-kind false false = pass last _ _ _ (pass last _ _ _ (pass last _ _ _ (sets-kind None)))
 
     header-kind : asked_kind (on_target (optional_target_of m parts.header roll) (sets_asked m parts))
         ≡ first_kind last (walk_checks (walked header_policy (part_of m 0 parts.header.end) parts.header.start) (λ slots. strset_port_checks m roll parts (header_parts slots)))
@@ -163,15 +156,15 @@ module _ (last : Kind) where
     header-kind =
         let nest = walked header_policy (part_of m 0 parts.header.end) parts.header.start in
         let header = header_parts nest.slots in
-        walk_step headed last nest.stop (λ stop. on_stop stop H.Refused (flags_judged m header)) _
+        walk_step headed last nest.stop (λ stop. on_stop stop Err (flags_judged m header)) _
         (λ fault at. refl)
         (step headed last (ltb 3 (slot_number m header.flags)) _ _ _ _ refl
         (port-kind header (slot_number m header.flags) header.index.present header.name.present))
       where
-        headed : Header → Kind
+        headed : Result Header Refusal → Kind
         headed hd =
             asked_kind
-            (on_target (on_header hd (λ given flags. cond (gives_port given) (with_flags (port_of m parts.header given roll) flags) (T.Unnamed flags))) (sets_asked m parts))
+            (on_target (and_then hd (λ x. cond (gives_port x.parts) (with_flags (port_of m parts.header x.parts roll) x.flags) (Ok (T.Unnamed x.flags)))) (sets_asked m parts))
 
   asked-kind : (m roll : List ℕ)
       → asked_kind (asked_of m roll) ≡ first_kind last (walk_checks (walked strset_policy m 20) (λ slots. strset_level_checks m roll (strset_parts slots)))
@@ -179,12 +172,12 @@ module _ (last : Kind) where
   asked-kind m roll =
       let top = walked strset_policy m 20 in
       let parts = strset_parts top.slots in
-      walk_step topped last top.stop (λ stop. on_stop stop P.Refused (with_header parts)) _
+      walk_step topped last top.stop (λ stop. on_stop stop Err (with_header parts)) _
       (λ fault at. refl)
       (step topped last (not parts.header.present) _ _ _ _ refl (header-kind m roll parts))
     where
-      topped : StrsetTop → Kind
-      topped top = asked_kind (on_top top (λ parts. on_target (optional_target_of m parts.header roll) (sets_asked m parts)))
+      topped : Result StrsetParts Refusal → Kind
+      topped top = asked_kind (and_then top (λ parts. on_target (optional_target_of m parts.header roll) (sets_asked m parts)))
 
 -- the whole request, then 25
 pub strset-first : (box : Box) (m : List ℕ) (h : MessageHeader) (next : ℕ) → (strset_response box m h next).kind ≡ first_kind Done (strset_checks box m h)
@@ -201,9 +194,9 @@ strset-first box m h next =
     long true bytes = fault Done _ _
     long false bytes = pass Done _ _ _ (no_more Done)
 
-    go : (x : AskedRead) → asked_of m box.roll ≡ x → (asked_response x box m h next).kind ≡ asked_kind end (asked_of m box.roll)
-    go (A.Refused why) q = sym (ap (asked_kind end) q)
-    go (A.Asked asked) q =
+    go : (x : Result Asked Refusal) → asked_of m box.roll ≡ x → (asked_response x box m h next).kind ≡ asked_kind end (asked_of m box.roll)
+    go (Err why) q = sym (ap (asked_kind end) q)
+    go (Ok asked) q =
         long (ltb 32768 (length (strset_bytes m h (strset_content_in box asked)))) (strset_bytes m h (strset_content_in box asked))
-        ∙ sym (ap (λ (x : AskedRead). first_kind Done (refuse_if (too_long box m h x) R.LongReply ∷ [])) q)
+        ∙ sym (ap (λ (x : Result Asked Refusal). first_kind Done (refuse_if (too_long box m h x) R.LongReply ∷ [])) q)
         ∙ sym (ap (asked_kind end) q)

@@ -25,24 +25,22 @@ use Rattle.request.specs.Parts.{header_parts}
 use Rattle.request.specs.Header.{flags_judged}
 use Rattle.request.specs.Optional.{optional_header_of}
 use Rattle.request.specs.declared.parts.HeaderParts.{HeaderParts}
-use Rattle.request.specs.declared.header.Header.TheVariants as H
 use Rattle.strset_request.specs.Policies.{strset_policy, string_sets_policy, string_set_policy}
 use Rattle.strset_request.specs.Top.{strset_parts, with_header, strset_top_of}
 use Rattle.strset_request.specs.Set.{id_judged, set_reading}
-use Rattle.strset_request.specs.List.{with_asked, on_set, sets_reading, nest_reading}
+use Rattle.strset_request.specs.List.{with_asked, sets_reading, nest_reading}
 use Rattle.strset_request.specs.declared.top.StrsetParts.{StrsetParts}
-use Rattle.strset_request.specs.declared.top.StrsetTop.TheVariants as P
-use Rattle.strset_request.specs.declared.set.SetRead.TheVariants as S
 use Rattle.strset_request.specs.declared.list.Sets.{Sets}
 use Rattle.strset_request.specs.declared.list.Sets.TheVariants.{Nothing}
-use Rattle.strset_request.specs.declared.list.SetsRead.{SetsRead}
-use Rattle.strset_request.specs.declared.list.SetsRead.TheVariants as L
 use Rattle.demands.specs.Parts.{StandsIn}
 use Rattle.demands.specs.StrsetParts.{StringSetsRead, NestRead, OptionalRead, NamesNests}
 use Rattle.demands.specs.StrsetParts.StringSetsRead.{no_set, set_fault, set_read}
 use Rattle.demands.specs.StrsetParts.NestRead.{nest_fault, nest_read}
 use Rattle.demands.specs.StrsetParts.OptionalRead.{header_fault, header_read}
 use Rattle.demands.proofs.Parts.{front_length, three-parts}
+use Rattle.std.specs.Prelude.{Result, Ok, Err}
+use Rattle.refusal.specs.declared.Refusal.{Refusal}
+use Rattle.basics.specs.Results.{and_then}
 
 -- the STRINGSETs from a place on, of which only padding parts it
 module _ (s : List ℕ) (named : Bool) where
@@ -63,7 +61,7 @@ module _ (s : List ℕ) (named : Bool) where
       go : (t : Stop) → (walked string_set_policy (part_of s 0 e) a).stop ≡ t
           → ((set : Set) → StringSetsRead s named e (with_asked sets set) (sets_reading s named (with_asked sets set) rest))
           → StringSetsRead s named before sets
-          (on_set (on_stop t S.Refused (id_judged (part_of s 0 e) (a - 4) named (get_or (walked string_set_policy (part_of s 0 e) a).slots 1 absent)))
+          (and_then (on_stop t Err (id_judged (part_of s 0 e) (a - 4) named (get_or (walked string_set_policy (part_of s 0 e) a).slots 1 absent)))
           (λ set. sets_reading s named (with_asked sets set) rest))
       go Whole w others =
           set_read a e stands _ (rw cut at (slot-inside string_set_policy (part_of s 0 e) a w 1 (omega arith)), tt, tt) (λ set. sets_reading s named (with_asked sets set) rest) others
@@ -81,10 +79,10 @@ module _ (m : List ℕ) where
       s : List ℕ
       s = part_of m 0 nest.end
 
-      list : SetsRead
+      list : Result Sets Refusal
       list = sets_reading s named Nothing (attributes s nest.start)
 
-      go : (t : Stop) → (walked string_sets_policy s nest.start).stop ≡ t → nest_reading m nest named ≡ on_stop t L.Refused list → NestRead m nest named
+      go : (t : Stop) → (walked string_sets_policy s nest.start).stop ≡ t → nest_reading m nest named ≡ on_stop t Err list → NestRead m nest named
       go Whole w e =
           let passed = whole-passed string_sets_policy s (attributes s nest.start) (sym (stop_is string_sets_policy s nest.start) ∙ w) in
           nest_read list (sets-read s named nest.start nest.start (omega arith) (omega arith) _ (apart s nest.start) passed Nothing) e
@@ -103,25 +101,25 @@ module _ (m : List ℕ) where
       read : HeaderParts
       read = header_parts (walked header_policy s header.start).slots
 
-      go : (t : Stop) → (walked header_policy s header.start).stop ≡ t → optional_header_of m header ≡ on_stop t H.Refused (flags_judged m read) → OptionalRead m header
+      go : (t : Stop) → (walked header_policy s header.start).stop ≡ t → optional_header_of m header ≡ on_stop t Err (flags_judged m read) → OptionalRead m header
       go Whole w e = header_read read (rw (front_length m header.end hi) at (three-parts header_policy s header.start w)) e
       go (At fault place) w e =
           let i = fault-inside header_policy s header.start fault place w in
           let h = i.1 in
           header_fault fault place i.0 (omega (arith, front_length m header.end hi)) e
 
-  pub names-read : (top : StrsetParts) → strset_top_of m ≡ P.Parts top → NamesNests m top
+  pub names-read : (top : StrsetParts) → strset_top_of m ≡ Ok top → NamesNests m top
   unfolding strset_top_of with_header strset_parts
   names-read top = go (walked strset_policy m 20).stop refl
     where
       read : StrsetParts
       read = strset_parts (walked strset_policy m 20).slots
 
-      is-it : (a : Bool) → cond (not a) (P.Refused (R.MissingTop 1)) (P.Parts read) ≡ P.Parts top → (read ≡ top) × (a ≡ true)
+      is-it : (a : Bool) → cond (not a) (Err (R.MissingTop 1)) (Ok read) ≡ Ok top → (read ≡ top) × (a ≡ true)
       is-it false e = absurd (let z : ◌≡◌ {A = ℕ} 0 1 = cc in omega arith)
       is-it true e = (cc, refl)
 
-      go : (t : Stop) → (walked strset_policy m 20).stop ≡ t → on_stop t P.Refused (with_header read) ≡ P.Parts top → NamesNests m top
+      go : (t : Stop) → (walked strset_policy m 20).stop ≡ t → on_stop t Err (with_header read) ≡ Ok top → NamesNests m top
       go (At fault place) w e = absurd (let z : ◌≡◌ {A = ℕ} 0 1 = cc in omega arith)
       go Whole w e =
           let is = is-it read.header.present e in

@@ -1,5 +1,5 @@
 -- No promise rests on this file: what a message and a call come to, case by case, from which the theorems are shown.
-use Rattle.std.specs.Prelude.{ℕ, ◌+◌, ◌≤◌, ◌≡◌, List, true, false, length}
+use Rattle.std.specs.Prelude.{ℕ, ◌+◌, ◌≤◌, ◌≡◌, List, true, false, length, Some, Ok}
 use Rattle.admission.specs.Admission.{is_dump}
 use Rattle.netlink_headers.specs.declared.headers.MessageHeader.{MessageHeader}
 use Rattle.refusal.specs.declared.Refusal.{Refusal}
@@ -10,10 +10,8 @@ use Rattle.execute.specs.Execute.{request_of, with_effect, get_bytes, dump_respo
 use Rattle.response.specs.declared.Kind.TheVariants.{Skipped, Done, End, Refused}
 use Rattle.basics.specs.Numbers.{u32_at, byte_at}
 use Rattle.admission.specs.Commands.{command_of}
-use Rattle.admission.specs.declared.commands.CommandRead.TheVariants.{Strset}
 use Rattle.strset_request.specs.Asked.{asked_of}
 use Rattle.strset_request.specs.declared.asked.Asked.{Asked}
-use Rattle.strset_request.specs.declared.asked.AskedRead.TheVariants as A
 use Rattle.strset.specs.Strset.{strset_content_in, strset_bytes}
 use Rattle.netlink_headers.specs.Headers.{message_header}
 use Rattle.refusal.specs.Refusal.{number_of}
@@ -23,6 +21,7 @@ use Rattle.demands.specs.Check.{first_kind}
 use Rattle.demands.specs.Request.{message_checks}
 use Rattle.demands.specs.Call.{message_of, next_of}
 use Rattle.demands.specs.Message.{Named, DumpAsked, Carries}
+use Rattle.admission.specs.declared.commands.Listed.TheVariants.{Strset}
 
 -- what a message comes to: nothing for a skipped one, an error message, a reply, a message of a dump, name lists, or a change of one set of one port
 pub data MessageCase (box : Box) (state : State) (call : Call) (m : List ℕ) (h : MessageHeader) (next : ℕ) (o : Outcome State) : Type 0 where
@@ -33,7 +32,7 @@ pub data MessageCase (box : Box) (state : State) (call : Call) (m : List ℕ) (h
       → MessageCase box state call m h next o
   dump_done : is_dump h ≡ true → (d : DumpAsked m) → o ≡ unchanged (dump_response box state (request_of call h next d.command) d.flags) state
       → MessageCase box state call m h next o
-  strset_done : is_dump h ≡ false → command_of (byte_at m 16) ≡ Strset → (asked : Asked) → asked_of m box.roll ≡ A.Asked asked
+  strset_done : is_dump h ≡ false → command_of (byte_at m 16) ≡ Some Strset → (asked : Asked) → asked_of m box.roll ≡ Ok asked
       → length (strset_bytes m h (strset_content_in box asked)) ≤ 32768
       → o ≡ unchanged (response_of Done next (strset_bytes m h (strset_content_in box asked))) state → MessageCase box state call m h next o
   set_done : is_dump h ≡ false → (n : Named box.roll m) → n.command.change ≡ true → (b : Bitset) → Carries box m n b

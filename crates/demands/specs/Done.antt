@@ -1,6 +1,6 @@
 -- What a done message has brought about: request C-11, and demand 2, "An accepted bitset gives every masked bit its value and keeps the rest" and "Replies are the
 -- stated bytes, and read back give the stored set".
-use Rattle.std.specs.Prelude.{ℕ, ◌+◌, ◌-◌, ◌%◌, ◌≤◌, ◌<◌, ◌≡◌, List, ◌++◌, Bool, true, false, ◌⊎◌, length, get_or, eqb}
+use Rattle.std.specs.Prelude.{ℕ, ◌+◌, ◌-◌, ◌%◌, ◌≤◌, ◌<◌, ◌≡◌, List, ◌++◌, Bool, true, false, ◌⊎◌, length, get_or, eqb, Ok}
 use Rattle.bits.specs.Set.{has}
 use Rattle.entries.specs.Entry.{count}
 use Rattle.roll.specs.Record.{port_at}
@@ -21,7 +21,6 @@ use Rattle.read_back.specs.Strset.{ToldName, reply_told}
 use Rattle.read_back.specs.Strset.Told.{told}
 use Rattle.strset_request.specs.Asked.{asked_of}
 use Rattle.strset_request.specs.declared.asked.Asked.{Asked}
-use Rattle.strset_request.specs.declared.asked.AskedRead.TheVariants as A
 use Rattle.strset_reply.specs.Message.{strset_reply}
 use Rattle.strset.specs.Strset.{strset_content_in}
 use Rattle.response.specs.Answer.{Response, Outcome}
@@ -112,7 +111,7 @@ names_reply box h asked = strset_reply (heading_of h 0 1) (strset_content_in box
 -- exactly where one is named, and of the ids that STRINGSETS lists each once, where it first stands, or the default, with its count and, unless COUNTS_ONLY stands, every entry of its list
 pub record DoneStrset (box : Box) (state : State) (m : List ℕ) (h : MessageHeader) (o : Outcome State) : Type 0 where
   pub asked : Asked
-  pub asks : asked_of m box.roll ≡ A.Asked asked
+  pub asks : asked_of m box.roll ≡ Ok asked
   pub keeps : o.state ≡ state
   pub bytes : o.response.bytes ≡ names_reply box h asked ++ ack_if_asked m h
   pub few : length o.response.bytes ≤ 32768

@@ -1,7 +1,7 @@
 -- Demand 2, "Each attribute is shown as its own part of the datagram, inside its parent, apart from its siblings": where every part stands that the
 -- answer to an admitted request rests on. `PartsIn` (`netlink` Claims) says of the parts of a parent that each stands inside it, header and payload,
 -- and that no two overlap; `Apart` (`netlink_attributes` Claims) says of all attributes of a parent that they stand in it one after the other.
-use Rattle.std.specs.Prelude.{ℕ, ◌+◌, ◌-◌, ◌≤◌, ◌<◌, ◌≡◌, List, [], ◌∷◌, Bool, true, false, length, take, drop, leb}
+use Rattle.std.specs.Prelude.{ℕ, ◌+◌, ◌-◌, ◌≤◌, ◌<◌, ◌≡◌, List, [], ◌∷◌, Bool, true, false, length, take, drop, leb, Ok, Err}
 use Rattle.basics.specs.Numbers.{u32_at}
 use Rattle.netlink_attributes.specs.Attributes.{attributes, part_of}
 use Rattle.netlink_attributes.specs.Claims.{Apart}
@@ -23,8 +23,6 @@ use Rattle.request.specs.Top.{top_of}
 use Rattle.request.specs.Header.{judged_parts, header_of}
 use Rattle.request.specs.declared.parts.TopParts.{TopParts}
 use Rattle.request.specs.declared.parts.HeaderParts.{HeaderParts}
-use Rattle.request.specs.declared.top.Top.TheVariants.{Nests}
-use Rattle.request.specs.declared.header.Header.TheVariants as H
 use Rattle.response.specs.declared.Kind.{Kind}
 use Rattle.response.specs.declared.Kind.TheVariants.{End, Skipped, Done, Refused}
 use Rattle.netlink_headers.specs.Headers.{message_header}
@@ -65,7 +63,7 @@ pub data BitsetRead (s : List ℕ) (from : ℕ) (names : List ℕ) : Type 0 wher
 
 -- what is read of the header nest of a message m: a fault in it, or what its parts come to
 pub data HeaderRead (m : List ℕ) (header : Slot) (dump : Bool) : Type 0 where
-  header_fault : (fault : Fault) (place : ℕ) → header.start ≤ place → place < header.end → header_of m header dump ≡ H.Refused (of_fault fault place)
+  header_fault : (fault : Fault) (place : ℕ) → header.start ≤ place → place < header.end → header_of m header dump ≡ Err (of_fault fault place)
       → HeaderRead m header dump
   header_read : (parts : HeaderParts) → PartsIn header.start header.end (parts.index ∷ parts.name ∷ parts.flags ∷ [])
       → header_of m header dump ≡ judged_parts m (header.start - 4) dump parts
@@ -93,4 +91,4 @@ pub record RequestParts (box : Box) (datagram : List ℕ) (position : ℕ) (comm
   pub size : length (message_of datagram position) ≡ u32_at datagram position
   pub headers : 20 ≤ u32_at datagram position
   pub in_order : Apart (message_of datagram position) 20 (attributes (message_of datagram position) 20)
-  pub nested : (top : TopParts) → top_of (message_of datagram position) command.change ≡ Nests top → NestParts box (message_of datagram position) (asks_dump (message_header datagram position)) command top
+  pub nested : (top : TopParts) → top_of (message_of datagram position) command.change ≡ Ok top → NestParts box (message_of datagram position) (asks_dump (message_header datagram position)) command top

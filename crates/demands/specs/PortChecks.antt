@@ -1,5 +1,5 @@
 -- Document 01, "What a call says back": 16 and 17, which every request that names a port meets.
-use Rattle.std.specs.Prelude.{ℕ, ◌-◌, List, [], ◌∷◌, Bool, true, false, ◌&&◌, not}
+use Rattle.std.specs.Prelude.{ℕ, ◌-◌, List, [], ◌∷◌, Bool, true, false, ◌&&◌, not, Option, Some, None}
 use Rattle.netlink_attributes.specs.Attributes.{part_of}
 use Rattle.netlink.specs.Walk.{slot_number}
 use Rattle.netlink.specs.declared.walk.Slot.{Slot}
@@ -7,20 +7,18 @@ use Rattle.refusal.specs.declared.Refusal.TheVariants as R
 use Rattle.roll.specs.Find.{found_by_index, found_by_name}
 use Rattle.roll.specs.Name.{holds_name}
 use Rattle.roll.specs.Record.{name_of}
-use Rattle.roll.specs.declared.find.Found.{Found}
-use Rattle.roll.specs.declared.find.Found.TheVariants as F
 use Rattle.request.specs.declared.parts.HeaderParts.{HeaderParts}
 use Rattle.demands.specs.Check.{Check, refuse_if}
 
 -- no port is found
-unfoldable pub no_port : Found → Bool
-no_port F.Nothing = true
-no_port (F.At position) = false
+unfoldable pub no_port : Option ℕ → Bool
+no_port None = true
+no_port (Some position) = false
 
 -- a port is found, and the name that is given is not its name
-unfoldable pub named_otherwise : List ℕ → Slot → List ℕ → Found → Bool
-named_otherwise m name roll F.Nothing = false
-named_otherwise m name roll (F.At position) = name.present && not (holds_name (name_of roll position) (part_of m name.start name.end))
+unfoldable pub named_otherwise : List ℕ → Slot → List ℕ → Option ℕ → Bool
+named_otherwise m name roll None = false
+named_otherwise m name roll (Some position) = name.present && not (holds_name (name_of roll position) (part_of m name.start name.end))
 
 -- "no such port, by index if given, else by name" (16), "index found, name differs" (17), of the header nest, from its parts
 unfoldable pub named_port_checks : List ℕ → List ℕ → Slot → HeaderParts → List Check

@@ -1,6 +1,6 @@
 -- Document 01, "What a call says back", and requests C-11 and C-13: the checks of a message in their order, from skipping to the header level. "Levels: top level is walked
 -- whole .., then header missing (13), then bitset missing in a SET (13). Then the header is walked whole, then 14 to 17. Then the bitset".
-use Rattle.std.specs.Prelude.{ℕ, ◌-◌, ◌/◌, ◌%◌, List, [], ◌∷◌, ◌++◌, Bool, true, false, ◌&&◌, ◌||◌, not, cond, length, eqb, ltb}
+use Rattle.std.specs.Prelude.{ℕ, ◌-◌, ◌/◌, ◌%◌, List, [], ◌∷◌, ◌++◌, Bool, true, false, ◌&&◌, ◌||◌, not, cond, length, eqb, ltb, Option, Some, None}
 use Rattle.basics.specs.Numbers.{byte_at}
 use Rattle.netlink_attributes.specs.Attributes.{part_of}
 use Rattle.netlink.specs.Walk.{walked, slot_number}
@@ -17,37 +17,37 @@ use Rattle.request.specs.Policies.{top_policy, header_policy}
 use Rattle.request.specs.Parts.{top_parts, header_parts}
 use Rattle.request.specs.declared.parts.TopParts.{TopParts}
 use Rattle.request.specs.declared.parts.HeaderParts.{HeaderParts}
-use Rattle.admission.specs.declared.commands.CommandRead.{CommandRead}
-use Rattle.admission.specs.declared.commands.CommandRead.TheVariants.{Listed, Strset, Unlisted}
 use Rattle.demands.specs.Check.{Check, refuse_if, walk_checks}
 use Rattle.demands.specs.Check.Check.{skips, passes}
 use Rattle.demands.specs.Bitset.{bitset_checks}
 use Rattle.demands.specs.PortChecks.{named_port_checks}
 use Rattle.demands.specs.Strset.{strset_checks}
+use Rattle.admission.specs.declared.commands.Listed.{Listed}
+use Rattle.admission.specs.declared.commands.Listed.TheVariants.{OfSet, Strset}
 
 -- the command is not listed
-unfoldable pub unlisted : CommandRead → Bool
-unlisted Unlisted = true
-unlisted Strset = false
-unlisted (Listed command) = false
+unfoldable pub unlisted : Option Listed → Bool
+unlisted None = true
+unlisted (Some Strset) = false
+unlisted (Some (OfSet command)) = false
 
 -- it is a SET
-unfoldable pub is_set : CommandRead → Bool
-is_set Unlisted = false
-is_set Strset = false
-is_set (Listed command) = command.change
+unfoldable pub is_set : Option Listed → Bool
+is_set None = false
+is_set (Some Strset) = false
+is_set (Some (OfSet command)) = command.change
 
 -- it is STRSET_GET
-unfoldable pub is_strset : CommandRead → Bool
-is_strset Unlisted = false
-is_strset Strset = true
-is_strset (Listed command) = false
+unfoldable pub is_strset : Option Listed → Bool
+is_strset None = false
+is_strset (Some Strset) = true
+is_strset (Some (OfSet command)) = false
 
 -- the set that it is about; this is asked neither of a command that is not listed nor of STRSET_GET
-unfoldable pub set_in : CommandRead → Set
-set_in Unlisted = Debug
-set_in Strset = Debug
-set_in (Listed command) = command.set
+unfoldable pub set_in : Option Listed → Set
+set_in None = Debug
+set_in (Some Strset) = Debug
+set_in (Some (OfSet command)) = command.set
 
 -- "Type below 16 or REQUEST absent: skipped"
 unfoldable pub skip_if : MessageHeader → Check
@@ -58,7 +58,7 @@ unfoldable pub asks_dump : MessageHeader → Bool
 asks_dump h = eqb (h.flags / 256 % 4) 3
 
 -- 5 to 9; "8 now stands for a SET with both bits, at its old place", and for STRSET_GET
-unfoldable pub admission_checks : List ℕ → MessageHeader → ℕ → ℕ → CommandRead → List Check
+unfoldable pub admission_checks : List ℕ → MessageHeader → ℕ → ℕ → Option Listed → List Check
 admission_checks m h family admin command =
     skip_if h
     ∷ refuse_if (not (eqb h.kind family)) R.Family
@@ -87,14 +87,14 @@ header_checks m roll dump header =
     walk_checks (walked header_policy (part_of m 0 header.end) header.start) (λ slots. port_checks m roll dump header (header_parts slots))
 
 -- a listed command, from the parts of the top level: 13, the header level, and in a SET the bitset
-unfoldable pub level_checks : Box → List ℕ → Bool → CommandRead → TopParts → List Check
+unfoldable pub level_checks : Box → List ℕ → Bool → Option Listed → TopParts → List Check
 level_checks box m dump command parts =
     top_checks (is_set command) parts
     ++ (header_checks m box.roll dump parts.header
     ++ cond (is_set command) (bitset_checks (part_of m 0 parts.bitset.end) parts.bitset.start (list_of box.names (set_in command))) [])
 
 -- the message m with its header h, whose command is read
-unfoldable pub command_checks : Box → Call → List ℕ → MessageHeader → CommandRead → List Check
+unfoldable pub command_checks : Box → Call → List ℕ → MessageHeader → Option Listed → List Check
 command_checks box call m h command =
     admission_checks m h call.family call.admin command
     ++ cond (is_strset command) (strset_checks box m h)

@@ -1,6 +1,6 @@
 -- Request C-13: the checks of a STRSET_GET in their order, behind those of its admission: "top level whole, 13 for a missing header nest .., header whole, 15 (also without
 -- a port), 16, 17 where a port is named, STRINGSETS walked whole, then each STRINGSET in order: walked whole, 13, 24; then 25".
-use Rattle.std.specs.Prelude.{ℕ, ◌-◌, List, [], ◌∷◌, ◌++◌, Bool, false, ◌&&◌, ◌||◌, not, cond, length, get_or, eqb, ltb}
+use Rattle.std.specs.Prelude.{ℕ, ◌-◌, List, [], ◌∷◌, ◌++◌, Bool, false, ◌&&◌, ◌||◌, not, cond, length, get_or, eqb, ltb, Result, Ok, Err}
 use Rattle.netlink_attributes.specs.Attributes.{Attributes, attributes, part_of}
 use Rattle.netlink_attributes.specs.Attributes.Attributes.{done, broken, attribute}
 use Rattle.netlink.specs.Walk.{absent, walked, slot_number}
@@ -15,11 +15,11 @@ use Rattle.strset_request.specs.Policies.{strset_policy, string_sets_policy, str
 use Rattle.strset_request.specs.Top.{strset_parts}
 use Rattle.strset_request.specs.Asked.{asked_of}
 use Rattle.strset_request.specs.declared.top.StrsetParts.{StrsetParts}
-use Rattle.strset_request.specs.declared.asked.AskedRead.{AskedRead}
-use Rattle.strset_request.specs.declared.asked.AskedRead.TheVariants as A
 use Rattle.strset.specs.Strset.{strset_content_in, strset_bytes}
 use Rattle.demands.specs.Check.{Check, refuse_if, walks, walk_checks}
 use Rattle.demands.specs.PortChecks.{named_port_checks}
+use Rattle.refusal.specs.declared.Refusal.{Refusal}
+use Rattle.strset_request.specs.declared.asked.Asked.{Asked}
 
 -- "id not offered, or 2 without a port"
 unfoldable pub not_offered : Bool → ℕ → Bool
@@ -60,9 +60,9 @@ strset_level_checks m roll parts =
     ∷ walk_checks (walked header_policy (part_of m 0 parts.header.end) parts.header.start) (λ slots. strset_port_checks m roll parts (header_parts slots))
 
 -- the reply to what is asked for, with its ACK, is over 32,768 bytes; what is refused before has none
-unfoldable pub too_long : Box → List ℕ → MessageHeader → AskedRead → Bool
-too_long box m h (A.Refused why) = false
-too_long box m h (A.Asked asked) = ltb 32768 (length (strset_bytes m h (strset_content_in box asked)))
+unfoldable pub too_long : Box → List ℕ → MessageHeader → Result Asked Refusal → Bool
+too_long box m h (Err why) = false
+too_long box m h (Ok asked) = ltb 32768 (length (strset_bytes m h (strset_content_in box asked)))
 
 -- the message m with its header h: what it asks for, level by level, then 25
 unfoldable pub strset_checks : Box → List ℕ → MessageHeader → List Check

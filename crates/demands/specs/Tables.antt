@@ -1,5 +1,5 @@
 -- The tables of document 01 and of requests C-11 to C-13 said a second time, number by number: refusals, commands, kinds.
-use Rattle.std.specs.Prelude.{ℕ, ◌≡◌, Bool, true, false}
+use Rattle.std.specs.Prelude.{ℕ, ◌≡◌, Bool, true, false, Some, None}
 use Rattle.netlink_error.specs.declared.Detail.{Detail}
 use Rattle.netlink_error.specs.declared.Detail.TheVariants.{Nothing, Offset, MissTop, MissIn}
 use Rattle.refusal.specs.Refusal.{number_of, errno_of, detail_of}
@@ -8,9 +8,9 @@ use Rattle.refusal.specs.declared.Refusal.TheVariants.{Box, Page, Datagram, Leng
 use Rattle.layout.specs.declared.Set.{Set}
 use Rattle.layout.specs.declared.Set.TheVariants.{Debug, Flags}
 use Rattle.admission.specs.Commands.{command_of}
-use Rattle.admission.specs.declared.commands.CommandRead.TheVariants as C
 use Rattle.response.specs.Answer.{kind_number, refusal_number}
 use Rattle.response.specs.declared.Kind.TheVariants.{End, Skipped, Done, Refused}
+use Rattle.admission.specs.declared.commands.Listed.TheVariants as C
 
 -- a row: the number, the errno and the detail of a refusal
 abbrev pub RowIs : Refusal → ℕ → ℕ → Detail → Type 0
@@ -47,7 +47,7 @@ pub record RefusalTable (at kind : ℕ) : Type 0 where
 
 -- a listed command: whether it is a SET, its set, the command of its reply, and whether it may be dumped
 abbrev pub CommandIs : ℕ → Bool → Set → ℕ → Bool → Type 0
-CommandIs number change set reply dump = command_of number ≡ C.Listed (record { number = number; change = change; set = set; reply = reply; dump = dump })
+CommandIs number change set reply dump = command_of number ≡ Some (C.OfSet (record { number = number; change = change; set = set; reply = reply; dump = dump }))
 
 -- "STRSET_GET (command 1 ..)"; "DEBUG_GET 7, DEBUG_SET 8, PRIVFLAGS_GET 13, PRIVFLAGS_SET 14"; replies have "command 7 for DEBUG, 14 for PRIVFLAGS"; a GET may be dumped; no other command is listed
 pub record CommandTable : Type 0 where
@@ -55,8 +55,8 @@ pub record CommandTable : Type 0 where
   pub debug-set : CommandIs 8 true Debug 7 false
   pub privflags-get : CommandIs 13 false Flags 14 true
   pub privflags-set : CommandIs 14 true Flags 14 false
-  pub strset-get : command_of 1 ≡ C.Strset
-  pub others : (n : ℕ) → (n ≡ 1 → ⊥) → (n ≡ 7 → ⊥) → (n ≡ 8 → ⊥) → (n ≡ 13 → ⊥) → (n ≡ 14 → ⊥) → command_of n ≡ C.Unlisted
+  pub strset-get : command_of 1 ≡ Some C.Strset
+  pub others : (n : ℕ) → (n ≡ 1 → ⊥) → (n ≡ 7 → ⊥) → (n ≡ 8 → ⊥) → (n ≡ 13 → ⊥) → (n ≡ 14 → ⊥) → command_of n ≡ None
 
 -- "a kind (end, skipped, done, refused), a refusal number (0 if none)"
 pub record KindTable (why : Refusal) : Type 0 where

@@ -70,26 +70,20 @@ length-le (b ∷ s) = go (eqb b 0 && eqb (name_length s) 0) (length-le s)
     go true h = omega arith
     go false h = omega arith
 
--- every byte from n on is NUL
-pub record NulFrom (s : List ℕ) (n : ℕ) : Type 0 where
-  pub each : (j : ℕ) → n ≤ j → get_or s j 0 ≡ 0
+-- as the last byte that is not NUL is found, or none
+pub length-some : (s : List ℕ) (i : ℕ) → (i < length s) × (get_or s i 0 ≡ 0 → ⊥) × ((k : ℕ) → i < k → k < length s → get_or s k 0 ≡ 0) → i + 1 ≡ name_length s
+length-some s i h =
+    sym
+    (length-is s (i + 1)
+    (λ j l. ⊎_elim (λ (u : j < length s). h.2 j (omega arith) u) (λ (u : length s ≤ j). get_or-eq_default s 0 u) (lt-or-ge j (length s)))
+    (λ k e z. h.1 (let q : k ≡ i = omega arith in rw q at z)))
 
--- as the length is looked for from the end on
-module _ (s : List ℕ) where
-  pub nul-start : NulFrom s (length s)
-  nul-start = record { each = λ j l. get_or-eq_default s 0 l }
-
-  module _ (n : ℕ) (h : NulFrom s n) where
-    pub nul-more : 0 < n → get_or s (n - 1) 0 ≡ 0 → NulFrom s (n - 1)
-    nul-more p z = record {
-      each = λ j l. ⊎_elim (λ (u : j < n). let e : n - 1 ≡ j = omega arith in rw e at z) (λ (u : n ≤ j). h.each j u) (lt-or-ge j n);
-    }
-
-    pub nul-stop : 0 < n → (get_or s (n - 1) 0 ≡ 0 → ⊥) → n ≡ name_length s
-    nul-stop p some = sym (length-is s n h.each (λ k e z. some (let q : k ≡ n - 1 = omega arith in rw q at z)))
-
-    pub nul-none : n ≤ 0 → 0 ≡ name_length s
-    nul-none l = sym (length-is s 0 (λ j u. h.each j (omega arith)) (λ k e. absurd (omega arith)))
+pub length-none : (s : List ℕ) → ((k : ℕ) → k < length s → get_or s k 0 ≡ 0) → 0 ≡ name_length s
+length-none s h =
+    sym
+    (length-is s 0
+    (λ j l. ⊎_elim (λ (u : j < length s). h j u) (λ (u : length s ≤ j). get_or-eq_default s 0 u) (lt-or-ge j (length s)))
+    (λ k e. absurd (omega arith)))
 
 -- equal entries, or an entry and a name that equals it, are of one length and end in the same byte
 module _ (a b : List ℕ) (s : same_entry a b ≡ true) (la : length a ≤ 32) (lb : length b ≤ 32) where

@@ -1,4 +1,5 @@
-// Whether the entries are distinct, in time linear in the list where the hash spreads them.
+// Whether the entries are distinct, in time linear in the list where the hash spreads them. In its tables a place is counted from 1, and 0 is none: an
+// `Option<u16>` has twice the bytes, and all are cleared for each list.
 ghost use Rattle.std.specs.Prelude.{◌≡◌, ◌/◌, ◌≤◌, ◌<◌, length, get_or};
 ghost use Rattle.basics.specs.Scan.{all};
 ghost use Rattle.entries.specs.Entry.{entry_at, differs, entry_new, entries_distinct};
@@ -6,29 +7,24 @@ ghost use Rattle.entries.specs.Chain.{folded, spread, hash_of, last_of_hash, Hea
 
 use crate::same::{eight, same_entry};
 
-// A place in a table as an index.
-fn place(x: u16) -> usize
-    ensures { result ≡ x }
-{
-    x as usize
-}
-
 // The place that a table holds at an index.
 pub fn place_in(table: &[u16], i: usize) -> usize
     requires { i < length table.now }
     ensures { result ≡ get_or table.now i 0 }
 {
-    place(table[i])
+    usize::from(table[i])
 }
 
 // Four numbers in one, each rotated by bits of its own.
+#[tactic(auto, unfolding(crate::specs::Chain::folded))]
 fn fold(a: u64, b: u64, c: u64, d: u64) -> u64
     ensures { result ≡ folded a b c d }
 {
-    a ^ ((b << 44) | (b >> 20)) ^ ((c << 45) | (c >> 19)) ^ ((d << 16) | (d >> 48))
+    a ^ b.rotate_left(44) ^ c.rotate_left(45) ^ d.rotate_left(16)
 }
 
 // A number spread over the chains.
+#[tactic(auto, unfolding(crate::specs::Chain::spread))]
 fn spread_of(x: u64) -> usize
     ensures { (result ≡ spread x) × (result < 1024) }
 {
@@ -88,7 +84,7 @@ fn entry_new(list: &[u8], links: &[u16], i: usize, start: usize) -> bool
     chain_new(list, links, i, start)
 }
 
-// Whether the entries are distinct. Room: `head`, a place for each chain; `links`, one for each entry, which stays 0 where it is the first of its chain.
+// Whether the entries are distinct. The index of an entry goes into the tables. Room: `head`, a place for each chain; `links`, one for each entry, which stays 0 where it is the first of its chain.
 fn distinct_in(list: &[u8], head: &mut [u16], links: &mut [u16]) -> bool
     requires head_len { (length head.old ≡ 1024) × (length links.old ≡ 512) × (length list.now / 32 ≤ 512) }
     requires head_right { HeadRight list.now head.old 0 × LinksClear links.old 0 }
@@ -101,7 +97,7 @@ fn distinct_in(list: &[u8], head: &mut [u16], links: &mut [u16]) -> bool
         if start == 0 {
             continue 'entries;
         }
-        if !entry_new(list, links, i, place(start)) {
+        if !entry_new(list, links, i, usize::from(start)) {
             return false;
         }
         links[i] = start;

@@ -1,5 +1,5 @@
 // The length of a name without the NULs behind it.
-ghost use Rattle.std.specs.Prelude.{◌≡◌, ◌/◌, ◌<◌, length};
+ghost use Rattle.std.specs.Prelude.{ℕ, ◌≡◌, ◌≢◌, ◌/◌, ◌<◌, length, slice_index, MatchOption};
 ghost use Rattle.entries.specs.Entry.{entry_at};
 ghost use Rattle.entries.specs.Length.{name_length};
 ghost use Rattle.entries.specs.Bytes.{BytesIn};
@@ -10,21 +10,24 @@ use crate::same::eight;
 fn bytes_in(x: u64) -> usize
     ensures { BytesIn x result }
 {
-    (8 - u64::leading_zeros(x) / 8) as usize
+    (8 - x.leading_zeros() / 8) as usize
+}
+
+// The place of the last byte that is not NUL.
+fn last_some(name: &[u8]) -> Option<usize>
+    ensures { MatchOption result ((k : ℕ) → k < length name.now → slice_index name.now k ≡ 0) (λ i. (i < length name.now) × (slice_index name.now i ≢ 0) × ((k : ℕ) → i < k → k < length name.now → slice_index name.now k ≡ 0)) }
+{
+    name.iter().rposition(|byte| *byte != 0)
 }
 
 // The length of a name that may end in NULs: the NULs are passed one by one, since there is one as a rule.
 pub fn name_length(name: &[u8]) -> usize
     ensures { result ≡ name_length name.now }
 {
-    let mut n = name.len();
-    while 0 < n {
-        if name[n - 1] != 0 {
-            return n;
-        }
-        n -= 1;
+    match last_some(name) {
+        Some(last) => last + 1,
+        None => 0,
     }
-    0
 }
 
 // The length of entry i's name: the NULs behind it are passed eight at a time.

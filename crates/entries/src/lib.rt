@@ -5,17 +5,10 @@ pub mod chain;
 pub mod length;
 pub mod same;
 
-ghost use Rattle.std.specs.Prelude.{◌≡◌, get_or};
+ghost use Rattle.std.specs.Prelude.{◌≡◌};
 ghost use Rattle.entries.specs.Entry.{count as count_of, entry_at};
 
 pub use chain::all_distinct;
-
-// The byte at a place, 0 past the end.
-pub fn byte_at(s: &[u8], at: usize) -> u8
-    ensures { result ≡ get_or s.now at 0 }
-{
-    if at < s.len() { s[at] } else { 0 }
-}
 
 // The whole entries of a list.
 pub fn count(list: &[u8]) -> usize

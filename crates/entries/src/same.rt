@@ -3,14 +3,13 @@ ghost use Rattle.std.specs.Prelude.{◌≡◌, ◌+◌, ◌/◌, ◌≤◌, ◌<
 ghost use Rattle.basics.specs.Numbers.{u64_at};
 ghost use Rattle.entries.specs.Entry.{entry_at, same_entry};
 
-use numbers::{four, wide64};
-
 // The number in the eight bytes from `at` on.
+#[tactic(auto, unfolding(basics::specs::Numbers::u32_at))]
 pub fn eight(list: &[u8], at: usize) -> u64
     requires { at + 8 ≤ length list.now }
     ensures { result ≡ u64_at list.now at }
 {
-    wide64(four(list, at)) + wide64(four(list, at + 4)) * 4294967296
+    u64::from_le_bytes(*list[at..].first_chunk().unwrap())
 }
 
 // Whether the eight bytes from `a` on are those from `b` on.

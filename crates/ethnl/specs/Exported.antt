@@ -1,10 +1,10 @@
 -- What the exported functions leave behind their pointers.
-use Rattle.std.specs.Prelude.{ℕ, ◌≡◌, List, length}
+use Rattle.std.specs.Prelude.{ℕ, ◌≡◌, List, length, Option}
 use Rattle.basics.specs.Put.{put}
 use Rattle.word_bytes.specs.Bytes.{Bytes}
 use Rattle.normal.specs.Normal as N
-use Rattle.bit_name.specs.declared.Found.{Found}
-use Rattle.box_fault.specs.Fault.{part_number}
+use Rattle.box_fault.specs.Fault.{fault_number, fault_offset}
+use Rattle.bit_name.specs.Find.{Found}
 use Rattle.box_fault.specs.declared.Fault.{Fault}
 use Rattle.response.specs.Answer.{Outcome, kind_number, refusal_number}
 use Rattle.handler.specs.Bytes.{Stored}
@@ -22,9 +22,9 @@ pub record Find (f : Found) (found compared r : ℕ) : Type 0 where
   pub count : compared ≡ f.compared
 
 -- ethnl_check_box: the number of the part, and the offset in it behind its pointer
-pub record CheckBox (f : Fault) (offset r : ℕ) : Type 0 where
-  pub part : r ≡ part_number f.part
-  pub place : offset ≡ f.offset
+pub record CheckBox (f : Option Fault) (offset r : ℕ) : Type 0 where
+  pub part : r ≡ fault_number f
+  pub place : offset ≡ fault_offset f
 
 -- ethnl_handle: kind, refusal number, next position, next place and count behind their pointers; the settings that are lent are bytes
 pub record Handle (o : Outcome Stored) (lent stored : Stored) (before after : List ℕ) (k f n p w : ℕ) : Type 0 where

@@ -1,8 +1,8 @@
 // The functions that C calls, as include/ethnl.h declares them: numbers and byte buffers alone. The crate ethnl_c exports them.
 #![tactic(auto)]
 
-ghost use Rattle.std.specs.Prelude.{◌≡◌, length};
-ghost use Rattle.bit_name.specs.Find.{name_found};
+ghost use Rattle.std.specs.Prelude.{◌≡◌, ◌≤◌, IfSome, length};
+ghost use Rattle.bit_name.specs.Find.{bit_told, name_found};
 ghost use Rattle.normal.specs.Normal.{normalised};
 ghost use Rattle.boxes.specs.Box.{box_of};
 ghost use Rattle.box_fault.specs.Fault.{box_fault};
@@ -14,23 +14,53 @@ use boxes::Call;
 use handler::bytes::handle_bytes;
 
 // Writes the normal form of a bitset's contents to the page. Returns document 01's number, 0 if accepted.
+#[tactic(auto, using(crate::proofs::Laws::normalise_laws))]
 pub fn ethnl_normalise(contents: &[u8], names: &[u8], page: &mut [u8], written: &mut u64) -> u32
     ensures { Normalise (normalised contents.now names.now (length page.old)) page.old page.new written.new result }
 {
-    let normal = normal::normalise(contents, names, page);
-    *written = normal.written as u64;
-    normal.number
+    match normal::normalise(contents, names, page) {
+        Err(why) => {
+            *written = 0;
+            why.number()
+        }
+        Ok(count) => {
+            *written = count as u64;
+            0
+        }
+    }
+}
+
+// The bit that is told where no entry equals the name.
+pub const NOT_FOUND: u32 = 4294967295;
+
+fn told_bit(bit: Option<usize>) -> u32
+    requires { IfSome bit (λ k. k ≤ 4294967295) }
+    ensures { result ≡ bit_told bit }
+{
+    match bit {
+        Some(bit) => bit as u32,
+        None => NOT_FOUND,
+    }
 }
 
 // Looks for a bit name, which stands without its NUL: leaves the bit, 2^32 - 1 where no entry equals it, and how many entries were compared.
 // Returns document 01's number, 0 where the list breaks no rule.
+#[tactic(auto, using(crate::proofs::Laws::find_laws))]
 pub fn ethnl_find(names: &[u8], name: &[u8], found: &mut u32, compared: &mut u64) -> u32
     ensures { Find (name_found names.now name.now) found.new compared.new result }
 {
-    let told = bit_name::find(names, name);
-    *found = told.bit;
-    *compared = told.compared as u64;
-    told.number
+    match bit_name::find(names, name) {
+        Err(why) => {
+            *found = 0;
+            *compared = 0;
+            why.number()
+        }
+        Ok(lookup) => {
+            *found = told_bit(lookup.bit);
+            *compared = lookup.compared as u64;
+            0
+        }
+    }
 }
 
 // Tells which part of a box breaks a rule first, and where: returns the part's number, 0 if none does, and leaves the offset in it.
@@ -45,7 +75,11 @@ pub fn ethnl_check_box(
 ) -> u32
     ensures { CheckBox (box_fault family admin (box_of roll.now debug.now flags.now) settings.now) offset.new result }
 {
-    let fault = box_fault(family, admin, roll, debug, flags, settings);
+    // C takes 0 for a sound box.
+    let Some(fault) = box_fault(family, admin, roll, debug, flags, settings) else {
+        *offset = 0;
+        return 0;
+    };
     let part = fault.part;
     *offset = fault.offset as u64;
     part.number()

@@ -25,23 +25,25 @@ use Rattle.request.specs.Top.{top_of}
 use Rattle.request.specs.Target.{target_of}
 use Rattle.request.proofs.target.Place.{TargetIn, target-counted}
 use Rattle.request.specs.declared.parts.TopParts.{TopParts}
-use Rattle.request.specs.declared.top.Top.{Top}
-use Rattle.request.specs.declared.top.Top.TheVariants as T
-use Rattle.request.specs.declared.target.TargetRead.{TargetRead}
-use Rattle.request.specs.declared.target.TargetRead.TheVariants as A
 use Rattle.decision.specs.Decision as D
 use Rattle.decision.specs.Decision.{bitset_decision, header_decision, decided}
-use Rattle.decision.specs.declared.Decision.{Decision}
+use Rattle.decision.specs.declared.Plan.{Plan}
 use Rattle.request.specs.declared.target.Target.{Target}
 use Rattle.decision.specs.declared.Plan.TheVariants as P
-use Rattle.response.specs.Answer.{response_of, ack_bytes, unchanged, Performs}
+use Rattle.response.specs.Answer.{response_of, error_response, ack_bytes, unchanged, Responds, Performs}
 use Rattle.response.specs.declared.Kind.TheVariants.{Done}
 use Rattle.response.specs.declared.Answer.{Answer}
 use Rattle.execute.specs.declared.Request.{Request}
 use Rattle.execute.specs.Execute.{with_set, with_effect, get_bytes, reading_outcome, set_outcome, port_outcome, target_outcome, header_outcome, top_outcome, request_outcome}
 use Rattle.admission.specs.Admission.{is_dump}
-use Rattle.execute.specs.CarriedOut.{changed_by, carried_out}
+use Rattle.execute.specs.CarriedOut.{changed_by, plan_outcome, carried_out}
 use Rattle.execute.specs.Fit.{Fit}
+use Rattle.execute.proofs.Laws.{unchanged-performs}
+use Rattle.basics.specs.Results.{and_then}
+use Rattle.std.specs.Prelude.{Result, Ok, Err}
+use Rattle.refusal.specs.declared.Refusal.{Refusal}
+use Rattle.request.specs.declared.target.Addressee.{Addressee}
+use Rattle.request.specs.declared.target.Addressee.TheVariants as A
 
 module _ (box : Box) (state : State) (fit : Fit box state) where
   -- the form of an accepted bitset, applied to a set of a port, makes of it what the bitset says
@@ -85,7 +87,7 @@ module _ (box : Box) (state : State) (fit : Fit box state) where
     -- the bitset
     bitset-is : (bitset : Slot) (position : ℕ) → position < ports_in box
         → carried_out box state m request (bitset_decision m bitset names-here position) ≡ set_outcome box state m request bitset position
-    unfolding bitset_decision set_outcome carried_out names
+    unfolding bitset_decision set_outcome names
     bitset-is bitset position here = go (bitset_reading (part_of m 0 bitset.end) bitset.start names-here) refl
       where
         go : (x : Reading) → bitset_reading (part_of m 0 bitset.end) bitset.start names-here ≡ x
@@ -97,23 +99,22 @@ module _ (box : Box) (state : State) (fit : Fit box state) where
 
     -- GET or SET
     port-is : (bitset : Slot) (target : Target) → target.position < ports_in box
-        → carried_out box state m request (cond request.command.change (bitset_decision m bitset names-here target.position) (D.without_form (P.Get target))) ≡ port_outcome box state m request bitset target
-    unfolding port_outcome carried_out
+        → carried_out box state m request (cond request.command.change (bitset_decision m bitset names-here target.position) (Ok (P.Get target))) ≡ port_outcome box state m request bitset target
+    unfolding port_outcome
     port-is bitset target here = go request.command.change
       where
         go : (change : Bool)
-            → carried_out box state m request (cond change (bitset_decision m bitset names-here target.position) (D.without_form (P.Get target)))
+            → carried_out box state m request (cond change (bitset_decision m bitset names-here target.position) (Ok (P.Get target)))
             ≡ cond change (set_outcome box state m request bitset target.position) (unchanged (response_of Done request.next (get_bytes box state m request target)) state)
         go true = bitset-is bitset target.position here
         go false = refl
 
     -- the header level
-    target_is : (bitset : Slot) (a : TargetRead) → TargetIn box.roll a
+    target_is : (bitset : Slot) (a : Result Addressee Refusal) → TargetIn box.roll a
         → carried_out box state m request (D.target_decision a request.command.change (bitset_decision m bitset names-here)) ≡ target_outcome a box state m request (port_outcome box state m request bitset)
-    unfolding carried_out
-    target_is bitset (A.Refused why) i = refl
-    target_is bitset (A.Unnamed flags) i = refl
-    target_is bitset (A.Port target) i = port-is bitset target i
+    target_is bitset (Err why) i = refl
+    target_is bitset (Ok (A.Unnamed flags)) i = refl
+    target_is bitset (Ok (A.Port target)) i = port-is bitset target i
 
     abbrev dump : Bool
     dump = is_dump request.header
@@ -124,16 +125,22 @@ module _ (box : Box) (state : State) (fit : Fit box state) where
     header_is parts = target_is parts.bitset (target_of m parts.header dump box.roll) (target-counted box.roll m parts.header dump)
 
     -- the top level
-    top-is : (t : Top) → carried_out box state m request (D.top_decision t (header_decision box m request.command dump)) ≡ top_outcome t state m request (header_outcome box state m request)
-    unfolding carried_out
-    top-is (T.Refused why) = refl
-    top-is (T.Nests parts) = header_is parts
+    top-is : (t : Result TopParts Refusal) → carried_out box state m request (and_then t (header_decision box m request.command dump)) ≡ top_outcome t state m request (header_outcome box state m request)
+    top-is (Err why) = refl
+    top-is (Ok parts) = header_is parts
 
     pub carried-is : carried_out box state m request (decided box m request.command dump) ≡ request_outcome box state m request
     unfolding decided request_outcome
     carried-is = top-is (top_of m request.command.change)
 
--- the return of `execute`
-pub execute-performs : (box : Box) (state : State) (m : List ℕ) (request : Request) (b : Bool) (d : Decision) (P Q : List ℕ) (new : State) (r : Answer)
-    → Fit box state → b ≡ is_dump request.header → d ≡ decided box m request.command b → Performs (carried_out box state m request d) P Q new r → Performs (request_outcome box state m request) P Q new r
-execute-performs box state m request b d P Q new r fit eb e performed = rw (← carried-is box state fit m request, ← eb, ← e) performed
+-- the returns of `execute`
+module _ (box : Box) (state : State) (m : List ℕ) (request : Request) (b : Bool) (d : Result Plan Refusal) (P Q : List ℕ) (r : Answer) (fit : Fit box state)
+    (eb : b ≡ is_dump request.header) (e : d ≡ decided box m request.command b) where
+  decided-outcome : carried_out box state m request d ≡ request_outcome box state m request
+  decided-outcome = ap (carried_out box state m request) (e ∙ ap (decided box m request.command) eb) ∙ carried-is box state fit m request
+
+  pub execute-refused : (why : Refusal) → d ≡ Err why → Responds (error_response m request.next why) P Q r → Performs (request_outcome box state m request) P Q state r
+  execute-refused why q s = rw (sym decided-outcome ∙ ap (carried_out box state m request) q) (unchanged-performs (error_response m request.next why) P Q state r s)
+
+  pub execute-performs : (plan : Plan) (new : State) → d ≡ Ok plan → Performs (plan_outcome plan box state m request) P Q new r → Performs (request_outcome box state m request) P Q new r
+  execute-performs plan new q performed = rw (sym decided-outcome ∙ ap (carried_out box state m request) q) performed

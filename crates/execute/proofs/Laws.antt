@@ -7,7 +7,6 @@ use native.Mathlib.Omega.{arith}
 use Rattle.basics.specs.Put.{splice}
 use Rattle.bits.specs.Set.{has, words_of}
 use Rattle.bits.specs.Change.{merge}
-use Rattle.refusal.specs.declared.Refusal.{Refusal}
 use Rattle.roll.specs.Record.{port_count}
 use Rattle.layout.specs.Layout.{size_of, widths_of, total_words, set_place, set_at}
 use Rattle.layout.specs.AtMost.{AtMost}
@@ -16,15 +15,14 @@ use Rattle.layout.specs.declared.Sizes.{Sizes}
 use Rattle.layout.proofs.Laws.{size_few, widths-few, place_inside}
 use Rattle.boxes.specs.Box.{Box, State, state_of, ports_in, sizes_in, place_in, width_in, set_of}
 use Rattle.bitset_form.specs.declared.Form.{Form}
-use Rattle.response.specs.Answer.{Response, response_of, error_response, ack_bytes, unchanged, Responds, Performs}
+use Rattle.response.specs.Answer.{Response, response_of, ack_bytes, unchanged, Responds, Performs}
 use Rattle.response.specs.declared.Kind.TheVariants.{Done}
 use Rattle.request.specs.declared.target.Target.{Target}
 use Rattle.decision.specs.declared.Plan.{Plan}
 use Rattle.decision.specs.declared.Plan.TheVariants as Pl
-use Rattle.decision.specs.declared.Decision.{Decision}
 use Rattle.execute.specs.declared.Request.{Request}
 use Rattle.execute.specs.Execute.{with_set, get_bytes, dump_response}
-use Rattle.execute.specs.CarriedOut.{changed_by, plan_outcome, carried_out}
+use Rattle.execute.specs.CarriedOut.{changed_by, plan_outcome}
 use Rattle.execute.specs.Fit.{Fit}
 use Rattle.response.specs.declared.Answer.{Answer}
 
@@ -75,36 +73,17 @@ module _ (box : Box) (state : State) (fit : Fit box state) (sizes width : Sizes)
 
 pub ruleset change-laws = (few-by, apply-width, apply-room, change-is)
 
--- a decision carried out
-module _ (box : Box) (state : State) (m : List ℕ) (request : Request) (d : Decision) (P Q : List ℕ) (r : Answer) where
-  pub carry-refused : (why : Refusal) → d.plan ≡ Pl.Refused why → Responds (error_response m request.next why) P Q r → Performs (carried_out box state m request d) P Q state r
-  unfolding carried_out
-  carry-refused why q s = go d.plan q
-    where
-      go : (p : Plan) → p ≡ Pl.Refused why → Performs (plan_outcome p d.form box state m request) P Q state r
-      go p e = rw e (unchanged-performs (error_response m request.next why) P Q state r s)
+-- a plan carried out
+module _ (box : Box) (state : State) (m : List ℕ) (request : Request) (p : Plan) (P Q : List ℕ) (r : Answer) where
+  pub carry-get : (target : Target) → p ≡ Pl.Get target → Responds (response_of Done request.next (get_bytes box state m request target)) P Q r
+      → Performs (plan_outcome p box state m request) P Q state r
+  carry-get target e s = rw e (unchanged-performs _ P Q state r s)
 
-  pub carry-get : (target : Target) → d.plan ≡ Pl.Get target → Responds (response_of Done request.next (get_bytes box state m request target)) P Q r
-      → Performs (carried_out box state m request d) P Q state r
-  unfolding carried_out
-  carry-get target q s = go d.plan q
-    where
-      go : (p : Plan) → p ≡ Pl.Get target → Performs (plan_outcome p d.form box state m request) P Q state r
-      go p e = rw e (unchanged-performs _ P Q state r s)
+  pub carry-dump : (flags : ℕ) → p ≡ Pl.Dump flags → Responds (dump_response box state request flags) P Q r → Performs (plan_outcome p box state m request) P Q state r
+  carry-dump flags e s = rw e (unchanged-performs _ P Q state r s)
 
-  pub carry-dump : (flags : ℕ) → d.plan ≡ Pl.Dump flags → Responds (dump_response box state request flags) P Q r → Performs (carried_out box state m request d) P Q state r
-  unfolding carried_out
-  carry-dump flags q s = go d.plan q
-    where
-      go : (p : Plan) → p ≡ Pl.Dump flags → Performs (plan_outcome p d.form box state m request) P Q state r
-      go p e = rw e (unchanged-performs _ P Q state r s)
+  pub carry-set : (position nest : ℕ) (form : Form) (new : State) → p ≡ Pl.Set position nest form → new ≡ changed_by box state position request.command.set form
+      → Responds (response_of Done request.next (ack_bytes m request.header)) P Q r → Performs (plan_outcome p box state m request) P Q new r
+  carry-set position nest form new i e s = rw i (record { response = s; state-is = e })
 
-  pub carry-set : (position nest : ℕ) (new : State) → d.plan ≡ Pl.Set position nest → new ≡ changed_by box state position request.command.set d.form
-      → Responds (response_of Done request.next (ack_bytes m request.header)) P Q r → Performs (carried_out box state m request d) P Q new r
-  unfolding carried_out
-  carry-set position nest new q e s = go d.plan q
-    where
-      go : (p : Plan) → p ≡ Pl.Set position nest → Performs (plan_outcome p d.form box state m request) P Q new r
-      go p i = rw i (record { response = s; state-is = e })
-
-pub ruleset carry-laws = (carry-refused, carry-get, carry-dump, carry-set)
+pub ruleset carry-laws = (carry-get, carry-dump, carry-set)

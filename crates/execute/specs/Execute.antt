@@ -1,5 +1,5 @@
 -- Document 01, "What a call says back", from the levels on, and request C-11: an admitted command judged level by level, then carried out.
-use Rattle.std.specs.Prelude.{ℕ, ◌+◌, ◌%◌, List, ◌++◌, cond, eqb, ltb}
+use Rattle.std.specs.Prelude.{ℕ, ◌+◌, ◌%◌, List, ◌++◌, cond, eqb, ltb, Result, Ok, Err}
 use Rattle.basics.specs.Put.{splice}
 use Rattle.bits.specs.Set.{has, words_of}
 use Rattle.netlink_headers.specs.declared.headers.MessageHeader.{MessageHeader}
@@ -21,13 +21,12 @@ use Rattle.request.specs.Top.{top_of}
 use Rattle.request.specs.Target.{target_of}
 use Rattle.request.specs.declared.target.Target.{Target}
 use Rattle.request.specs.declared.parts.TopParts.{TopParts}
-use Rattle.request.specs.declared.top.Top.{Top}
-use Rattle.request.specs.declared.top.Top.TheVariants as T
-use Rattle.request.specs.declared.target.TargetRead.{TargetRead}
-use Rattle.request.specs.declared.target.TargetRead.TheVariants as A
 use Rattle.response.specs.Answer.{Response, Outcome, response_of, error_response, ack_bytes, unchanged}
 use Rattle.response.specs.declared.Kind.TheVariants.{Done}
 use Rattle.execute.specs.declared.Request.{Request}
+use Rattle.refusal.specs.declared.Refusal.{Refusal}
+use Rattle.request.specs.declared.target.Addressee.{Addressee}
+use Rattle.request.specs.declared.target.Addressee.TheVariants as A
 
 -- the request of a call with a header and a command, after which the datagram goes on at a position
 abbrev pub request_of : Call → MessageHeader → ℕ → Command → Request
@@ -99,10 +98,10 @@ port_outcome box state m request bitset target =
     (unchanged (response_of Done request.next (get_bytes box state m request target)) state)
 
 -- a refusal of the header level, or a dump, or what is made of its target
-abbrev pub target_outcome : TargetRead → Box → State → List ℕ → Request → (Target → Outcome State) → Outcome State
-target_outcome (A.Refused r) box state m request f = unchanged (error_response m request.next r) state
-target_outcome (A.Unnamed flags) box state m request f = unchanged (dump_response box state request flags) state
-target_outcome (A.Port target) box state m request f = f target
+abbrev pub target_outcome : Result Addressee Refusal → Box → State → List ℕ → Request → (Target → Outcome State) → Outcome State
+target_outcome (Err r) box state m request f = unchanged (error_response m request.next r) state
+target_outcome (Ok (A.Unnamed flags)) box state m request f = unchanged (dump_response box state request flags) state
+target_outcome (Ok (A.Port target)) box state m request f = f target
 
 -- the port that the header names, then GET or SET; or a dump
 unfoldable pub header_outcome : Box → State → List ℕ → Request → TopParts → Outcome State
@@ -110,9 +109,9 @@ header_outcome box state m request parts =
     target_outcome (target_of m parts.header (is_dump request.header) box.roll) box state m request (port_outcome box state m request parts.bitset)
 
 -- a refusal of the top level, or what is made of its parts
-abbrev pub top_outcome : Top → State → List ℕ → Request → (TopParts → Outcome State) → Outcome State
-top_outcome (T.Refused r) state m request f = unchanged (error_response m request.next r) state
-top_outcome (T.Nests parts) state m request f = f parts
+abbrev pub top_outcome : Result TopParts Refusal → State → List ℕ → Request → (TopParts → Outcome State) → Outcome State
+top_outcome (Err r) state m request f = unchanged (error_response m request.next r) state
+top_outcome (Ok parts) state m request f = f parts
 
 -- what an admitted request comes to
 unfoldable pub request_outcome : Box → State → List ℕ → Request → Outcome State

@@ -5,12 +5,11 @@ pub mod replies;
 
 ghost use Rattle.std.specs.Prelude.{◌≡◌, ◌≤◌, ◌<◌, length};
 ghost use Rattle.roll.specs.Record.{port_count};
-ghost use Rattle.roll.specs.Table.{Tabled};
 ghost use Rattle.boxes.specs.Box.{box_of, state_of};
 ghost use Rattle.response.specs.Answer.{Performs};
 ghost use Rattle.decision.specs.PortIn.{PortIn};
 ghost use Rattle.execute.specs.Execute.{request_outcome};
-ghost use Rattle.execute.specs.CarriedOut.{changed_by, carried_out};
+ghost use Rattle.execute.specs.CarriedOut.{changed_by, plan_outcome};
 ghost use Rattle.execute.specs.Fit.{Fit};
 
 use crate::replies::{dump, get};
@@ -18,11 +17,12 @@ use admission::commands::Command;
 use admission::is_dump;
 use bitset_form::Form;
 use boxes::lists::sizes;
-use decision::{Decision, Plan, decide};
+use decision::{Plan, decide};
 use layout::change::apply;
 use layout::{Set, set_place, size_of, widths};
 use netlink_headers::headers::MessageHeader;
 use response::{Answer, acknowledge, refuse};
+use roll::Roll;
 use roll::table::PORTS;
 
 // An admitted request: its header, its position and the one after it, the place that a dump has come to, and its command.
@@ -38,7 +38,7 @@ pub struct Request {
 // A form applied to a set of the port at a position.
 fn change(
     settings: &mut [u32],
-    roll: &[u8],
+    roll: &Roll,
     debug: &[u8],
     flags: &[u8],
     position: usize,
@@ -58,41 +58,35 @@ fn change(
     apply(settings, at, w, mask, value);
 }
 
-// Carries a decision out: all is judged, and only now is the page written and a set changed.
+// Carries a plan out: all is judged, and only now is the page written and a set changed.
 fn carry_out<'a>(
     page: &mut [u8],
     settings: &mut [u32],
-    roll: &[u8],
-    ports: &[u64],
+    roll: &Roll,
     debug: &'a [u8],
     flags: &'a [u8],
     m: &[u8],
     request: Request,
-    decision: Decision,
+    plan: Plan,
 ) -> Answer
-    requires in_bounds { (32768 ≤ length page.old) × (16 ≤ length m.now) × PortIn roll.now decision.plan }
-    requires tabled { Tabled roll.now ports.now }
+    requires in_bounds { (32768 ≤ length page.old) × (16 ≤ length m.now) × PortIn roll.now plan }
     requires fit { Fit (box_of roll.now debug.now flags.now) (state_of settings.old) }
-    ensures { Performs (carried_out (box_of roll.now debug.now flags.now) (state_of settings.old) m.now request decision) page.old page.new (state_of settings.new) result }
+    ensures { Performs (plan_outcome plan (box_of roll.now debug.now flags.now) (state_of settings.old) m.now request) page.old page.new (state_of settings.new) result }
 {
-    let plan = decision.plan;
     match plan {
-        Plan::Refused(why) => {
-            return refuse(page, m, why, request.next);
-        }
         Plan::Get(port) => {
-            return get(page, settings, roll, ports, debug, flags, m, request, port);
+            return get(page, settings, roll, debug, flags, m, request, port);
         }
         Plan::Dump(asked) => {
-            return dump(page, settings, roll, ports, debug, flags, request, asked);
+            return dump(page, settings, roll, debug, flags, request, asked);
         }
         Plan::Set {
             position,
             bitset: _,
+            form,
         } => {
             let command = request.command;
             let set = command.set;
-            let form = decision.form;
             change(settings, roll, debug, flags, position, set, form);
             let h = request.header;
             return acknowledge(page, m, h, request.next);
@@ -104,22 +98,20 @@ fn carry_out<'a>(
 pub fn execute<'a>(
     page: &mut [u8],
     settings: &mut [u32],
-    roll: &[u8],
-    ports: &[u64],
+    roll: &Roll,
     debug: &'a [u8],
     flags: &'a [u8],
     m: &[u8],
     request: Request,
 ) -> Answer
     requires in_bounds { (32768 ≤ length page.old) × (16 ≤ length m.now) }
-    requires tabled { Tabled roll.now ports.now }
     requires fit { Fit (box_of roll.now debug.now flags.now) (state_of settings.old) }
     ensures { Performs (request_outcome (box_of roll.now debug.now flags.now) (state_of settings.old) m.now request) page.old page.new (state_of settings.new) result }
 {
     let command = request.command;
     let h = request.header;
-    let decision = decide(m, command, is_dump(h), roll, ports, debug, flags);
-    carry_out(
-        page, settings, roll, ports, debug, flags, m, request, decision,
-    )
+    match decide(m, command, is_dump(h), roll, debug, flags) {
+        Err(why) => refuse(page, m, why, request.next),
+        Ok(plan) => carry_out(page, settings, roll, debug, flags, m, request, plan),
+    }
 }

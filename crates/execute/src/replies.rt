@@ -2,7 +2,6 @@
 ghost use Rattle.std.specs.Prelude.{◌≡◌, ◌≤◌, ◌<◌, length};
 ghost use Rattle.page.specs.Page.{Wrote};
 ghost use Rattle.roll.specs.Record.{port_count};
-ghost use Rattle.roll.specs.Table.{Tabled};
 ghost use Rattle.boxes.specs.Box.{box_of, state_of, set_of};
 ghost use Rattle.response.specs.Answer.{Responds, response_of};
 ghost use Rattle.response.specs.declared.Kind.TheVariants.{Done};
@@ -17,7 +16,7 @@ use netlink_dump::{MULTI, put_done};
 use reply::message::{heading_of, put_reply};
 use request::target::Target;
 use response::{Answer, Kind, put_ack_if_asked};
-use roll::table::{index_of, name_of};
+use roll::Roll;
 
 // The message flags of a reply that is no part of a dump.
 const NO_FLAGS: u16 = 0;
@@ -25,28 +24,25 @@ const NO_FLAGS: u16 = 0;
 // The words of a set of the port at a position.
 fn stored_words<'s>(
     settings: &'s [u32],
-    roll: &[u8],
-    ports: &[u64],
+    roll: &Roll,
     debug: &[u8],
     flags: &[u8],
     position: usize,
     set: Set,
 ) -> &'s [u32]
     requires position_bound { position < port_count roll.now }
-    requires tabled { Tabled roll.now ports.now }
     requires fit { Fit (box_of roll.now debug.now flags.now) (state_of settings.now) }
     ensures { result.now ≡ set_of (box_of roll.now debug.now flags.now) (state_of settings.now) position set }
 {
     let width = widths(sizes(debug, flags));
-    set_at(settings, ports.len(), width, position, set)
+    set_at(settings, roll.count(), width, position, set)
 }
 
 // The reply to a request about a port, with message flags.
 fn put_port_reply<'a>(
     page: &mut [u8],
     settings: &[u32],
-    roll: &[u8],
-    ports: &[u64],
+    roll: &Roll,
     debug: &'a [u8],
     flags: &'a [u8],
     request: Request,
@@ -54,7 +50,6 @@ fn put_port_reply<'a>(
     target: Target,
 ) -> usize
     requires in_bounds { (32768 ≤ length page.old) × (target.position < port_count roll.now) }
-    requires tabled { Tabled roll.now ports.now }
     requires fit { Fit (box_of roll.now debug.now flags.now) (state_of settings.now) }
     ensures wrote { Wrote (port_reply (box_of roll.now debug.now flags.now) (state_of settings.now) request message_flags target) page.old page.new result }
     ensures upper_bound { result ≤ 26700 }
@@ -64,9 +59,9 @@ fn put_port_reply<'a>(
     let set = command.set;
     let heading = heading_of(h, message_flags, command.reply);
     let position = target.position;
-    let index = index_of(roll, ports, position);
-    let name = name_of(roll, ports, position);
-    let words = stored_words(settings, roll, ports, debug, flags, position, set);
+    let index = roll.index_of(position);
+    let name = roll.name_of(position);
+    let words = stored_words(settings, roll, debug, flags, position, set);
     let n = size_of(sizes(debug, flags), set);
     let names = names_of(set, debug, flags);
     put_reply(
@@ -85,8 +80,7 @@ fn put_port_reply<'a>(
 pub fn get<'a>(
     page: &mut [u8],
     settings: &[u32],
-    roll: &[u8],
-    ports: &[u64],
+    roll: &Roll,
     debug: &'a [u8],
     flags: &'a [u8],
     m: &[u8],
@@ -94,13 +88,12 @@ pub fn get<'a>(
     target: Target,
 ) -> Answer
     requires in_bounds { (32768 ≤ length page.old) × (16 ≤ length m.now) × (target.position < port_count roll.now) }
-    requires tabled { Tabled roll.now ports.now }
     requires fit { Fit (box_of roll.now debug.now flags.now) (state_of settings.now) }
     ensures { Responds (response_of Done request.next (get_bytes (box_of roll.now debug.now flags.now) (state_of settings.now) m.now request target)) page.old page.new result }
 {
     let h = request.header;
     let reply = put_port_reply(
-        page, settings, roll, ports, debug, flags, request, NO_FLAGS, target,
+        page, settings, roll, debug, flags, request, NO_FLAGS, target,
     );
     let ack = put_ack_if_asked(&mut page[reply..], m, h);
     let written = reply + ack;
@@ -116,15 +109,13 @@ pub fn get<'a>(
 fn dump_port<'a>(
     page: &mut [u8],
     settings: &[u32],
-    roll: &[u8],
-    ports: &[u64],
+    roll: &Roll,
     debug: &'a [u8],
     flags: &'a [u8],
     request: Request,
     asked: u32,
 ) -> Answer
     requires in_bounds { (32768 ≤ length page.old) × (request.place < port_count roll.now) }
-    requires tabled { Tabled roll.now ports.now }
     requires fit { Fit (box_of roll.now debug.now flags.now) (state_of settings.now) }
     ensures { Responds (port_response (box_of roll.now debug.now flags.now) (state_of settings.now) request asked) page.old page.new result }
 {
@@ -132,9 +123,7 @@ fn dump_port<'a>(
         position: request.place,
         flags: asked,
     };
-    let written = put_port_reply(
-        page, settings, roll, ports, debug, flags, request, MULTI, target,
-    );
+    let written = put_port_reply(page, settings, roll, debug, flags, request, MULTI, target);
     Answer {
         kind: Kind::Done,
         next: request.position,
@@ -147,20 +136,18 @@ fn dump_port<'a>(
 pub fn dump<'a>(
     page: &mut [u8],
     settings: &[u32],
-    roll: &[u8],
-    ports: &[u64],
+    roll: &Roll,
     debug: &'a [u8],
     flags: &'a [u8],
     request: Request,
     asked: u32,
 ) -> Answer
     requires in_bounds { 32768 ≤ length page.old }
-    requires tabled { Tabled roll.now ports.now }
     requires fit { Fit (box_of roll.now debug.now flags.now) (state_of settings.now) }
     ensures { Responds (dump_response (box_of roll.now debug.now flags.now) (state_of settings.now) request asked) page.old page.new result }
 {
-    if request.place < ports.len() {
-        return dump_port(page, settings, roll, ports, debug, flags, request, asked);
+    if request.place < roll.count() {
+        return dump_port(page, settings, roll, debug, flags, request, asked);
     }
     let h = request.header;
     let written = put_done(page, h);

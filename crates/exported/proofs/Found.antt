@@ -1,8 +1,7 @@
 -- What C gets back from `ethnl_find`, from its contract alone.
 --     find-returned    the number, the bit and the count are as `FindReturned` says, whatever was lent
 use mathlib.Core.Path.{◌≡◌}
-use Rattle.bit_name.specs.Find.{name_found}
-use Rattle.bit_name.specs.declared.Found.{Found}
+use Rattle.bit_name.specs.Find.{Found, name_found}
 use Rattle.bit_name.proofs.Meaning.{name-told}
 use Rattle.exported.specs.Found.{FindLent, FindLeft, FindLeaves, FindReturned}
 

@@ -1,5 +1,5 @@
 -- Document 01, "What a call says back": one call, from the box to the answer.
-use Rattle.std.specs.Prelude.{ℕ, List, Bool, true, false, cond, not, length, eqb, ltb}
+use Rattle.std.specs.Prelude.{ℕ, List, Bool, true, false, cond, not, length, eqb, ltb, Result, Ok, Err}
 use Rattle.netlink_headers.specs.Messages.{message_at}
 use Rattle.netlink_attributes.specs.Attributes.{part_of}
 use Rattle.netlink_headers.specs.declared.headers.MessageHeader.{MessageHeader}
@@ -12,20 +12,20 @@ use Rattle.boxes.specs.Box.{Box, State}
 use Rattle.boxes.specs.Rule.{box_right}
 use Rattle.boxes.specs.declared.Call.{Call}
 use Rattle.admission.specs.Admission.{admitted}
-use Rattle.admission.specs.declared.Admission.{Admission}
-use Rattle.admission.specs.declared.Admission.TheVariants as A
 use Rattle.response.specs.Answer.{Outcome, no_bytes, error_response, unchanged}
 use Rattle.strset.specs.Strset.{strset_response}
 use Rattle.execute.specs.Execute.{request_of, request_outcome}
 use Rattle.response.specs.declared.Kind.{Kind}
 use Rattle.response.specs.declared.Kind.TheVariants.{End, Skipped, Done, Refused}
+use Rattle.admission.specs.declared.Admission.{Admission}
+use Rattle.admission.specs.declared.Admission.TheVariants as A
 
 -- skipped, 5 to 9, a STRSET_GET answered, or the command executed
-abbrev pub on_admission : Admission → Box → State → Call → List ℕ → MessageHeader → ℕ → Outcome State
-on_admission A.Skipped box state call m h next = unchanged (no_bytes Skipped next) state
-on_admission (A.Refused r) box state call m h next = unchanged (error_response m next r) state
-on_admission A.Strset box state call m h next = unchanged (strset_response box m h next) state
-on_admission (A.Admitted command) box state call m h next = request_outcome box state m (request_of call h next command)
+abbrev pub on_admission : Result Admission Refusal → Box → State → Call → List ℕ → MessageHeader → ℕ → Outcome State
+on_admission (Ok A.Skipped) box state call m h next = unchanged (no_bytes Skipped next) state
+on_admission (Err r) box state call m h next = unchanged (error_response m next r) state
+on_admission (Ok A.Strset) box state call m h next = unchanged (strset_response box m h next) state
+on_admission (Ok (A.Admitted command)) box state call m h next = request_outcome box state m (request_of call h next command)
 
 -- the message m with its header h
 unfoldable pub message_outcome : Box → State → Call → List ℕ → MessageHeader → ℕ → Outcome State

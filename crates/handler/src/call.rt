@@ -1,6 +1,5 @@
 // One call: the message at a position of a datagram, answered.
 ghost use Rattle.std.specs.Prelude.{◌≡◌, ◌≤◌, length};
-ghost use Rattle.roll.specs.Table.{Tabled};
 ghost use Rattle.response.specs.Answer.{Performs};
 ghost use Rattle.response.specs.declared.Kind.TheVariants.{Refused};
 ghost use Rattle.boxes.specs.Box.{box_of, state_of};
@@ -16,6 +15,7 @@ use netlink_headers::headers::MessageHeader;
 use netlink_headers::messages::{MessageRead, read_message};
 use refusal::Refusal;
 use response::{Answer, Kind, refuse};
+use roll::Roll;
 use roll::table::{PORTS, read_ports};
 use strset::answer_strset;
 
@@ -47,8 +47,7 @@ pub fn refuse_in_place(why: Refusal, position: usize) -> Answer
 fn answer_message<'a>(
     page: &mut [u8],
     settings: &mut [u32],
-    roll: &[u8],
-    ports: &[u64],
+    roll: &Roll,
     debug: &'a [u8],
     flags: &'a [u8],
     m: &[u8],
@@ -57,21 +56,14 @@ fn answer_message<'a>(
     call: Call,
 ) -> Answer
     requires in_bounds { (32768 ≤ length page.old) × (16 ≤ length m.now) }
-    requires tabled { Tabled roll.now ports.now }
     requires fit { Fit (box_of roll.now debug.now flags.now) (state_of settings.old) }
     ensures { Performs (message_outcome (box_of roll.now debug.now flags.now) (state_of settings.old) call m.now h next) page.old page.new (state_of settings.new) result }
 {
     match admit(m, h, call.family, call.admin == 1) {
-        Admission::Skipped => {
-            return no_bytes(Kind::Skipped, next);
-        }
-        Admission::Refused(why) => {
-            return refuse(page, m, why, next);
-        }
-        Admission::Strset => {
-            return answer_strset(page, roll, ports, debug, flags, m, h, next);
-        }
-        Admission::Admitted(command) => {
+        Err(why) => refuse(page, m, why, next),
+        Ok(Admission::Skipped) => no_bytes(Kind::Skipped, next),
+        Ok(Admission::Strset) => answer_strset(page, roll, debug, flags, m, h, next),
+        Ok(Admission::Admitted(command)) => {
             let request = Request {
                 header: h,
                 position: call.position,
@@ -79,7 +71,7 @@ fn answer_message<'a>(
                 place: call.place,
                 command,
             };
-            return execute(page, settings, roll, ports, debug, flags, m, request);
+            execute(page, settings, roll, debug, flags, m, request)
         }
     }
 }
@@ -87,8 +79,7 @@ fn answer_message<'a>(
 // Answers the message at a position: the end, a message that is not whole (3 and 4), or one that is answered.
 fn answer_at<'a>(
     call: Call,
-    roll: &[u8],
-    ports: &[u64],
+    roll: &Roll,
     debug: &'a [u8],
     flags: &'a [u8],
     settings: &mut [u32],
@@ -96,7 +87,6 @@ fn answer_at<'a>(
     page: &mut [u8],
 ) -> Answer
     requires in_bounds { 32768 ≤ length page.old }
-    requires tabled { Tabled roll.now ports.now }
     requires fit { Fit (box_of roll.now debug.now flags.now) (state_of settings.old) }
     ensures { Performs (position_outcome (box_of roll.now debug.now flags.now) (state_of settings.old) call datagram.now) page.old page.new (state_of settings.new) result }
 {
@@ -120,7 +110,7 @@ fn answer_at<'a>(
             next,
         } => {
             let m = payload(datagram, position, end);
-            return answer_message(page, settings, roll, ports, debug, flags, m, h, next, call);
+            return answer_message(page, settings, roll, debug, flags, m, h, next, call);
         }
     }
 }
@@ -149,5 +139,6 @@ pub fn handle<'a>(
     if DATAGRAM < datagram.len() {
         return refuse_in_place(Refusal::Datagram, call.position);
     }
-    answer_at(call, roll, ports, debug, flags, settings, datagram, page)
+    let roll = Roll::new(roll, ports);
+    answer_at(call, &roll, debug, flags, settings, datagram, page)
 }

@@ -8,7 +8,7 @@ ghost use Rattle.layout.specs.AtMost.{AtMost};
 pub mod change;
 
 // The two sets of a port.
-#[derive(Clone, Copy)]
+#[derive(Clone, Copy, PartialEq, Eq)]
 pub enum Set {
     Debug,
     Flags,

@@ -1,13 +1,14 @@
 -- Laws of the search along a chain: the entries before a place are passed, and the next one is the first of the name's chain from there on.
 use Prim.Native.Nat.{ℕ, suc, ◌+◌, ◌-◌, ◌≤◌, ◌<◌}
 use mathlib.Core.Path.{◌≡◌, refl, ap, subst, ◌∙◌}
-use mathlib.Core.Bool.{true, false}
+use mathlib.Core.Bool.{true}
 use mathlib.Core.List.{List}
 use native.Mathlib.Omega.{arith}
 use lib.ListN.{get_or}
 use Rattle.basics.proofs.Truth.{false_of}
 use Rattle.entries.specs.Entry.{count, entry_at}
 use Rattle.entries.specs.Length.{name_length, last_byte}
+use Rattle.std.specs.Prelude.{None}
 use Rattle.names.specs.Search.{agrees, lookup}
 use Rattle.names.proofs.Search.{Sought, Passed, Comparing, passed-others, passed-agrees, passed_start, passed-all}
 use Rattle.name_index.specs.Chain.{key_in, key_of, Next, Linked}
@@ -69,10 +70,10 @@ module _ (names name : List ℕ) (n end last : ℕ) (w : Sought name n end last)
               next = rw (eq ∙ ap (λ (x : ℕ). get_or links x 0) is) (subst (λ (x : ℕ). Next names x (suc k) (get_or links k 0)) key (t.linked k (omega arith) u));
             })
 
-  pub along-end : (p c : ℕ) → Along names name p c → p ≡ 0 → record { found = false; bit = 0; compared = c } ≡ lookup names name
+  pub along-end : (p c : ℕ) → Along names name p c → p ≡ 0 → record { bit = None; compared = c } ≡ lookup names name
   along-end p c a z = go p a.next z
     where
-      go : (p : ℕ) → Next names (key_of name) a.from p → p ≡ 0 → record { found = false; bit = 0; compared = c } ≡ lookup names name
+      go : (p : ℕ) → Next names (key_of name) a.from p → p ≡ 0 → record { bit = None; compared = c } ≡ lookup names name
       go _ (entry k l u key none) z = absurd (omega arith)
       go _ (nowhere none) z =
           let at : a.from + (count names - a.from) ≡ count names = let x = a.within in omega arith in

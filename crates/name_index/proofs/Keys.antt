@@ -99,7 +99,7 @@ module _ (names : List ℕ) (from key : ℕ) (h : from < count names) where
 
 -- the tables from one entry on
 module _ (names head links : List ℕ) where
-  pub linked-start : (n : ℕ) → n ≡ count names → n ≤ 512 → Cleared head → length links ≡ 512 → Linked names head links (n - 0)
+  pub linked-start : (n : ℕ) → n ≡ count names → n ≤ 512 → Cleared head → length links ≡ 512 → Linked names head links n
   linked-start n en l c k = record {
     heads = λ key u. rw (c.each key u) (nowhere (λ j a b. absurd (omega arith)));
     linked = λ i a b. absurd (omega arith);
@@ -108,8 +108,8 @@ module _ (names head links : List ℕ) where
     few = omega arith;
   }
 
-  module _ (n done i key : ℕ) (en : n ≡ count names) (l : done < n) (ei : i ≡ n - 1 - done) (ek : key ≡ key_of (entry_at names i)) (u : key < 8192)
-      (t : Linked names head links (n - done)) where
+  module _ (m i key : ℕ) (em : m ≡ i + 1) (l : m ≤ count names) (ek : key ≡ key_of (entry_at names i)) (u : key < 8192)
+      (t : Linked names head links m) where
     abbrev table : List ℕ
     table = set links i (get_or head key 0)
 
@@ -129,7 +129,7 @@ module _ (names head links : List ℕ) where
         other : (x ≡ key → ⊥) → Next names x i (get_or (set head key (i + 1)) x 0)
         other d =
             let g : get_or (set head key (i + 1)) x 0 ≡ get_or head x 0 = get_or-set_other head key x (i + 1) 0 d in
-            let s : n - done ≡ suc i = omega arith in
+            let s : m ≡ suc i = omega arith in
             rw g (next_past names i x (omega arith) (λ q. d (sym (ek ∙ q))) _ ((rw s at t).heads x v))
 
     links-more : (j : ℕ) → i ≤ j → j < count names → Next names (key_of (entry_at names j)) (suc j) (get_or table j 0)
@@ -142,23 +142,21 @@ module _ (names head links : List ℕ) where
         here : j ≡ i → Next names (key_of (entry_at names j)) (suc j) (get_or table j 0)
         here q =
             let g : get_or table i 0 ≡ get_or head key 0 = get_or-set_same links i (get_or head key 0) 0 (let z = t.links-length in let y = t.few in omega arith) in
-            let s : n - done ≡ suc i = omega arith in
+            let s : m ≡ suc i = omega arith in
             rw (q, g, ← ek) ((rw s at t).heads key u)
 
-    pub linked-more : Linked names (set head key (i + 1)) table (n - (done + 1))
+    pub linked-more : Linked names (set head key (i + 1)) table i
     linked-more =
-        let s : n - (done + 1) ≡ i = omega arith in
-        rw s
-        (record {
+        record {
           heads = heads-more;
           linked = links-more;
           head-length = length-set head key (i + 1) ∙ t.head-length;
           links-length = length-set links i (get_or head key 0) ∙ t.links-length;
           few = t.few;
-        })
+        }
 
-  pub linked-done : (n done : ℕ) → n ≤ done → Linked names head links (n - done) → Linked names head links 0
-  linked-done n done l t = let s : n - done ≡ 0 = omega arith in rw s at t
+  pub linked-done : (i : ℕ) → i ≤ 0 → Linked names head links i → Linked names head links 0
+  linked-done i l t = let s : i ≡ 0 = omega arith in rw s at t
 
 -- whether there are too many
 pub index-many : (k n : ℕ) → n ≡ k → 512 < n → false ≡ leb k 512

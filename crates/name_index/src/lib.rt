@@ -1,27 +1,27 @@
-// The search by tables that lead to the names of one length and one last byte: head, a place for each of these pairs; links, one for each entry.
+// The search by tables that lead to the names of one length and one last byte: head, a place for each of these pairs; links, one for each entry. A place is
+// counted from 1, and 0 is none: an `Option<u16>` has twice the bytes, and all of head is cleared for each list.
 #![tactic(auto)]
+
+pub mod names_in;
+pub mod tables;
 
 ghost use Rattle.std.specs.Prelude.{◌≡◌, ◌/◌, ◌<◌, length, leb};
 ghost use Rattle.entries.specs.Entry.{count as count_of, entry_at};
 ghost use Rattle.names.specs.Search.{lookup};
-ghost use Rattle.name_index.specs.Chain.{key_in, key_of, Linked, LinkedIf, Cleared};
+ghost use Rattle.name_index.specs.Chain.{key_in, key_of, LinkedIf, Cleared};
 
 use entries::chain::place_in;
 use entries::count;
 use entries::length::{entry_length, name_length};
-use names::{Lookup, find_name, no_name};
-
-fn wide(x: u8) -> usize
-    ensures { result ≡ x }
-{
-    x as usize
-}
+use names::{Lookup, no_name};
+pub use names_in::NameIndex;
+use tables::Tables;
 
 // The chain of a length and a last byte.
 fn key_in(n: usize, last: u8) -> usize
     ensures { (result ≡ key_in n last) × (result < 8192) }
 {
-    n % 32 + 32 * wide(last)
+    n % 32 + 32 * usize::from(last)
 }
 
 // The chain of entry i.
@@ -46,8 +46,7 @@ pub fn index(names: &[u8], head: &mut [u16], links: &mut [u16]) -> bool
     if 512 < n {
         return false;
     }
-    for done in 0..n {
-        let i = n - 1 - done;
+    for i in (0..n).rev() {
         let key = entry_key(names, i);
         links[i] = head[key];
         head[key] = (i + 1) as u16;
@@ -55,19 +54,18 @@ pub fn index(names: &[u8], head: &mut [u16], links: &mut [u16]) -> bool
     true
 }
 
-// The entry that equals the name, which may end in NULs, where tables lead to each: the search goes along the chain of its length and last
-// byte, compares the rest from the end on, and passes to the next entry at the first byte that differs.
-pub fn find(names: &[u8], head: &[u16], links: &[u16], name: &[u8]) -> Lookup
-    requires { Linked names.now head.now links.now 0 }
-    ensures { result ≡ lookup names.now name.now }
+// The entry that equals the name, which may end in NULs: the search goes along the chain of its length and last byte, compares the rest from the end on, and
+// passes to the next entry at the first byte that differs. Document 01 names the form: a labelled loop, continued from the inner comparison.
+pub fn find(tables: &Tables, name: &[u8]) -> Lookup
+    ensures { result ≡ lookup tables.now.names.now name.now }
 {
     if no_name(name) {
         return Lookup {
-            found: false,
-            bit: 0,
+            bit: None,
             compared: 0,
         };
     }
+    let Tables { names, head, links } = *tables;
     let n = name_length(name);
     let end = n - 1;
     let mut compared = 0;
@@ -75,35 +73,21 @@ pub fn find(names: &[u8], head: &[u16], links: &[u16], name: &[u8]) -> Lookup
     'entries: loop {
         if p == 0 {
             return Lookup {
-                found: false,
-                bit: 0,
+                bit: None,
                 compared,
             };
         }
         let i = p - 1;
         p = place_in(links, i);
         compared += 1;
-        for back in 0..end {
-            let j = end - 1 - back;
+        for j in (0..end).rev() {
             if names[i * 32 + j] != name[j] {
                 continue 'entries;
             }
         }
         return Lookup {
-            found: true,
-            bit: i,
+            bit: Some(i),
             compared,
         };
     }
-}
-
-// The entry that equals the name, by the tables where they lead to each.
-pub fn look_up(names: &[u8], indexed: bool, head: &[u16], links: &[u16], name: &[u8]) -> Lookup
-    requires { LinkedIf indexed names.now head.now links.now }
-    ensures { result ≡ lookup names.now name.now }
-{
-    if indexed {
-        return find(names, head, links, name);
-    }
-    find_name(names, name)
 }

@@ -5,8 +5,10 @@ use mathlib.Core.Bool.{Bool, true, false, not}
 use mathlib.Core.List.{List}
 use native.Mathlib.Omega.{arith}
 use lib.Dec.{eqb}
-use lib.ListN.{length, get_or}
-use borrow.Author.Tests.{eq-eqb, ne_eqb, le-leb, lt-leb, eqb-true, leb-true, not-true, not-false}
+use lib.ListN.{length, get_or, take, drop}
+use lib.Seq.{drop-drop}
+use Rattle.std.specs.Simd.{first_chunks}
+use borrow.Author.Tests.{lt-ltb, eq-eqb, ne_eqb, le-leb, lt-leb, eqb-true, leb-true, not-true, not-false}
 use Rattle.basics.specs.Scan.{all}
 use Rattle.basics.specs.Nuls.{nul_then_nul}
 use Rattle.numbers.specs.Pairs.{pair_at}
@@ -15,9 +17,24 @@ use Rattle.basics.proofs.Truth.{both_true, false_of, clash}
 use Rattle.basics.proofs.Order.{lt-or-ge}
 use mathlib.Core.Logic.{⊎_elim}
 use Rattle.entries.specs.Entry.{count, entry_at, entries_distinct}
-use Rattle.entries.proofs.Entries.{entry-byte}
 use Rattle.names.specs.Rule.{entry_right, right_at, names_right}
-use Rattle.names.specs.Halves.{low_right, high_right}
+use Rattle.names.specs.Halves.{low_half, high_half, low_right, high_right}
+
+-- the chunks of 32 bytes are the entries
+chunk_at : (n k : ℕ) (xs : List ℕ) (i : ℕ) (d : List ℕ) → i < k → get_or (first_chunks n k xs) i d ≡ take n (drop (i * n) xs)
+chunk_at n zero xs i d h = absurd (omega arith)
+chunk_at n (suc k) xs zero d h = let q : 0 ≡ 0 * n = omega arith in ap (λ (m : ℕ). take n (drop m xs)) q
+chunk_at n (suc k) xs (suc i) d h =
+    chunk_at n k (drop n xs) i d (omega arith)
+    ∙ ap (take n) (drop-drop (i * n) n xs ∙ ap (λ (m : ℕ). drop m xs) (let q : n + i * n ≡ suc i * n = omega arith in q))
+
+pub entry_chunk : (names : List ℕ) (chunks : List (List ℕ)) (i : ℕ) (d : List ℕ) → chunks ≡ first_chunks 32 (count names) names → length chunks ≡ count names
+    → i < length chunks → (i < count names) × (get_or chunks i d ≡ entry_at names i)
+unfolding entry_at
+entry_chunk names chunks i d e n h =
+    let l : i < count names = omega (arith, n) in
+    let at : get_or chunks i d ≡ entry_at names i = ap (λ (x : List (List ℕ)). get_or x i d) e ∙ chunk_at 32 (count names) names i d l ∙ sym (rw (lt-ltb i (count names) l)) in
+    (l, at)
 
 -- a test of each entry
 module _ (n : ℕ) (f : ℕ → Bool) where
@@ -34,71 +51,58 @@ module _ (n : ℕ) (f : ℕ → Bool) where
   each-done i h l u = sym (all_done f n i h l u)
 
 module _ (names : List ℕ) where
-  pub low_end : (i : ℕ) → i < count names → (get_or names (i * 32 + 31) 0 ≡ 0 → ⊥) → false ≡ all (count names) (low_right names)
-  unfolding low_right
-  low_end i l n = sym (all-fails (low_right names) (count names) i l (rw (ne_eqb _ 0 n)))
+  module _ (i : ℕ) (l : i < count names) (e : List ℕ) (ee : e ≡ entry_at names i) where
+    pub low_end : (get_or e 31 0 ≡ 0 → ⊥) → false ≡ all (count names) (low_right names)
+    unfolding low_right low_half
+    low_end n = sym (all-fails (low_right names) (count names) i l (rw (← ee, ne_eqb (get_or e 31 0) 0 n)))
 
-  module _ (i : ℕ) (b : Bool) (e : b ≡ all 16 (pair_at names (i * 32))) (z : get_or names (i * 32 + 31) 0 ≡ 0) where
-    low-is : b ≡ low_right names i
-    unfolding low_right
-    low-is = e ∙ sym (rw (eq-eqb _ 0 z))
+    module _ (b : Bool) (eb : b ≡ all 16 (pair_at e 0)) (z : get_or e 31 0 ≡ 0) where
+      low-is : b ≡ low_right names i
+      unfolding low_right low_half
+      low-is = eb ∙ sym (rw (← ee, eq-eqb (get_or e 31 0) 0 z))
 
-    pub low-not : i < count names → not b ≡ true → false ≡ all (count names) (low_right names)
-    low-not l q = each-not (count names) (low_right names) i b l low-is q
+      pub low-not : not b ≡ true → false ≡ all (count names) (low_right names)
+      low-not q = each-not (count names) (low_right names) i b l low-is q
 
-    pub low-more : all i (low_right names) ≡ true → not b ≡ false → all (i + 1) (low_right names) ≡ true
-    low-more h q = each_more (count names) (low_right names) i b h low-is q
+      pub low-more : all i (low_right names) ≡ true → not b ≡ false → all (i + 1) (low_right names) ≡ true
+      low-more h q = each_more (count names) (low_right names) i b h low-is q
 
-  pub high_is : (i : ℕ) (b : Bool) → b ≡ all 16 (pair_at names (i * 32 + 15)) → b ≡ high_right names i
-  unfolding high_right
-  high_is i b e = e
+    pub high_is : (b : Bool) → b ≡ all 16 (pair_at e 15) → b ≡ high_right names i
+    unfolding high_right high_half
+    high_is b eb = eb ∙ rw (← ee)
 
   -- an entry is right exactly when both halves are
-  module _ (i : ℕ) (h : i < count names) where
-    pair_is : (j : ℕ) → j < 31 → nul_then_nul names (i * 32 + j) ≡ nul_then_nul (entry_at names i) j
-    unfolding nul_then_nul
-    pair_is j l =
-        let k : i * 32 + (j + 1) ≡ i * 32 + j + 1 = omega arith in
-        sym (rw (entry-byte names i h j (omega arith), entry-byte names i h (j + 1) (omega arith), k))
+  module _ (i : ℕ) where
+    abbrev e : List ℕ
+    e = entry_at names i
 
-    right-pairs : (from : ℕ) → from ≤ 15 → right_at names i ≡ true → all 16 (pair_at names (i * 32 + from)) ≡ true
-    unfolding right_at entry_right pair_at
-    right-pairs from u r =
-        all_of (pair_at names (i * 32 + from)) 16
-        (λ j l. let k : i * 32 + from + j ≡ i * 32 + (from + j) = omega arith in
-        ap (nul_then_nul names) k ∙ pair_is (from + j) (omega arith)
-        ∙ all-each (nul_then_nul (entry_at names i)) 31 (from + j) (both_true (eqb (get_or (entry_at names i) 31 0) 0) (all 31 (nul_then_nul (entry_at names i))) r).1 (omega arith))
+    right-pairs : (from : ℕ) → from ≤ 15 → entry_right e ≡ true → all 16 (pair_at e from) ≡ true
+    unfolding entry_right pair_at
+    right-pairs from u r = all_of (pair_at e from) 16 (λ j l. all-each (nul_then_nul e) 31 (from + j) (both_true (eqb (get_or e 31 0) 0) (all 31 (nul_then_nul e)) r).1 (omega arith))
 
     right-low : right_at names i ≡ true → low_right names i ≡ true
-    unfolding right_at entry_right low_right
-    right-low r =
-        let k : i * 32 + 0 ≡ i * 32 = omega arith in
-        let e : eqb (get_or names (i * 32 + 31) 0) 0 ≡ true =
-        rw (entry-byte names i h 31 (omega arith)) at (both_true (eqb (get_or (entry_at names i) 31 0) 0) (all 31 (nul_then_nul (entry_at names i))) r).0 in
-        rw (e, rw k at (right-pairs 0 (omega arith) r))
+    unfolding right_at entry_right low_right low_half
+    right-low r = rw ((both_true (eqb (get_or e 31 0) 0) (all 31 (nul_then_nul e)) r).0, right-pairs 0 (omega arith) r)
 
     right-high : right_at names i ≡ true → high_right names i ≡ true
-    unfolding high_right
+    unfolding right_at high_right high_half
     right-high r = right-pairs 15 (omega arith) r
 
     halves-right : low_right names i ≡ true → high_right names i ≡ true → right_at names i ≡ true
-    unfolding right_at entry_right low_right high_right pair_at
-    halves-right a b =
-        rw (rw (← entry-byte names i h 31 (omega arith)) at ends.0, all_of (nul_then_nul (entry_at names i)) 31 (λ j l. ⊎_elim (λ (u : j < 16). low j u) (λ (u : 16 ≤ j). high j u l) (lt-or-ge j 16)))
+    unfolding right_at entry_right low_right high_right low_half high_half pair_at
+    halves-right a b = rw (ends.0, all_of (nul_then_nul e) 31 (λ j l. ⊎_elim (λ (u : j < 16). low j u) (λ (u : 16 ≤ j). high j u l) (lt-or-ge j 16)))
       where
-        ends : (eqb (get_or names (i * 32 + 31) 0) 0 ≡ true) × (all 16 (pair_at names (i * 32)) ≡ true)
-        ends = both_true (eqb (get_or names (i * 32 + 31) 0) 0) (all 16 (pair_at names (i * 32))) a
+        ends : (eqb (get_or e 31 0) 0 ≡ true) × (all 16 (pair_at e 0) ≡ true)
+        ends = both_true (eqb (get_or e 31 0) 0) (all 16 (pair_at e 0)) a
 
-        low : (j : ℕ) → j < 16 → nul_then_nul (entry_at names i) j ≡ true
-        low j u = sym (pair_is j (omega arith)) ∙ all-each (pair_at names (i * 32)) 16 j ends.1 u
+        low : (j : ℕ) → j < 16 → nul_then_nul e j ≡ true
+        low j u = let k : j ≡ 0 + j = omega arith in ap (nul_then_nul e) k ∙ all-each (pair_at e 0) 16 j ends.1 u
 
-        high : (j : ℕ) → 16 ≤ j → j < 31 → nul_then_nul (entry_at names i) j ≡ true
-        high j u l =
-            let k : i * 32 + j ≡ i * 32 + 15 + (j - 15) = omega arith in
-            sym (pair_is j l) ∙ ap (nul_then_nul names) k ∙ all-each (pair_at names (i * 32 + 15)) 16 (j - 15) b (omega arith)
+        high : (j : ℕ) → 16 ≤ j → j < 31 → nul_then_nul e j ≡ true
+        high j u l = let k : j ≡ 15 + (j - 15) = omega arith in ap (nul_then_nul e) k ∙ all-each (pair_at e 15) 16 (j - 15) b (omega arith)
 
-  each : (f : ℕ → Bool) → ((i : ℕ) → i < count names → right_at names i ≡ true → f i ≡ true) → all (count names) (right_at names) ≡ true → all (count names) f ≡ true
-  each f g r = all_of f (count names) (λ i l. g i l (all-each (right_at names) (count names) i r l))
+  each : (f : ℕ → Bool) → ((i : ℕ) → right_at names i ≡ true → f i ≡ true) → all (count names) (right_at names) ≡ true → all (count names) f ≡ true
+  each f g r = all_of f (count names) (λ i l. g i (all-each (right_at names) (count names) i r l))
 
   module _ (b : Bool) (e : b ≡ all (count names) (low_right names)) where
     pub entries-low : not b ≡ true → false ≡ all (count names) (right_at names)
@@ -111,10 +115,10 @@ module _ (names : List ℕ) where
         go true k =
             sym
             (all_of (right_at names) (count names)
-            (λ i l. halves-right i l (all-each (low_right names) (count names) i (sym e ∙ not-false b q) l) (all-each (high_right names) (count names) i (sym k) l)))
+            (λ i l. halves-right i (all-each (low_right names) (count names) i (sym e ∙ not-false b q) l) (all-each (high_right names) (count names) i (sym k) l)))
         go false k = sym (false_of (all (count names) (right_at names)) (λ t. clash (each (high_right names) right-high t) (sym k)))
 
-pub ruleset entries-laws = (entries-low, entries-high)
+pub ruleset entries_laws = (entries-low, entries-high)
 
 -- the list
 module _ (names : List ℕ) where
@@ -141,7 +145,7 @@ module _ (names : List ℕ) where
         unfolding names_right
         names-rest r q f = f ∙ sym (rw (eq-eqb _ 0 e, le-leb 1 (count names) l, le-leb (count names) 512 u, ← eb, not-false b q))
 
-pub ruleset names-laws = (names-cut, names-none, names-many, names-broken, names-rest)
+pub ruleset names_laws = (names-cut, names-none, names-many, names-broken, names-rest)
 
 -- what a right list gives
 pub record Right (names : List ℕ) : Type 0 where

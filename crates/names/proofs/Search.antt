@@ -10,6 +10,7 @@ use lib.Dec.{eqb, ltb}
 use lib.ListN.{length, get_or, take, length-take, get_or-eq_default}
 use lib.Seq.{get_or-take, take_all}
 use borrow.Author.Tests.{eq-eqb, ne_eqb, lt-ltb, le-ltb, ltb-true, ltb-false, eqb-true, eqb-false}
+use Rattle.basics.specs.Numbers.{byte_at}
 use Rattle.basics.specs.Scan.{first, tally}
 use Rattle.basics.specs.Those.{CountOf}
 use Rattle.basics.proofs.Order.{lt-or-ge}
@@ -22,17 +23,20 @@ use Rattle.entries.proofs.Entries.{entry-byte, entry_length, same_bytes, same_of
 use Rattle.entries.proofs.NameLength.{past-length, length-le, same_length, same-last}
 use Rattle.names.specs.Rule.{names_right}
 use Rattle.names.specs.Pass.{NextWith}
+use Rattle.std.specs.Prelude.{Some, None}
+use Rattle.std.proofs.lemmas.Option.{none-some, same_Some}
+use Rattle.names.specs.declared.Lookup.{Lookup}
 use Rattle.names.specs.Search.{is_entry, no_name, agrees, compared_in, not_sought, not_found, found_at, lookup}
 use Rattle.names.proofs.Rules.{right-means}
 
 -- the names that can stand in no list
-module _ (name : List ℕ) (b : ℕ) (e : b ≡ get_or name 0 0) where
+module _ (name : List ℕ) (b : ℕ) (e : b ≡ byte_at name 0) where
   pub no-empty : b ≡ 0 → true ≡ no_name name
-  unfolding no_name
+  unfolding no_name byte_at
   no-empty z = sym (rw (eq-eqb (get_or name 0 0) 0 (sym e ∙ z)))
 
   pub no-long : (b ≡ 0 → ⊥) → ltb 32 (length name) ≡ no_name name
-  unfolding no_name
+  unfolding no_name byte_at
   no-long z = sym (rw (ne_eqb (get_or name 0 0) 0 (λ q. z (e ∙ q))))
 
 module _ (names name : List ℕ) where
@@ -69,18 +73,22 @@ pub record Sought (name : List ℕ) (n end last : ℕ) : Type 0 where
   pub end_is : n ≡ end + 1
   pub byte : last ≡ get_or name end 0
 
+-- it is not empty, and no longer than an entry
+can-be-named : (name : List ℕ) → no_name name ≡ false → (get_or name 0 0 ≡ 0 → ⊥) × (length name ≤ 32)
+unfolding no_name
+can-be-named name = go (is_empty name) refl (ltb 32 (length name)) refl
+  where
+    go : (u : Bool) → is_empty name ≡ u → (v : Bool) → ltb 32 (length name) ≡ v → u || v ≡ false → (get_or name 0 0 ≡ 0 → ⊥) × (length name ≤ 32)
+    go true eu v ev h = absurd (clash refl h)
+    go false eu true ev h = absurd (clash refl h)
+    go false eu false ev h = (eqb-false (get_or name 0 0) 0 eu, ltb-false 32 (length name) ev)
+
 module _ (name : List ℕ) (t : Bool) (e : t ≡ no_name name) (z : t ≡ false) where
   can-be : no_name name ≡ false
   can-be = sym e ∙ z
 
   some : (get_or name 0 0 ≡ 0 → ⊥) × (length name ≤ 32)
-  unfolding no_name
-  some = go (is_empty name) refl (ltb 32 (length name)) refl can-be
-    where
-      go : (u : Bool) → is_empty name ≡ u → (v : Bool) → ltb 32 (length name) ≡ v → u || v ≡ false → (get_or name 0 0 ≡ 0 → ⊥) × (length name ≤ 32)
-      go true eu v ev h = absurd (clash refl h)
-      go false eu true ev h = absurd (clash refl h)
-      go false eu false ev h = (eqb-false (get_or name 0 0) 0 eu, ltb-false 32 (length name) ev)
+  some = can-be-named name can-be
 
   module _ (n : ℕ) (en : n ≡ name_length name) where
     pub name-some : 0 < n
@@ -146,7 +154,7 @@ module _ (names name : List ℕ) (i : ℕ) (h : i < count names) where
         rw (eq-eqb (name_length entry) (name_length name) (sym em ∙ q ∙ w.is), eq-eqb (last_byte entry) (last_byte name) (last_of (sym em ∙ q) ∙ b ∙ sym name-last))
 
     -- where an entry agrees, its last byte and the NULs behind are the name's
-    pub from_start : agrees names name i ≡ true → SameFrom names name i (end - 0)
+    pub from_start : agrees names name i ≡ true → SameFrom names name i end
     unfolding agrees last_byte
     from_start a =
         record { each = λ j l v. ⊎_elim (λ (x : j < n). here j (omega arith)) (λ (x : n ≤ j). past-length entry j (omega (arith, lengths)) ∙ sym (past-length name j (omega arith))) (lt-or-ge j n) }
@@ -164,19 +172,18 @@ module _ (names name : List ℕ) (i : ℕ) (h : i < count names) where
             ap (λ (x : ℕ). get_or entry x 0) k ∙ eqb-true _ _ b.1 ∙ ap (λ (x : ℕ). get_or name x 0) k2
 
     -- one byte more, from the end on
-    pub from_more : (back : ℕ) → SameFrom names name i (end - back) → back < end → get_or names (i * 32 + (end - 1 - back)) 0 ≡ get_or name (end - 1 - back) 0
-        → SameFrom names name i (end - (back + 1))
-    from_more back s l e =
-        record { each = λ j a v. ⊎_elim (λ (x : j < end - back). here j (omega arith)) (λ (x : end - back ≤ j). s.each j x v) (lt-or-ge j (end - back)) }
+    pub from_more : (m : ℕ) → SameFrom names name i m → 0 < m → m ≤ end → get_or names (i * 32 + (m - 1)) 0 ≡ get_or name (m - 1) 0 → SameFrom names name i (m - 1)
+    from_more m s p l e =
+        record { each = λ j a v. ⊎_elim (λ (x : j < m). here j (omega arith)) (λ (x : m ≤ j). s.each j x v) (lt-or-ge j m) }
       where
-        here : (j : ℕ) → j ≡ end - 1 - back → get_or entry j 0 ≡ get_or name j 0
-        here j q = entry-byte names i h j (omega arith) ∙ (rw (← q) at e)
+        here : (j : ℕ) → m - 1 ≡ j → get_or entry j 0 ≡ get_or name j 0
+        here j q = entry-byte names i h j (omega arith) ∙ (rw q at e)
 
-    from-other : (back : ℕ) → back < end → (get_or names (i * 32 + (end - 1 - back)) 0 ≡ get_or name (end - 1 - back) 0 → ⊥) → is_entry names name i ≡ false
+    from-other : (k : ℕ) → k < end → (get_or names (i * 32 + k) 0 ≡ get_or name k 0 → ⊥) → is_entry names name i ≡ false
     unfolding is_entry
-    from-other back l d =
-        let u : end - 1 - back < 32 = omega arith in
-        false_of (same_entry entry name) (λ s. d (sym (entry-byte names i h (end - 1 - back) u) ∙ same_bytes entry name (end - 1 - back) s u))
+    from-other k l d =
+        let u : k < 32 = omega arith in
+        false_of (same_entry entry name) (λ s. d (sym (entry-byte names i h k u) ∙ same_bytes entry name k s u))
 
     -- how the search goes on at entry i
     module _ (c : ℕ) where
@@ -191,13 +198,13 @@ module _ (names name : List ℕ) (i : ℕ) (h : i < count names) where
       pub passed_length : Passed names name i c → (m : ℕ) → m ≡ name_length entry → (m ≡ n → ⊥) → Passed names name (i + 1) c
       passed_length p m em d = passed-other p (length-other m em d)
 
-      pub compared-other : Comparing names name i c → (back : ℕ) → back < end → (get_or names (i * 32 + (end - 1 - back)) 0 ≡ get_or name (end - 1 - back) 0 → ⊥) → Passed names name (i + 1) c
-      compared-other k back l d =
-          record { none = first_more (is_entry names name) i k.none (from-other back l d); counted = k.counted; most = k.most }
+      pub compared-other : Comparing names name i c → (j : ℕ) → j < end → (get_or names (i * 32 + j) 0 ≡ get_or name j 0 → ⊥) → Passed names name (i + 1) c
+      compared-other k j l d =
+          record { none = first_more (is_entry names name) i k.none (from-other j l d); counted = k.counted; most = k.most }
 
-      pub compared_same : Comparing names name i c → (back : ℕ) → SameFrom names name i (end - back) → end ≤ back → record { found = true; bit = i; compared = c } ≡ lookup names name
+      pub compared_same : Comparing names name i c → (j : ℕ) → SameFrom names name i j → j ≤ 0 → record { bit = Some i; compared = c } ≡ lookup names name
       unfolding lookup is_entry
-      compared_same k back s l =
+      compared_same k m s l =
           let same : same_entry entry name ≡ true = same_of entry name (λ j u. s.each j (omega arith) u) in
           let f : first (count names) (is_entry names name) ≡ i = first-at (is_entry names name) (count names) i h k.none same in
           let q : c ≡ compared_in names name (suc i) = k.counted ∙ ap (compared_in names name) (add-one i) in
@@ -237,7 +244,7 @@ module _ (names name : List ℕ) where
     most = let m = p.most in omega arith;
   }
 
-  pub passed-all : (n end last i c : ℕ) → Sought name n end last → Passed names name i c → i ≤ count names → count names ≤ i → record { found = false; bit = 0; compared = c } ≡ lookup names name
+  pub passed-all : (n end last i c : ℕ) → Sought name n end last → Passed names name i c → i ≤ count names → count names ≤ i → record { bit = None; compared = c } ≡ lookup names name
   unfolding lookup
   passed-all n end last i c w p l u =
       let k : i ≡ count names = omega arith in
@@ -247,46 +254,44 @@ module _ (names name : List ℕ) where
 
 -- what is found is an entry that equals the name
 module _ (names name : List ℕ) where
-  pub lookup-found : (lookup names name).found ≡ true
-      → ((lookup names name).bit < count names) × (same_entry (entry_at names (lookup names name).bit) name ≡ true)
-  unfolding lookup is_entry
-  lookup-found h = go (no_name name) (ltb (first (count names) (is_entry names name)) (count names)) refl h
-    where
-      go : (t u : Bool) → ltb (first (count names) (is_entry names name)) (count names) ≡ u
-          → (cond t not_sought (cond u (found_at names name (first (count names) (is_entry names name))) (not_found names name))).found ≡ true
-          → ((cond t not_sought (cond u (found_at names name (first (count names) (is_entry names name))) (not_found names name))).bit < count names) × (same_entry (entry_at names (cond t not_sought (cond u (found_at names name (first (count names) (is_entry names name))) (not_found names name))).bit) name ≡ true)
-      go true u e h = absurd (clash h refl)
-      go false false e h = absurd (clash h refl)
-      go false true e h = (ltb-true _ _ e, first-is (is_entry names name) (count names) (ltb-true _ _ e))
+  -- the first entry that equals it, and what is told of it
+  abbrev hit : ℕ
+  hit = first (count names) (is_entry names name)
+
+  abbrev told : Bool → Bool → Lookup
+  told t u = cond t not_sought (cond u (found_at names name hit) (not_found names name))
+
+  -- a bit is told only where an entry equals the name: it is the first of them
+  told-hit : (t u : Bool) (k : ℕ) → (told t u).bit ≡ Some k → (t ≡ false) × (u ≡ true) × (hit ≡ k)
+  told-hit true u k h = absurd (none-some k h)
+  told-hit false true k h = (refl, refl, same_Some hit k h)
+  told-hit false false k h = absurd (none-some k h)
+
+  found-hit : (k : ℕ) → (lookup names name).bit ≡ Some k → (no_name name ≡ false) × (ltb hit (count names) ≡ true) × (hit ≡ k)
+  unfolding lookup
+  found-hit k h = told-hit (no_name name) (ltb hit (count names)) k h
+
+  pub lookup-found : (k : ℕ) → (lookup names name).bit ≡ Some k → (k < count names) × (same_entry (entry_at names k) name ≡ true)
+  unfolding is_entry
+  lookup-found k h =
+      let t = found-hit k h in
+      let l = ltb-true hit (count names) t.1 in
+      let here : (hit < count names) × (same_entry (entry_at names hit) name ≡ true) = (l, first-is (is_entry names name) (count names) l) in
+      rw t.2 at here
 
   -- and the name is not empty, and no longer than an entry
-  pub lookup-named : (lookup names name).found ≡ true → (get_or name 0 0 ≡ 0 → ⊥) × (length name ≤ 32)
-  unfolding lookup no_name
-  lookup-named = go (is_empty name) refl (ltb 32 (length name)) refl
-    where
-      f : ℕ
-      f = first (count names) (is_entry names name)
+  pub lookup-named : (k : ℕ) → (lookup names name).bit ≡ Some k → (get_or name 0 0 ≡ 0 → ⊥) × (length name ≤ 32)
+  lookup-named k h = can-be-named name (found-hit k h).0
 
-      go : (t : Bool) → is_empty name ≡ t → (u : Bool) → ltb 32 (length name) ≡ u
-          → (cond (t || u) not_sought (cond (ltb f (count names)) (found_at names name f) (not_found names name))).found ≡ true → (get_or name 0 0 ≡ 0 → ⊥) × (length name ≤ 32)
-      go true e u q h = absurd (clash h refl)
-      go false e true q h = absurd (clash h refl)
-      go false e false q h = (eqb-false (get_or name 0 0) 0 e, ltb-false 32 (length name) q)
-
-  -- found and bit by themselves: the length and the last byte have no part in them
-  pub lookup-before : ((lookup names name).found ≡ cond (no_name name) false (ltb (first (count names) (is_entry names name)) (count names)))
-      × ((lookup names name).bit ≡ cond (no_name name) 0 (cond (ltb (first (count names) (is_entry names name)) (count names)) (first (count names) (is_entry names name)) 0))
+  -- the bit by itself: the length and the last byte have no part in it
+  pub lookup-before : (lookup names name).bit ≡ cond (no_name name) None (cond (ltb hit (count names)) (Some hit) None)
   unfolding lookup
-  lookup-before = go (no_name name) (ltb f (count names))
+  lookup-before = go (no_name name) (ltb hit (count names))
     where
-      f : ℕ
-      f = first (count names) (is_entry names name)
-
-      go : (t u : Bool) → ((cond t not_sought (cond u (found_at names name f) (not_found names name))).found ≡ cond t false u)
-          × ((cond t not_sought (cond u (found_at names name f) (not_found names name))).bit ≡ cond t 0 (cond u f 0))
-      go true u = (refl, refl)
-      go false true = (refl, refl)
-      go false false = (refl, refl)
+      go : (t u : Bool) → (told t u).bit ≡ cond t None (cond u (Some hit) None)
+      go true u = refl
+      go false true = refl
+      go false false = refl
 
   -- each entry that is compared agrees in both, each of the first n that agrees is compared, and each counts once
   pub compared-each : (n : ℕ) → CountOf (λ k. agrees names name k ≡ true) n (compared_in names name n)
@@ -294,29 +299,16 @@ module _ (names name : List ℕ) where
   compared-each n = tally-counts (agrees names name) n
 
   -- how many entries are compared: those up to the hit that agree, or all that agree, or none
-  pub lookup-hit : (lookup names name).found ≡ true → (lookup names name).compared ≡ compared_in names name (suc (lookup names name).bit)
+  pub lookup-hit : (k : ℕ) → (lookup names name).bit ≡ Some k → (lookup names name).compared ≡ compared_in names name (suc k)
   unfolding lookup
-  lookup-hit = go (no_name name) (ltb f (count names))
-    where
-      f : ℕ
-      f = first (count names) (is_entry names name)
+  lookup-hit k h = let t = found-hit k h in rw (t.0, t.1, t.2)
 
-      go : (t u : Bool) → (cond t not_sought (cond u (found_at names name f) (not_found names name))).found ≡ true
-          → (cond t not_sought (cond u (found_at names name f) (not_found names name))).compared ≡ compared_in names name (suc (cond t not_sought (cond u (found_at names name f) (not_found names name))).bit)
-      go true u h = absurd (clash h refl)
-      go false true h = refl
-      go false false h = absurd (clash h refl)
-
-  pub lookup-miss : no_name name ≡ false → (lookup names name).found ≡ false → (lookup names name).compared ≡ compared_in names name (count names)
+  pub lookup-miss : no_name name ≡ false → (lookup names name).bit ≡ None → (lookup names name).compared ≡ compared_in names name (count names)
   unfolding lookup
-  lookup-miss n = go (ltb (first (count names) (is_entry names name)) (count names))
+  lookup-miss n = go (ltb hit (count names))
     where
-      f : ℕ
-      f = first (count names) (is_entry names name)
-
-      go : (u : Bool) → (cond (no_name name) not_sought (cond u (found_at names name f) (not_found names name))).found ≡ false
-          → (cond (no_name name) not_sought (cond u (found_at names name f) (not_found names name))).compared ≡ compared_in names name (count names)
-      go true h = absurd (clash refl (rw n at h))
+      go : (u : Bool) → (told (no_name name) u).bit ≡ None → (told (no_name name) u).compared ≡ compared_in names name (count names)
+      go true h = absurd (none-some hit (sym (rw n at h)))
       go false h = rw n
 
   pub lookup-none : no_name name ≡ true → lookup names name ≡ not_sought

@@ -1,5 +1,5 @@
 -- The search for a name (document 01, "Bitsets": "A name is the entry that equals it .. an empty name matches none"), and how many entries it compares (request C-14).
-use Rattle.std.specs.Prelude.{ℕ, suc, Bool, true, false, ◌&&◌, ◌||◌, cond, List, length, eqb, ltb}
+use Rattle.std.specs.Prelude.{ℕ, suc, Bool, ◌&&◌, ◌||◌, cond, Some, None, List, length, eqb, ltb}
 use Rattle.basics.specs.Scan.{first, tally}
 use Rattle.entries.specs.Entry.{count, entry_at, same_entry, is_empty}
 use Rattle.entries.specs.Length.{name_length, last_byte}
@@ -23,15 +23,15 @@ compared_in names name n = tally n (agrees names name)
 
 -- no search for a name that no entry can equal: "none for an empty name"
 abbrev pub not_sought : Lookup
-not_sought = record { found = false; bit = 0; compared = 0 }
+not_sought = record { bit = None; compared = 0 }
 
 -- no entry equals the name
 abbrev pub not_found : List ℕ → List ℕ → Lookup
-not_found names name = record { found = false; bit = 0; compared = compared_in names name (count names) }
+not_found names name = record { bit = None; compared = compared_in names name (count names) }
 
 -- entry i equals it: "up to the hit", which counts
 abbrev pub found_at : List ℕ → List ℕ → ℕ → Lookup
-found_at names name i = record { found = true; bit = i; compared = compared_in names name (suc i) }
+found_at names name i = record { bit = Some i; compared = compared_in names name (suc i) }
 
 -- the first entry that equals the name
 unfoldable pub lookup : List ℕ → List ℕ → Lookup

@@ -9,8 +9,8 @@ fn others(names: &[u8], place: usize, byte: u8, i: usize, n: usize) -> bool
     ensures { result ≡ all n (other_at names.now place byte i) }
 {
     let mut other = true;
-    for k in 0..n {
-        other = other & (names[(i + k) * 32 + place] != byte);
+    for entry in &names.as_chunks::<32>().0[i..i + n] {
+        other &= entry[place] != byte;
     }
     other
 }
@@ -20,6 +20,7 @@ fn pass_fours(names: &[u8], place: usize, byte: u8, i: usize) -> usize
     requires { (place < 32) × (i ≤ length names.now / 32) }
     ensures { Others names.now place byte i result }
 {
+    // By hand: where it stops is what is told, and by step_by that would be worked out a second time.
     let mut r = i;
     while r + 4 <= names.len() / 32 {
         if !others(names, place, byte, r, 4) {
@@ -35,12 +36,10 @@ pub fn next_with(names: &[u8], place: usize, byte: u8, i: usize) -> usize
     requires { (place < 32) × (i ≤ length names.now / 32) }
     ensures { NextWith names.now place byte i result }
 {
-    let mut r = pass_fours(names, place, byte, i);
-    while r < names.len() / 32 {
+    for r in pass_fours(names, place, byte, i)..names.len() / 32 {
         if names[r * 32 + place] == byte {
             return r;
         }
-        r += 1;
     }
-    r
+    names.len() / 32
 }

@@ -11,11 +11,11 @@ use numbers::nuls::nul_pairs;
 fn low_right(names: &[u8]) -> bool
     ensures { result ≡ all (count names.now) (low_right names.now) }
 {
-    for i in 0..names.len() / 32 {
-        if names[i * 32 + 31] != 0 {
+    for entry in names.as_chunks::<32>().0 {
+        if entry[31] != 0 {
             return false;
         }
-        if !nul_pairs(names, i * 32, 16) {
+        if !nul_pairs(entry, 0, 16) {
             return false;
         }
     }
@@ -26,8 +26,8 @@ fn low_right(names: &[u8]) -> bool
 fn high_right(names: &[u8]) -> bool
     ensures { result ≡ all (count names.now) (high_right names.now) }
 {
-    for i in 0..names.len() / 32 {
-        if !nul_pairs(names, i * 32 + 15, 16) {
+    for entry in names.as_chunks::<32>().0 {
+        if !nul_pairs(entry, 15, 16) {
             return false;
         }
     }
@@ -36,6 +36,7 @@ fn high_right(names: &[u8]) -> bool
 
 // Whether each entry is up to 31 bytes that are not NUL, then NULs only. Two loops cost half of one: what is known of a byte from the first half
 // or from the entry's end would keep the compiler from comparing the second half's sixteen bytes at once.
+#[tactic(auto, using(crate::proofs::Rules::entries_laws))]
 fn entries_right(names: &[u8]) -> bool
     ensures { result ≡ all (count names.now) (right_at names.now) }
 {
@@ -46,6 +47,7 @@ fn entries_right(names: &[u8]) -> bool
 }
 
 // Whether a list breaks no rule.
+#[tactic(auto, using(crate::proofs::Rules::names_laws))]
 pub fn names_right(names: &[u8]) -> bool
     ensures { result ≡ names_right names.now }
 {

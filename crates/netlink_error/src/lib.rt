@@ -100,23 +100,20 @@ fn put_detail(page: &mut [u8], detail: Detail) -> usize
     }
 }
 
+#[tactic(auto, unfolding(crate::specs::Error::flags_of))]
 fn flags_of(detail: Detail) -> u16
     ensures { result ≡ flags_of detail }
 {
     match detail {
         Detail::Nothing => CAPPED,
-        Detail::Offset(_) => CAPPED_AND_ACK_TLVS,
-        Detail::MissTop(_) => CAPPED_AND_ACK_TLVS,
-        Detail::MissIn(_, _) => CAPPED_AND_ACK_TLVS,
+        Detail::Offset(_) | Detail::MissTop(_) | Detail::MissIn(_, _) => CAPPED_AND_ACK_TLVS,
     }
 }
 
 // Minus a number, as 32 bits.
+#[tactic(auto, unfolding(crate::specs::Error::negative))]
 fn negative(errno: u32) -> u32
     ensures { result ≡ negative errno }
 {
-    if errno == 0 {
-        return 0;
-    }
-    4294967295 - (errno - 1)
+    errno.wrapping_neg()
 }

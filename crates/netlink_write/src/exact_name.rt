@@ -10,6 +10,7 @@ use netlink_headers::lengths::Stated;
 use page::bytes::put_filled;
 
 // The bytes before the first NUL, and one NUL.
+#[tactic(auto, using(crate::proofs::exact_name::Laws::exact_laws))]
 pub fn put_exact_name(page: &mut [u8], kind: u16, name: &[u8]) -> usize
     requires { (length name.now ≤ 256) × (length (attr kind (name_bytes name.now)) ≤ length page.old) }
     ensures { Wrote (attr kind (name_bytes name.now)) page.old page.new result }

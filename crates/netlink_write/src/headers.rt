@@ -1,4 +1,6 @@
 // The three wire structures of fixed size.
+#![tactic(auto, using(crate::proofs::headers::Laws::header_laws))]
+
 ghost use Rattle.std.specs.Prelude.{◌≡◌, ◌≤◌, ◌++◌, length};
 ghost use Rattle.basics.specs.Numbers.{le16, le32};
 ghost use Rattle.basics.specs.Put.{put};
@@ -16,7 +18,7 @@ fn put_two_u16(page: &mut [u8], first: u16, second: u16)
     put_u16(&mut page[2..], second);
 }
 
-// Two numbers of 32 bits: 8 bytes.
+// Two numbers of 32 bits: 8 bytes. Two lines each, so that a function of any size would be no plainer.
 pub fn put_two_u32(page: &mut [u8], first: u32, second: u32)
     requires { 8 ≤ length page.old }
     ensures { page.new ≡ put page.old (le32 first ++ le32 second) }
@@ -36,14 +38,13 @@ pub fn put_message_header(page: &mut [u8], h: MessageHeader)
 }
 
 // 4 bytes.
+#[tactic(auto, unfolding(basics::specs::Put::put, crate::specs::Headers::generic_header_bytes))]
 pub fn put_generic_header(page: &mut [u8], h: GenericHeader)
     requires { 4 ≤ length page.old }
     ensures { page.new ≡ put page.old (generic_header_bytes h) }
 {
-    page[0] = h.command;
-    page[1] = h.version;
-    page[2] = (h.reserved % 256) as u8;
-    page[3] = (h.reserved / 256 % 256) as u8;
+    let [low, high] = h.reserved.to_le_bytes();
+    page[..4].copy_from_slice(&[h.command, h.version, low, high]);
 }
 
 // 4 bytes: the stated length, and the type with the two bits above it.

@@ -4,29 +4,21 @@ ghost use Rattle.basics.specs.Put.{put};
 ghost use Rattle.netlink.specs.Policy.{nul_at};
 ghost use Rattle.netlink_write.specs.PaddedName.{padded_word, padded_name, Copied};
 
-use crate::headers::put_two_u32;
 use netlink::policy::{nul_at, some_nul};
-use numbers::four;
 use page::bytes::put_filled;
-use page::put_u32;
 
-// A copy of the eight bytes of a name from `at` on.
-fn put_eight(page: &mut [u8], name: &[u8], at: usize)
-    requires { (at + 8 ≤ length name.now) × (8 ≤ length page.old) }
-    ensures { page.new ≡ put page.old (take 8 (drop at name.now)) }
+// A copy of N bytes of a name from `at` on. They go through an array, so that nobody asks whether page and name overlap.
+#[tactic(auto, unfolding(basics::specs::Put::put))]
+fn put_chunk<const N: usize>(page: &mut [u8], name: &[u8], at: usize)
+    requires { (at + N ≤ length name.now) × (N ≤ length page.old) }
+    ensures { page.new ≡ put page.old (take N (drop at name.now)) }
 {
-    put_two_u32(page, four(name, at), four(name, at + 4));
+    let chunk: [u8; N] = *name[at..].first_chunk().unwrap();
+    page[..N].copy_from_slice(&chunk);
 }
 
-// The same of four.
-fn put_four(page: &mut [u8], name: &[u8], at: usize)
-    requires { (at + 4 ≤ length name.now) × (4 ≤ length page.old) }
-    ensures { page.new ≡ put page.old (take 4 (drop at name.now)) }
-{
-    put_u32(page, four(name, at));
-}
-
-// Copies a name eight bytes at a time while none of them is NUL. How many bytes are copied.
+// Copies a name eight bytes at a time while none of them is NUL. How many bytes are copied: the place, which serves both slices and is told, is counted by
+// hand.
 fn put_eights(page: &mut [u8], name: &[u8]) -> usize
     requires { length name.now ≤ length page.old }
     ensures { Copied name.now page.old page.new result }
@@ -36,7 +28,7 @@ fn put_eights(page: &mut [u8], name: &[u8]) -> usize
         if some_nul(name, at, 8) {
             return at;
         }
-        put_eight(&mut page[at..], name, at);
+        put_chunk::<8>(&mut page[at..], name, at);
         at += 8;
     }
     at
@@ -96,13 +88,14 @@ pub fn put_padded_name(page: &mut [u8], name: &[u8]) -> usize
     ensures value { result ≡ nul_at name.now }
     ensures page_after { page.new ≡ put page.old (padded_name name.now) }
 {
+    // The place is counted as in `put_eights`.
     let mut at = put_eights(page, name);
     while 4 <= name.len() - at {
         if some_nul(name, at, 4) {
             let k = put_last(&mut page[at..], name[at], name[at + 1], name[at + 2]);
             return at + k;
         }
-        put_four(&mut page[at..], name, at);
+        put_chunk::<4>(&mut page[at..], name, at);
         at += 4;
     }
     let k = put_few(&mut page[at..], &name[at..]);

@@ -1,6 +1,7 @@
 -- An accepted bitset speaks of no bit at or past N.
+use Rattle.std.specs.Prelude.{Option, Some, None, Result, Ok, Err}
 use Prim.Native.Nat.{ℕ, ◌-◌, ◌/◌, ◌<◌}
-use mathlib.Core.Path.{◌≡◌, refl, sym, ◌∙◌}
+use mathlib.Core.Path.{◌≡◌, refl, sym, ap, ◌∙◌}
 use mathlib.Core.List.{List, [], ◌∷◌}
 use mathlib.Core.Bool.{Bool, true, false, ◌&&◌, not, cond}
 use lib.ListN.{length}
@@ -21,7 +22,7 @@ use Rattle.netlink.specs.declared.walk.Slot.{Slot}
 use Rattle.netlink.specs.declared.walk.Stop.{Stop}
 use Rattle.netlink.specs.declared.walk.Stop.TheVariants as S
 use Rattle.refusal.specs.declared.Refusal.{Refusal}
-use Rattle.refusal.specs.declared.Refusal.TheVariants.{MissingIn, ShortBitmap, PastLength, UnknownBit}
+use Rattle.refusal.specs.declared.Refusal.TheVariants.{MissingIn, ShortBitmap, PastLength}
 use Rattle.bitset_form.specs.Parts.{bitset_parts, bit_parts}
 use Rattle.bitset_form.specs.declared.parts.BitsetParts.{BitsetParts}
 use Rattle.bitset_form.specs.declared.parts.BitParts.{BitParts}
@@ -30,21 +31,16 @@ use Rattle.bitset_form.specs.Bitset.{Bitset, Reading}
 use Rattle.bitset_form.specs.Bitset.Bitset.{masked_bitmap, nomask_bitmap, masked_list, nomask_list}
 use Rattle.bitset_form.specs.Bitset.Reading.{refused, accepted}
 use Rattle.bitset_compact.specs.Compact.{bitmap, nomask_reading, masked_reading, compact_reading}
-use Rattle.bitset_bit.specs.Bit.{bit_by_index, bit_by_name, identified, on_identity_read, bit_parts_reading, bit_reading}
+use Rattle.bitset_bit.specs.Bit.{Identity, on_lookup, bit_by_index, bit_by_name, identified, on_identity, bit_parts_reading, bit_reading}
 use Rattle.bitset_bit.proofs.Laws.{by-walk}
 use Rattle.bitset_bit.proofs.Combined.{Said, combined-said}
 use Rattle.bitset_bit.proofs.Combined.Said.{both_say, index-says, name-says}
 use Rattle.refusal.specs.Refusal.{on_stop}
+use Rattle.basics.specs.Results.{and_then}
+use Rattle.bitset_bit.specs.declared.Bit.{Bit}
 use Rattle.bitset_list.specs.BitList.{ListReading, on_bit, bits_reading, as_bitset, list_reading}
 use Rattle.bitset_list.specs.BitList.ListReading.{list_refused, list_entries}
 use Rattle.bitset.specs.Judge as J
-use Rattle.bitset.specs.declared.judge.Mixing.{Mixing}
-use Rattle.bitset.specs.declared.judge.Mixing.TheVariants.{Unmixed, At}
-use Rattle.bitset_bit.specs.declared.Identity.TheVariants.{Number, Absent}
-use Rattle.bitset_bit.specs.declared.IdentityRead.{IdentityRead}
-use Rattle.bitset_bit.specs.declared.IdentityRead.TheVariants as L
-use Rattle.bitset_bit.specs.declared.BitRead.{BitRead}
-use Rattle.bitset_bit.specs.declared.BitRead.TheVariants as B
 use Rattle.normal.specs.Fits.{Fits}
 
 -- a refusal is no acceptance
@@ -110,30 +106,30 @@ compact-fits s nest n parts b e =
     go false q = masked-fits s nest n (slot_number s parts.size) parts b q
 
 -- the number of a BIT is below N
-index_below : (s : List ℕ) (n : ℕ) (index : Slot) (k : ℕ) → bit_by_index s n index ≡ L.Read (Number k) → k < n
+index_below : (s : List ℕ) (n : ℕ) (index : Slot) (k : ℕ) → bit_by_index s n index ≡ Ok (Some k) → k < n
 unfolding bit_by_index
 index_below s n index k e = go index.present (leb n (slot_number s index)) refl e
   where
     go : (t u : Bool) → leb n (slot_number s index) ≡ u
-        → cond t (cond u (L.Refused (PastLength (index.start - 4))) (L.Read (Number (slot_number s index)))) (L.Read Absent) ≡ L.Read (Number k) → k < n
+        → cond t (cond u (Err (PastLength (index.start - 4))) (Ok (Some (slot_number s index)))) (Ok None) ≡ Ok (Some k) → k < n
     go true true q e = absurd (let z : ◌≡◌ {A = ℕ} 0 1 = cc in omega arith)
     go true false q e = let k : k ≡ slot_number s index = cc in omega (arith, leb-false n (slot_number s index) q)
     go false u q e = absurd (let z : ◌≡◌ {A = ℕ} 0 1 = cc in omega arith)
 
-name_below : (s names : List ℕ) (name : Slot) (k : ℕ) → bit_by_name s names name ≡ L.Read (Number k) → k < count names
+name_below : (s names : List ℕ) (name : Slot) (k : ℕ) → bit_by_name s names name ≡ Ok (Some k) → k < count names
 unfolding bit_by_name
-name_below s names name k e = go name.present (lookup names p).found refl e
+name_below s names name k e = go name.present (lookup names p).bit refl e
   where
     p : List ℕ
     p = part_of s name.start name.end
 
-    go : (t u : Bool) → (lookup names p).found ≡ u
-        → cond t (cond u (L.Read (Number (lookup names p).bit)) (L.Refused (UnknownBit (name.start - 4)))) (L.Read Absent) ≡ L.Read (Number k) → k < count names
-    go true true q e = let j : k ≡ (lookup names p).bit = cc in rw j (lookup-found names p q).0
-    go true false q e = absurd (let z : ◌≡◌ {A = ℕ} 0 1 = cc in omega arith)
+    go : (t : Bool) (u : Option ℕ) → (lookup names p).bit ≡ u
+        → cond t (on_lookup u (name.start - 4)) (Ok None) ≡ Ok (Some k) → k < count names
+    go true (Some j) q e = let i : k ≡ j = cc in rw i (lookup-found names p j q).0
+    go true None q e = absurd (let z : ◌≡◌ {A = ℕ} 0 1 = cc in omega arith)
     go false u q e = absurd (let z : ◌≡◌ {A = ℕ} 0 1 = cc in omega arith)
 
-pub identified-below : (s names : List ℕ) (at : ℕ) (parts : BitParts) (k : ℕ) → identified s names at parts ≡ L.Read (Number k) → k < count names
+pub identified-below : (s names : List ℕ) (at : ℕ) (parts : BitParts) (k : ℕ) → identified s names at parts ≡ Ok (Some k) → k < count names
 unfolding identified
 identified-below s names at parts k e = go (combined-said _ k _ _ e)
   where
@@ -142,19 +138,24 @@ identified-below s names at parts k e = go (combined-said _ k _ _ e)
     go (index-says x y) = index_below s (count names) parts.index k x
     go (name-says x y) = name_below s names parts.name k y
 
-bit_below : (s names : List ℕ) (from k : ℕ) (on : Bool) → bit_reading s names from ≡ B.Bit k on → k < count names
+-- the number of a BIT, 0 where it is refused
+abbrev number_in : Result Bit Refusal → ℕ
+number_in (Ok b) = b.number
+number_in (Err r) = 0
+
+bit_below : (s names : List ℕ) (from : ℕ) (b : Bit) → bit_reading s names from ≡ Ok b → b.number < count names
 unfolding bit_parts_reading
-bit_below s names from k on e = go (walked bit_policy s from).stop (identified s names (from - 4) parts) refl (sym (by-walk s names from) ∙ e)
+bit_below s names from b e = go (walked bit_policy s from).stop (identified s names (from - 4) parts) refl (sym (by-walk s names from) ∙ e)
   where
     parts : BitParts
     parts = bit_parts (walked bit_policy s from).slots
 
-    go : (t : Stop) (l : IdentityRead) → identified s names (from - 4) parts ≡ l
-        → on_stop t B.Refused (on_identity_read l (from - 4) parts.on.present) ≡ B.Bit k on → k < count names
+    go : (t : Stop) (l : Identity) → identified s names (from - 4) parts ≡ l
+        → on_stop t Err (and_then l (on_identity (from - 4) parts.on.present)) ≡ Ok b → b.number < count names
     go (S.At f at) l q e = absurd (let z : ◌≡◌ {A = ℕ} 0 1 = cc in omega arith)
-    go S.Whole (L.Refused r) q e = absurd (let z : ◌≡◌ {A = ℕ} 0 1 = cc in omega arith)
-    go S.Whole (L.Read Absent) q e = absurd (let z : ◌≡◌ {A = ℕ} 0 1 = cc in omega arith)
-    go S.Whole (L.Read (Number j)) q e = let i : k ≡ j = cc in rw i (identified-below s names (from - 4) parts j q)
+    go S.Whole (Err r) q e = absurd (let z : ◌≡◌ {A = ℕ} 0 1 = cc in omega arith)
+    go S.Whole (Ok None) q e = absurd (let z : ◌≡◌ {A = ℕ} 0 1 = cc in omega arith)
+    go S.Whole (Ok (Some j)) q e = let i : b.number ≡ j = ap (λ (x : Result Bit Refusal). number_in x) (sym e) in rw i (identified-below s names (from - 4) parts j q)
 
 bits_below : (s names : List ℕ) (xs : Attributes) (es : List Listed) → bits_reading s names xs ≡ list_entries es → Below (count names) (list_mask es)
 unfolding bits_reading list_mask
@@ -163,14 +164,14 @@ bits_below s names (broken at) es e i l = let q : es ≡ [] = cc in rw q
 bits_below s names (attribute k b a z rest) es e i l =
     go (bit_reading (part_of s 0 z) names a) refl (bits_reading s names rest) refl e (λ fs h. bits_below s names rest fs h i l)
   where
-    go : (v : BitRead) → bit_reading (part_of s 0 z) names a ≡ v → (x : ListReading) → bits_reading s names rest ≡ x → on_bit v x ≡ list_entries es
+    go : (v : Result Bit Refusal) → bit_reading (part_of s 0 z) names a ≡ v → (x : ListReading) → bits_reading s names rest ≡ x → on_bit v x ≡ list_entries es
         → ((fs : List Listed) → bits_reading s names rest ≡ list_entries fs → list_mask fs i ≡ false) → list_mask es i ≡ false
-    go (B.Refused r) q x u e f = absurd (let z : ◌≡◌ {A = ℕ} 0 1 = cc in omega arith)
-    go (B.Bit j on) q (list_refused r) u e f = absurd (let z : ◌≡◌ {A = ℕ} 0 1 = cc in omega arith)
-    go (B.Bit j on) q (list_entries fs) u e f =
-        let w : es ≡ record { bit = j; on = on } ∷ fs = cc in
-        let lt = bit_below (part_of s 0 z) names a j on q in
-        let ne : eqb i j ≡ false = ne_eqb i j (λ h. omega arith) in
+    go (Err r) q x u e f = absurd (let z : ◌≡◌ {A = ℕ} 0 1 = cc in omega arith)
+    go (Ok b) q (list_refused r) u e f = absurd (let z : ◌≡◌ {A = ℕ} 0 1 = cc in omega arith)
+    go (Ok b) q (list_entries fs) u e f =
+        let w : es ≡ record { bit = b.number; on = b.on } ∷ fs = cc in
+        let lt = bit_below (part_of s 0 z) names a b q in
+        let ne : eqb i b.number ≡ false = ne_eqb i b.number (λ h. omega arith) in
         rw w (rw (ne, f fs u))
 
 list-fits : (s names : List ℕ) (parts : BitsetParts) (b : Bitset) → list_reading s names parts ≡ accepted b → Fits (count names) b
@@ -199,8 +200,8 @@ accepted-fits s from names b e =
     parts : BitsetParts
     parts = bitset_parts (walked bitset_policy s from).slots
 
-    go : (m : Mixing) (t : Bool) → J.on_mixing m (cond t (list_reading s names parts) (compact_reading s (from - 4) (count names) parts)) ≡ accepted b
+    go : (m : Option ℕ) (t : Bool) → J.on_mixing m (cond t (list_reading s names parts) (compact_reading s (from - 4) (count names) parts)) ≡ accepted b
         → Fits (count names) b
-    go (At at) t e = absurd (never _ b e)
-    go Unmixed true e = list-fits s names parts b e
-    go Unmixed false e = compact-fits s (from - 4) (count names) parts b e
+    go (Some at) t e = absurd (never _ b e)
+    go None true e = list-fits s names parts b e
+    go None false e = compact-fits s (from - 4) (count names) parts b e

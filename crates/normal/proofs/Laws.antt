@@ -1,6 +1,7 @@
 -- Laws of the normaliser: one for each return.
+use Rattle.std.specs.Prelude.{Result, Ok, Err}
 use Prim.Native.Nat.{ℕ, ◌≤◌, ◌<◌}
-use mathlib.Core.Path.{◌≡◌, sym, ap, ◌∙◌}
+use mathlib.Core.Path.{◌≡◌, refl, sym, ap, ◌∙◌}
 use mathlib.Core.List.{List}
 use mathlib.Core.Bool.{Bool, true, false, not}
 use lib.ListN.{length}
@@ -12,89 +13,79 @@ use Rattle.bits.specs.Set.{words_of}
 use Rattle.entries.specs.Entry.{count}
 use Rattle.names.specs.Rule.{names_right}
 use Rattle.names.proofs.Rules.{right-means}
-use Rattle.refusal.specs.Refusal.{number_of}
 use Rattle.refusal.specs.declared.Refusal.{Refusal}
 use Rattle.refusal.specs.declared.Refusal.TheVariants.{Box, Page, Datagram}
 use Rattle.bitset_form.specs.Bitset.{Reading, mask_of, value_of}
 use Rattle.bitset_form.specs.Form.{judged_as}
 use Rattle.bitset_form.specs.Bitset.Reading.{refused, accepted}
 use Rattle.bitset.specs.Judge.{bitset_reading}
-use Rattle.bitset_form.specs.declared.Judgement.TheVariants.{Accepted, Refused}
-use Rattle.bitset_form.specs.declared.Judged.{Judged}
+use Rattle.bitset_form.specs.declared.Form.{Form}
 use Rattle.page.specs.Page.{Wrote}
 use Rattle.bitset_write.specs.Form.{form_bytes}
-use Rattle.normal.specs.Normal.{normal_form, NormalAnswer, refused_by, reading_answer, normalised, normal_of, Normalised}
-use Rattle.normal.specs.declared.Normal.{Normal}
-
-pub refused_as : (y : Refusal) (k : ℕ) → k ≡ number_of y → record { number = k; written = 0 } ≡ normal_of (refused_by y)
-refused_as y k e = ap (λ (x : ℕ). record { number = x; written = 0 }) e
+use Rattle.normal.specs.Normal.{normal_form, NormalAnswer, refused_by, reading_answer, normalised, Normalised}
 
 -- a refusal writes nothing
-unwritten : (o : NormalAnswer) (y : Refusal) (P : List ℕ) (r : Normal) → r ≡ normal_of (refused_by y) → o ≡ refused_by y → Normalised o P P r
-unwritten o y P r e q = rw q (record { result = e; page = sym (put-nil P) })
+unwritten : (o : NormalAnswer) (y : Refusal) (P : List ℕ) → o ≡ refused_by y → Normalised o P P (Err y)
+unwritten o y P q = rw q (record { number = refl; count = refl; page = sym (put-nil P) })
 
 -- a judged bitset that is refused, and one that is accepted
-reading-refused : (n : ℕ) (x : Reading) (y : Refusal) → (judged_as n x).judgement ≡ Refused y → x ≡ refused y
+never : ◌≡◌ {A = ℕ} 0 1 → ⊥
+never z = omega arith
+
+reading-refused : (n : ℕ) (x : Reading) (y : Refusal) → judged_as n x ≡ Err y → x ≡ refused y
 unfolding judged_as
 reading-refused n (refused r) y e = ap refused (cc)
-reading-refused n (accepted b) y e = absurd (let z : ◌≡◌ {A = ℕ} 0 1 = cc in never z)
-  where
-    never : ◌≡◌ {A = ℕ} 0 1 → ⊥
-    never z = omega arith
+reading-refused n (accepted b) y e = absurd (never (cc))
 
-written : (n : ℕ) (x : Reading) (P Q m v : List ℕ) (w : ℕ) → (judged_as n x).judgement ≡ Accepted → m ≡ (judged_as n x).form.mask → v ≡ (judged_as n x).form.value
-    → Wrote (form_bytes n m v) P Q w → Normalised (reading_answer x n) P Q (record { number = 0; written = w })
+written : (n : ℕ) (x : Reading) (P Q : List ℕ) (f : Form) (w : ℕ) → judged_as n x ≡ Ok f → Wrote (form_bytes n f.mask f.value) P Q w
+    → Normalised (reading_answer x n) P Q (Ok w)
 unfolding judged_as normal_form
-written n (refused r) P Q m v w e em ev h = absurd (let z : ◌≡◌ {A = ℕ} 0 1 = cc in never z)
+written n (refused r) P Q f w e h = absurd (never (cc))
+written n (accepted b) P Q f w e h = record { number = refl; count = h.count ∙ ap length both; page = h.page ∙ ap (put P) both }
   where
-    never : ◌≡◌ {A = ℕ} 0 1 → ⊥
-    never z = omega arith
-written n (accepted b) P Q m v w e em ev h =
-    record {
-      result = ap (λ (k : ℕ). record { number = 0; written = k }) (h.count ∙ ap length (both));
-      page = h.page ∙ ap (put P) both;
-    }
-  where
-    both : form_bytes n m v ≡ form_bytes n (words_of 16 (mask_of n b)) (words_of 16 (value_of b))
-    both = rw (em, ev)
+    is : record { mask = words_of 16 (mask_of n b); value = words_of 16 (value_of b) } ≡ f
+    is = cc
+
+    both : form_bytes n f.mask f.value ≡ form_bytes n (words_of 16 (mask_of n b)) (words_of 16 (value_of b))
+    both = ap (λ (x : Form). form_bytes n x.mask x.value) (sym is)
 
 -- the contents judged, and the form written
-module _ (contents names P : List ℕ) (j : Judged) (ej : j ≡ judged_as (count names) (bitset_reading contents 0 names)) where
-  pub put_refused : (y : Refusal) (r : Normal) → j.judgement ≡ Refused y → r ≡ normal_of (refused_by y)
+module _ (contents names P : List ℕ) (j : Result Form Refusal) (ej : j ≡ judged_as (count names) (bitset_reading contents 0 names)) where
+  pub put_refused : (y : Refusal) (r : Result ℕ Refusal) → j ≡ Err y → r ≡ Err y
       → Normalised (reading_answer (bitset_reading contents 0 names) (count names)) P P r
   put_refused y r q e =
-      unwritten _ y P r e
-      (ap (λ (x : Reading). reading_answer x (count names))
-      (reading-refused (count names) (bitset_reading contents 0 names) y (ap (λ (x : Judged). x.judgement) (sym ej) ∙ q)))
+      rw e
+      (unwritten _ y P
+      (ap (λ (x : Reading). reading_answer x (count names)) (reading-refused (count names) (bitset_reading contents 0 names) y (sym ej ∙ q))))
 
-  pub put-accepted : (n w : ℕ) (Q : List ℕ) → n ≡ count names → j.judgement ≡ Accepted → Wrote (form_bytes n j.form.mask j.form.value) P Q w
-      → Normalised (reading_answer (bitset_reading contents 0 names) (count names)) P Q (record { number = 0; written = w })
-  put-accepted n w Q en q h =
-      written (count names) (bitset_reading contents 0 names) P Q j.form.mask j.form.value w (ap (λ (x : Judged). x.judgement) (sym ej) ∙ q)
-      (ap (λ (x : Judged). x.form.mask) ej) (ap (λ (x : Judged). x.form.value) ej) (rw en at h)
+  pub put-accepted : (n w : ℕ) (f : Form) (Q : List ℕ) → n ≡ count names → j ≡ Ok f → Wrote (form_bytes n f.mask f.value) P Q w
+      → Normalised (reading_answer (bitset_reading contents 0 names) (count names)) P Q (Ok w)
+  put-accepted n w f Q en q h = written (count names) (bitset_reading contents 0 names) P Q f w (sym ej ∙ q) (rw en at h)
 
 module _ (contents names P : List ℕ) (t : Bool) (et : t ≡ names_right names) where
-  pub normal-box : (r : Normal) → not t ≡ true → r ≡ normal_of (refused_by Box) → Normalised (normalised contents names (length P)) P P r
+  pub normal-box : not t ≡ true → Normalised (normalised contents names (length P)) P P (Err Box)
   unfolding normalised
-  normal-box r z e = unwritten _ Box P r e (rw (← et, z))
+  normal-box z = unwritten _ Box P (rw (← et, z))
 
   pub normal-few : not t ≡ false → count names ≤ 512
   normal-few z = (right-means names (sym et ∙ not-false t z)).few
 
   module _ (right : not t ≡ false) where
-    pub normal-page : (r : Normal) → length P < 144 → r ≡ normal_of (refused_by Page) → Normalised (normalised contents names (length P)) P P r
+    pub normal-page : length P < 144 → Normalised (normalised contents names (length P)) P P (Err Page)
     unfolding normalised
-    normal-page r l e = unwritten _ Page P r e (rw (← et, right, lt-ltb _ _ l))
+    normal-page l = unwritten _ Page P (rw (← et, right, lt-ltb _ _ l))
 
     module _ (room : 144 ≤ length P) where
-      pub normal-long : (r : Normal) → 32768 < length contents → r ≡ normal_of (refused_by Datagram) → Normalised (normalised contents names (length P)) P P r
+      pub normal-long : 32768 < length contents → Normalised (normalised contents names (length P)) P P (Err Datagram)
       unfolding normalised
-      normal-long r l e = unwritten _ Datagram P r e (rw (← et, right, le-ltb _ _ room, lt-ltb _ _ l))
+      normal-long l = unwritten _ Datagram P (rw (← et, right, le-ltb _ _ room, lt-ltb _ _ l))
 
-      pub normal-judged : (r : Normal) (Q : List ℕ) → length contents ≤ 32768 → Normalised (reading_answer (bitset_reading contents 0 names) (count names)) P Q r
+      pub normal-judged : (r : Result ℕ Refusal) (Q : List ℕ) → length contents ≤ 32768 → Normalised (reading_answer (bitset_reading contents 0 names) (count names)) P Q r
           → Normalised (normalised contents names (length P)) P Q r
       unfolding normalised
       normal-judged r Q short h = rw read h
         where
           read : normalised contents names (length P) ≡ reading_answer (bitset_reading contents 0 names) (count names)
           read = rw (← et, right, le-ltb _ _ room, le-ltb _ _ short)
+
+pub ruleset normal_laws = (normal-box, normal-few, normal-page, normal-long)

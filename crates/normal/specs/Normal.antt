@@ -1,5 +1,5 @@
 -- Document 01, "Bitsets": the normaliser and the normal form.
-use Rattle.std.specs.Prelude.{ℕ, ◌≡◌, List, [], cond, not, length, ltb}
+use Rattle.std.specs.Prelude.{ℕ, ◌≡◌, List, [], cond, not, length, ltb, Result, Ok, Err}
 use Rattle.basics.specs.Put.{put}
 use Rattle.bits.specs.Set.{words_of}
 use Rattle.entries.specs.Entry.{count}
@@ -11,7 +11,6 @@ use Rattle.bitset_form.specs.Bitset.{Bitset, Reading, mask_of, value_of}
 use Rattle.bitset_form.specs.Bitset.Reading.{refused, accepted}
 use Rattle.bitset.specs.Judge.{bitset_reading}
 use Rattle.bitset_write.specs.Form.{form_bytes}
-use Rattle.normal.specs.declared.Normal.{Normal}
 
 -- "contents of a compact bitset: SIZE N, VALUE W words, MASK W words", of the mask and value of the bitset
 unfoldable pub normal_form : ℕ → Bitset → List ℕ
@@ -39,11 +38,18 @@ normalised contents names room =
     (cond (ltb 32768 (length contents)) (refused_by Datagram)
     (reading_answer (bitset_reading contents 0 names) (count names))))
 
--- the code's answer: the count is the length of the bytes
-abbrev pub normal_of : NormalAnswer → Normal
-normal_of o = record { number = o.number; written = length o.bytes }
+-- the number of the code's answer: that of its refusal, or 0
+abbrev pub number_told : Result ℕ Refusal → ℕ
+number_told (Err r) = number_of r
+number_told (Ok written) = 0
 
--- the bytes stand at the front of the page, and the rest of the page is as before
-pub record Normalised (o : NormalAnswer) (before after : List ℕ) (r : Normal) : Type 0 where
-  pub result : r ≡ normal_of o
+-- the count of bytes that it says are written, none where it refuses
+abbrev pub count_told : Result ℕ Refusal → ℕ
+count_told (Err r) = 0
+count_told (Ok written) = written
+
+-- the code's answer has the number and the count of the bytes; they stand at the front of the page, and the rest of the page is as before
+pub record Normalised (o : NormalAnswer) (before after : List ℕ) (r : Result ℕ Refusal) : Type 0 where
+  pub number : number_told r ≡ o.number
+  pub count : count_told r ≡ length o.bytes
   pub page : after ≡ put before o.bytes

@@ -8,9 +8,11 @@ pub fn nul_pairs(s: &[u8], at: usize, n: usize) -> bool
     requires { at + n < length s.now }
     ensures { result ≡ all n (pair_at s.now at) }
 {
+    let firsts = &s[at..at + n];
+    let seconds = &s[at + 1..at + n + 1];
     let mut right = true;
-    for j in 0..n {
-        right = right & ((s[at + j] != 0) | (s[at + j + 1] == 0));
+    for (first, second) in firsts.iter().zip(seconds) {
+        right &= (*first != 0) | (*second == 0);
     }
     right
 }

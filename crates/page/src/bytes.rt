@@ -2,56 +2,26 @@
 ghost use Rattle.std.specs.Prelude.{◌≡◌, ◌≤◌, ◌-◌, ◌++◌, length, take, replicate};
 ghost use Rattle.basics.specs.Put.{put};
 
-use numbers::capped;
-
 // A copy of the bytes.
 pub fn put_bytes(page: &mut [u8], bytes: &[u8])
     requires { length bytes.now ≤ length page.old }
     ensures { page.new ≡ put page.old bytes.now }
 {
-    let mut i = 0;
-    while i < bytes.len() {
-        page[i] = bytes[i];
-        i += 1;
-    }
+    page[..bytes.len()].copy_from_slice(bytes);
 }
 
-// Up to four zero bytes, one by one: a loop would become a call that costs more.
-fn put_few_zeros(page: &mut [u8], n: usize)
-    requires { (n ≤ 4) × (n ≤ length page.old) }
-    ensures { page.new ≡ put page.old (replicate n 0) }
-{
-    if n == 0 {
-        return;
-    }
-    page[0] = 0;
-    if n == 1 {
-        return;
-    }
-    page[1] = 0;
-    if n == 2 {
-        return;
-    }
-    page[2] = 0;
-    if n == 3 {
-        return;
-    }
-    page[3] = 0;
-}
-
-// n zero bytes.
+// n zero bytes. Up to four, as most padding has, are stored at once: of any other count it becomes a call, which costs more.
 pub fn put_zeros(page: &mut [u8], n: usize)
     requires { n ≤ length page.old }
     ensures { page.new ≡ put page.old (replicate n 0) }
 {
-    if n <= 4 {
-        put_few_zeros(page, n);
-        return;
-    }
-    let mut i = 0;
-    while i < n {
-        page[i] = 0;
-        i += 1;
+    match n {
+        0 => {}
+        1 => page[..1].fill(0),
+        2 => page[..2].fill(0),
+        3 => page[..3].fill(0),
+        4 => page[..4].fill(0),
+        _ => page[..n].fill(0),
     }
 }
 
@@ -61,7 +31,7 @@ pub fn put_filled(page: &mut [u8], bytes: &[u8], k: usize, n: usize)
     requires { (k ≤ length bytes.now) × (k ≤ n) × (n ≤ length page.old) }
     ensures { page.new ≡ put page.old (take k bytes.now ++ replicate (n - k) 0) }
 {
-    let m = capped(n, bytes.len());
+    let m = n.min(bytes.len());
     put_bytes(page, &bytes[..m]);
     put_zeros(&mut page[k..], n - k);
 }

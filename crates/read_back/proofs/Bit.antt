@@ -1,4 +1,6 @@
 -- Read back: one BIT whose INDEX is below N, and whose NAME, where it has one, is that of INDEX's entry, says its bit, without the VALUE flag.
+use Rattle.std.specs.Prelude.{Some, Ok, Err}
+use Rattle.basics.specs.Results.{and_then}
 use Prim.Native.Nat.{ℕ, ◌+◌, ◌-◌, ◌<◌}
 use mathlib.Core.Path.{◌≡◌, refl, sym, ap, ◌∙◌}
 use mathlib.Core.Bool.{Bool, true, false, cond}
@@ -25,11 +27,7 @@ use Rattle.netlink_write.proofs.attributes.Laws.{length-attr}
 use Rattle.refusal.specs.declared.Refusal.TheVariants.{TwoBits}
 use Rattle.bitset_form.specs.Policies.{bit_policy}
 use Rattle.bitset_form.specs.Parts.{bit_parts}
-use Rattle.bitset_bit.specs.Bit.{bit_by_index, bit_by_name, combined, identified, on_identity_read, bit_parts_reading, bit_walked, bit_reading}
-use Rattle.bitset_bit.specs.declared.Identity.TheVariants.{Number}
-use Rattle.bitset_bit.specs.declared.IdentityRead.{IdentityRead}
-use Rattle.bitset_bit.specs.declared.IdentityRead.TheVariants.{Read, Refused}
-use Rattle.bitset_bit.specs.declared.BitRead.TheVariants.{Bit}
+use Rattle.bitset_bit.specs.Bit.{Identity, bit_by_index, bit_by_name, combined, identified, on_identity, bit_parts_reading, bit_walked, bit_reading}
 use Rattle.netlink_write.proofs.attributes.Laws.{length-name_bytes}
 use Rattle.read_back.proofs.Places.{payload-at, attribute-at, walked_by}
 use Rattle.read_back.proofs.Name.{own-name-found}
@@ -60,7 +58,7 @@ module _ (s front names : List ℕ) (right : names_right names ≡ true) (i at :
     rest_end : length s ≡ at + 8 + length rest
     rest_end = ap length rest_in ∙ omega (arith, rest_at, length-append (front ++ attr 1 (le32 i)) rest)
 
-    index_read : bit_by_index s (count names) (found (at + 4) (at + 8)) ≡ Read (Number i)
+    index_read : bit_by_index s (count names) (found (at + 4) (at + 8)) ≡ Ok (Some i)
     unfolding bit_by_index
     index_read = rw (number-back, lt-leb (count names) i l)
 
@@ -68,13 +66,13 @@ module _ (s front names : List ℕ) (right : names_right names ≡ true) (i at :
     says : (x : Slot)
         → walked bit_policy s at
         ≡ record { stop = Whole; slots = absent ∷ found (at + 4) (at + 8) ∷ x ∷ absent ∷ absent ∷ absent ∷ absent ∷ absent ∷ [] }
-        → combined (at - 4) (Read (Number i)) (bit_by_name s names x) ≡ Read (Number i) → bit_reading s names at ≡ Bit i false
+        → combined (at - 4) (Ok (Some i)) (bit_by_name s names x) ≡ Ok (Some i) → bit_reading s names at ≡ Ok (record { number = i; on = false })
     unfolding bit_reading bit_walked bit_parts bit_parts_reading identified
     says x w agree =
-        rw w (ap (λ (y : IdentityRead). on_identity_read y (at - 4) false) (ap (λ (y : IdentityRead). combined (at - 4) y (bit_by_name s names x)) index_read ∙ agree))
+        rw w (ap (λ (y : Identity). and_then y (on_identity (at - 4) false)) (ap (λ (y : Identity). combined (at - 4) y (bit_by_name s names x)) index_read ∙ agree))
 
   -- without a name
-  plain-bit : s ≡ front ++ (attr 1 (le32 i) ++ []) → bit_reading s names at ≡ Bit i false
+  plain-bit : s ≡ front ++ (attr 1 (le32 i) ++ []) → bit_reading s names at ≡ Ok (record { number = i; on = false })
   unfolding first_fault last_of_type judged rule_of plain bit_by_name
   plain-bit e =
       let end = attributes-end s (at + 8) (omega (arith, rest_end [] e)) in
@@ -106,26 +104,26 @@ module _ (s front names : List ℕ) (right : names_right names ≡ true) (i at :
         payload-at s (front ++ attr 1 (le32 i)) [] (name_bytes name) 2 (at + 8) name_in (rest_at (attr 2 (name_bytes name)) e) (at + 12) end
         (omega arith) (omega arith)
 
-    name-read : eqb (nul_at name) 0 ≡ false → bit_by_name s names (found (at + 12) end) ≡ Read (Number i)
+    name-read : eqb (nul_at name) 0 ≡ false → bit_by_name s names (found (at + 12) end) ≡ Ok (Some i)
     unfolding bit_by_name
     name-read some = rw (name-is, own-name-found names right i l short some)
 
-    own-bit : combined (at - 4) (Read (Number i)) (Read (Number i)) ≡ Read (Number i)
-    own-bit = cond-true (eqb i i) (Read (Number i)) (Refused (TwoBits (at - 4))) (eq-eqb i i refl)
+    own-bit : combined (at - 4) (Ok (Some i)) (Ok (Some i)) ≡ Ok (Some i)
+    own-bit = cond-true (eqb i i) (Ok (Some i)) (Err (TwoBits (at - 4))) (eq-eqb i i refl)
 
-    named-bit : eqb (nul_at name) 0 ≡ false → bit_reading s names at ≡ Bit i false
+    named-bit : eqb (nul_at name) 0 ≡ false → bit_reading s names at ≡ Ok (record { number = i; on = false })
     unfolding first_fault last_of_type judged rule_of plain
     named-bit some =
         says (attr 2 (name_bytes name)) e (found (at + 12) end)
         (walked_by bit_policy s at (attribute 1 0 (at + 4) (at + 8) (attribute 2 0 (at + 12) end done))
         (index_at (attr 2 (name_bytes name)) e ∙ ap (attribute 1 0 (at + 4) (at + 8)) name-at)
         (rw (index_back (attr 2 (name_bytes name)) e, name-is, name_back name 32 short)))
-        (ap (combined (at - 4) (Read (Number i))) (name-read some) ∙ own-bit)
+        (ap (combined (at - 4) (Ok (Some i))) (name-read some) ∙ own-bit)
 
-  pub bit-back : nul_at name < 32 → s ≡ front ++ index_and_name i name → bit_reading s names at ≡ Bit i false
+  pub bit-back : nul_at name < 32 → s ≡ front ++ index_and_name i name → bit_reading s names at ≡ Ok (record { number = i; on = false })
   unfolding index_and_name name_if_any
   bit-back short e = go (eqb (nul_at name) 0) refl e
     where
-      go : (t : Bool) → eqb (nul_at name) 0 ≡ t → s ≡ front ++ (attr 1 (le32 i) ++ cond t [] (attr 2 (name_bytes name))) → bit_reading s names at ≡ Bit i false
+      go : (t : Bool) → eqb (nul_at name) 0 ≡ t → s ≡ front ++ (attr 1 (le32 i) ++ cond t [] (attr 2 (name_bytes name))) → bit_reading s names at ≡ Ok (record { number = i; on = false })
       go true q e = plain-bit e
       go false q e = named-bit short e q

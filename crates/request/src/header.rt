@@ -11,11 +11,11 @@ use refusal::{Refusal, of_fault};
 // The flags 1 (compact) and 2 (omit reply) together.
 const KNOWN_FLAGS: u32 = 3;
 
+// The parts of a header, and its flags as a number, 0 where the attribute is absent.
 #[derive(Clone, Copy)]
-pub enum Header {
-    // The flags as a number, 0 where the attribute is absent.
-    Parts { parts: HeaderParts, flags: u32 },
-    Refused(Refusal),
+pub struct Header {
+    pub parts: HeaderParts,
+    pub flags: u32,
 }
 
 // Whether a port is given, by index or by name.
@@ -29,39 +29,39 @@ pub fn gives_port(parts: HeaderParts) -> bool
 }
 
 // Judges the flags.
-pub fn judge_flags(message: &[u8], parts: HeaderParts) -> Header
+pub fn judge_flags(message: &[u8], parts: HeaderParts) -> Result<Header, Refusal>
     ensures { result ≡ flags_judged message.now parts }
 {
     let slot = parts.flags;
     let flags = slot_number(message, slot);
     if KNOWN_FLAGS < flags {
-        return Header::Refused(Refusal::HeaderFlag(place(slot.start)));
+        return Err(Refusal::HeaderFlag(place(slot.start)));
     }
-    Header::Parts { parts, flags }
+    Ok(Header { parts, flags })
 }
 
 // Judges the parts of the header nest of a dump: it names no port.
-fn judge_dump_parts(message: &[u8], parts: HeaderParts) -> Header
+fn judge_dump_parts(message: &[u8], parts: HeaderParts) -> Result<Header, Refusal>
     ensures { result ≡ dump_parts_of message.now parts }
 {
     if gives_port(parts) {
-        return Header::Refused(Refusal::Dump);
+        return Err(Refusal::Dump);
     }
     judge_flags(message, parts)
 }
 
 // Judges the parts of the header nest at a place.
-fn judge_header_parts(message: &[u8], nest: usize, parts: HeaderParts) -> Header
+fn judge_header_parts(message: &[u8], nest: usize, parts: HeaderParts) -> Result<Header, Refusal>
     ensures { result ≡ parts_of message.now nest parts }
 {
     if !gives_port(parts) {
-        return Header::Refused(Refusal::NoPort(nest));
+        return Err(Refusal::NoPort(nest));
     }
     judge_flags(message, parts)
 }
 
 // Walks the header nest whole, in the message cut at the nest's end, then judges its parts.
-pub fn read_header(message: &[u8], header: Slot, dump: bool) -> Header
+pub fn read_header(message: &[u8], header: Slot, dump: bool) -> Result<Header, Refusal>
     ensures { result ≡ header_of message.now header dump }
 {
     let start = header.start;
@@ -69,7 +69,7 @@ pub fn read_header(message: &[u8], header: Slot, dump: bool) -> Header
     let walked = walk(header_policy(), payload(message, 0, end), start);
     let stop = walked.stop;
     if let Stop::At { fault, at } = stop {
-        return Header::Refused(of_fault(fault, at));
+        return Err(of_fault(fault, at));
     }
     let slots = walked.slots;
     if dump {

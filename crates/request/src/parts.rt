@@ -5,6 +5,7 @@ ghost use Rattle.request.specs.Parts.{top_parts, header_parts};
 use crate::policies::{BITSET, FLAGS, HEADER, INDEX, NAME};
 use netlink::walk::Slot;
 
+// The bitset is absent in a GET.
 #[derive(Clone, Copy)]
 pub struct TopParts {
     pub header: Slot,

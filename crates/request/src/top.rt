@@ -8,30 +8,23 @@ use netlink::walk::{Stop, walk};
 use netlink_headers::headers::{GenericHeader, MessageHeader};
 use refusal::{Refusal, of_fault};
 
-#[derive(Clone, Copy)]
-pub enum Top {
-    // The bitset is absent in a GET.
-    Nests(TopParts),
-    Refused(Refusal),
-}
-
 // Judges what the top level lacks: the header, then in a SET the bitset.
-fn judge_nests(change: bool, parts: TopParts) -> Top
+fn judge_nests(change: bool, parts: TopParts) -> Result<TopParts, Refusal>
     ensures { result ≡ nests_of change parts }
 {
     if !parts.header.present {
-        return Top::Refused(Refusal::MissingTop(HEADER));
+        return Err(Refusal::MissingTop(HEADER));
     }
     if change {
         if !parts.bitset.present {
-            return Top::Refused(Refusal::MissingTop(BITSET));
+            return Err(Refusal::MissingTop(BITSET));
         }
     }
-    Top::Nests(parts)
+    Ok(parts)
 }
 
 // Walks the top level of a message whole, then judges what it lacks.
-pub fn read_top(message: &[u8], change: bool) -> Top
+pub fn read_top(message: &[u8], change: bool) -> Result<TopParts, Refusal>
     ensures { result ≡ top_of message.now change }
 {
     let walked = walk(
@@ -41,7 +34,7 @@ pub fn read_top(message: &[u8], change: bool) -> Top
     );
     let stop = walked.stop;
     if let Stop::At { fault, at } = stop {
-        return Top::Refused(of_fault(fault, at));
+        return Err(of_fault(fault, at));
     }
     let slots = walked.slots;
     judge_nests(change, top_parts(slots))

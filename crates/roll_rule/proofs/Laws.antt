@@ -27,12 +27,12 @@ module _ (f : ℕ → Bool) where
     pub each_next : (b : Bool) → b ≡ f k → not b ≡ false → Kept f (k + 1)
     each_next b e q = all_more f k h (sym e ∙ not-false b q)
 
-    module _ (roll : List ℕ) (t : List ℕ) (tab : Tabled roll t) where
-      pub each-not : (b : Bool) → k < length t → b ≡ f k → not b ≡ true → false ≡ all (port_count roll) f
-      each-not b l e q = sym (all-fails f (port_count roll) k (rw tab.count at l) (sym e ∙ not-true b q))
+    module _ (n : ℕ) where
+      pub each-not : (b : Bool) → k < n → b ≡ f k → not b ≡ true → false ≡ all n f
+      each-not b l e q = sym (all-fails f n k l (sym e ∙ not-true b q))
 
-      pub each-done : k ≤ length t → length t ≤ k → true ≡ all (port_count roll) f
-      each-done l u = sym (all_done f (port_count roll) k h (rw tab.count at l) (rw tab.count at u))
+      pub each-done : k ≤ n → n ≤ k → true ≡ all n f
+      each-done l u = sym (all_done f n k h l u)
 
 pub ruleset each-laws = (each_start, each_next, each-not, each-done)
 

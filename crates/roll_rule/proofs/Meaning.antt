@@ -8,8 +8,6 @@ use borrow.Author.Tests.{leb-true}
 use Rattle.basics.specs.Numbers.{byte_at}
 use Rattle.basics.proofs.Scan.{all-each}
 use Rattle.basics.proofs.Truth.{both_true}
-use Rattle.roll.specs.declared.find.Found.{Found}
-use Rattle.roll.specs.declared.find.Found.TheVariants.{At, Nothing}
 use Rattle.roll.specs.Record.{port_count, index_of, name_of}
 use Rattle.roll.specs.Name.{name_right}
 use Rattle.roll.specs.Find.{found_by_index, found_by_name}
@@ -17,6 +15,7 @@ use Rattle.roll_rule.specs.Rule.{port_right, roll_right}
 use Rattle.roll.proofs.name.Laws.{same_bytes, named-same, right-starts}
 use Rattle.roll.proofs.find.Laws.{index_is, name-is}
 use Rattle.roll_rule.proofs.Laws.{right-means}
+use Rattle.std.specs.Prelude.{Option, Some, None}
 
 -- a port whose index and name are right
 pub record PortRight (roll : List ℕ) (k : ℕ) : Type 0 where
@@ -32,18 +31,18 @@ module _ (roll : List ℕ) (right : roll_right roll ≡ true) where
       let b = both_true _ _ a.1 in
       record { positive = leb-true 1 _ a.0; small = leb-true _ 2147483647 b.0; name = b.1 }
 
-  pub zero-none : found_by_index roll 0 ≡ Nothing
+  pub zero-none : found_by_index roll 0 ≡ None
   zero-none = go (found_by_index roll 0) refl
     where
-      go : (f : Found) → found_by_index roll 0 ≡ f → f ≡ Nothing
-      go Nothing e = refl
-      go (At k) e = let i = index_is roll 0 k e in let p = (port-right k i.0).positive in absurd (omega (arith, i.1, p))
+      go : (f : Option ℕ) → found_by_index roll 0 ≡ f → f ≡ None
+      go None e = refl
+      go (Some k) e = let i = index_is roll 0 k e in let p = (port-right k i.0).positive in absurd (omega (arith, i.1, p))
 
-  pub empty-none : (name : List ℕ) → byte_at name 0 ≡ 0 → found_by_name roll name ≡ Nothing
+  pub empty-none : (name : List ℕ) → byte_at name 0 ≡ 0 → found_by_name roll name ≡ None
   empty-none name z = go (found_by_name roll name) refl
     where
-      go : (f : Found) → found_by_name roll name ≡ f → f ≡ Nothing
-      go Nothing e = refl
-      go (At k) e =
+      go : (f : Option ℕ) → found_by_name roll name ≡ f → f ≡ None
+      go None e = refl
+      go (Some k) e =
           let i = name-is roll name k e in
           absurd (right-starts (name_of roll k) (port-right k i.0).name (same_bytes (name_of roll k) name (named-same (name_of roll k) name i.1) 0 (omega arith) ∙ z))

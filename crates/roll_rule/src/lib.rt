@@ -12,35 +12,33 @@ ghost use Rattle.roll_rule.specs.Rule.{port_right, roll_right};
 
 use crate::distinct::few_distinct;
 use crate::marks::many_distinct;
+use roll::Roll;
 use roll::name::name_right;
-use roll::table::{index_of, name_of};
 
 // So many ports are compared pair by pair sooner than by marks.
 const FEW: usize = 3;
 
 // Whether a port's index is 1 to 2,147,483,647 and its name is right.
-fn port_right(roll: &[u8], ports: &[u64], k: usize) -> bool
-    requires tabled { Tabled roll.now ports.now }
-    requires k_in_bounds { k < length ports.now }
+fn port_right(roll: &Roll, k: usize) -> bool
+    requires { k < port_count roll.now }
     ensures { result ≡ port_right roll.now k }
 {
-    let number = index_of(roll, ports, k);
+    let number = roll.index_of(k);
     if number < 1 {
         return false;
     }
     if 2147483647 < number {
         return false;
     }
-    name_right(name_of(roll, ports, k))
+    name_right(roll.name_of(k))
 }
 
 // Whether each port is so.
-fn ports_right(roll: &[u8], ports: &[u64]) -> bool
-    requires { Tabled roll.now ports.now }
+fn ports_right(roll: &Roll) -> bool
     ensures { result ≡ all (port_count roll.now) (port_right roll.now) }
 {
-    for k in 0..ports.len() {
-        if !port_right(roll, ports, k) {
+    for k in 0..roll.count() {
+        if !port_right(roll, k) {
             return false;
         }
     }
@@ -55,11 +53,12 @@ pub fn roll_right(roll: &[u8], ports: &[u64]) -> bool
     if ports.len() < 1 {
         return false;
     }
-    if !ports_right(roll, ports) {
+    let roll = &Roll::new(roll, ports);
+    if !ports_right(roll) {
         return false;
     }
-    if ports.len() <= FEW {
-        return few_distinct(roll, ports);
+    if roll.count() <= FEW {
+        return few_distinct(roll);
     }
-    many_distinct(roll, ports)
+    many_distinct(roll)
 }

@@ -17,12 +17,8 @@ use Rattle.refusal.specs.declared.Refusal.TheVariants.{LongReply}
 use Rattle.layout.specs.Layout.{names_of}
 use Rattle.roll.specs.Record.{port_count, index_of, name_of}
 use Rattle.roll.proofs.table.Laws.{name-long}
-use Rattle.roll.specs.declared.find.Found.{Found}
-use Rattle.roll.specs.declared.find.Found.TheVariants as F
 use Rattle.boxes.specs.Box.{Box, box_of}
 use Rattle.request.specs.Optional.{optional_target_of}
-use Rattle.request.specs.declared.target.TargetRead.{TargetRead}
-use Rattle.request.specs.declared.target.TargetRead.TheVariants as T
 use Rattle.request.proofs.target.Place.{TargetIn, optional-counted}
 use Rattle.reply.specs.Message.{heading_of}
 use Rattle.reply.specs.declared.message.Heading.{Heading}
@@ -32,20 +28,18 @@ use Rattle.response.specs.declared.Kind.TheVariants.{Done}
 use Rattle.response.proofs.Laws.{wrote-responds, length-ack, ack-whole-or-none}
 use Rattle.strset_request.specs.Top.{strset_top_of}
 use Rattle.strset_request.specs.List.{list_reading}
-use Rattle.strset_request.specs.Asked.{is_named, with_sets, on_target, sets_asked, on_top, asked_of}
+use Rattle.strset_request.specs.Asked.{with_sets, on_target, sets_asked, asked_of}
 use Rattle.strset_request.specs.declared.top.StrsetParts.{StrsetParts}
-use Rattle.strset_request.specs.declared.top.StrsetTop.{StrsetTop}
-use Rattle.strset_request.specs.declared.top.StrsetTop.TheVariants as P
 use Rattle.strset_request.specs.declared.list.Sets.{Sets}
-use Rattle.strset_request.specs.declared.list.SetsRead.{SetsRead}
-use Rattle.strset_request.specs.declared.list.SetsRead.TheVariants as L
 use Rattle.strset_request.specs.declared.asked.Asked.{Asked}
-use Rattle.strset_request.specs.declared.asked.AskedRead.{AskedRead}
-use Rattle.strset_request.specs.declared.asked.AskedRead.TheVariants as A
 use Rattle.strset_reply.specs.Message.{StrsetContent, strset_content_of, strset_attributes, strset_reply}
 use Rattle.strset_reply.proofs.message.Lengths.{length-reply}
 use Rattle.strset.specs.Strset.{index_in, name_in, strset_content_in, strset_bytes, content_response, asked_response, strset_response}
 use Rattle.strset.specs.PortNamed.{PortNamed}
+use Rattle.std.specs.Prelude.{Option, Some, None, Result, Ok, Err, is_some}
+use Rattle.basics.specs.Results.{and_then}
+use Rattle.request.specs.declared.target.Addressee.{Addressee}
+use Rattle.request.specs.declared.target.Addressee.TheVariants as T
 
 no_bytes : (s : List ℕ) → length s ≡ 0 → s ≡ []
 no_bytes [] e = refl
@@ -117,16 +111,16 @@ module _ (m : List ℕ) (h : MessageHeader) (next : ℕ) (named : Bool) (index :
 pub ruleset content-laws = (content-long, content-room, content-wrote)
 
 -- the port that is named, if any
-module _ (roll : List ℕ) (port : Found) where
-  pub index-none : port ≡ F.Nothing → 0 ≡ index_in roll port
+module _ (roll : List ℕ) (port : Option ℕ) where
+  pub index-none : port ≡ None → 0 ≡ index_in roll port
   unfolding index_in
   index-none e = sym (rw e)
 
-  pub name-none : (name : List ℕ) → port ≡ F.Nothing → name ≡ [] → name ≡ name_in roll port
+  pub name-none : (name : List ℕ) → port ≡ None → name ≡ [] → name ≡ name_in roll port
   unfolding name_in
   name-none name e en = en ∙ sym (rw e)
 
-  module _ (k : ℕ) (e : port ≡ F.At k) where
+  module _ (k : ℕ) (e : port ≡ Some k) where
     pub port-inside : PortNamed roll port → k < port_count roll
     unfolding PortNamed
     port-inside p = rw e at p
@@ -142,14 +136,14 @@ module _ (roll : List ℕ) (port : Found) where
 pub ruleset port-laws = (index-none, name-none, port-inside, index-some, name-some)
 
 -- its name is that of a port, or none
-pub port-name : (roll name : List ℕ) (port : Found) → PortNamed roll port → name ≡ name_in roll port → length name ≤ 16
+pub port-name : (roll name : List ℕ) (port : Option ℕ) → PortNamed roll port → name ≡ name_in roll port → length name ≤ 16
 unfolding name_in PortNamed
-port-name roll name F.Nothing p e = omega (arith, ap length e)
-port-name roll name (F.At k) p e = omega (arith, ap length e, name-long roll k p)
+port-name roll name None p e = omega (arith, ap length e)
+port-name roll name (Some k) p e = omega (arith, ap length e, name-long roll k p)
 
 -- what is asked for
 pub asked-content : (roll debug flags m : List ℕ) (h : MessageHeader) (next : ℕ) (asked : Asked) (P Q : List ℕ) (r : Answer) (named : Bool) (index : ℕ) (name : List ℕ)
-    → named ≡ is_named asked.port → index ≡ index_in roll asked.port → name ≡ name_in roll asked.port
+    → named ≡ is_some asked.port → index ≡ index_in roll asked.port → name ≡ name_in roll asked.port
     → Responds (content_response m h next (strset_content_of named index name (names_of debug flags) asked.sets asked.counts)) P Q r
     → Responds (content_response m h next (strset_content_in (box_of roll debug flags) asked)) P Q r
 unfolding strset_content_in
@@ -158,43 +152,43 @@ asked-content roll debug flags m h next asked P Q r named index name en ei ea w 
 pub ruleset asked-laws = (port-name, asked-content)
 
 -- a refusal, or what is asked for
-module _ (roll debug flags m : List ℕ) (h : MessageHeader) (next : ℕ) (x : AskedRead) (ex : x ≡ asked_of m roll) (P Q : List ℕ) (r : Answer) where
-  pub strset-refused : (why : Refusal) → x ≡ A.Refused why → Responds (error_response m next why) P Q r
+module _ (roll debug flags m : List ℕ) (h : MessageHeader) (next : ℕ) (x : Result Asked Refusal) (ex : x ≡ asked_of m roll) (P Q : List ℕ) (r : Answer) where
+  pub strset-refused : (why : Refusal) → x ≡ Err why → Responds (error_response m next why) P Q r
       → Responds (strset_response (box_of roll debug flags) m h next) P Q r
   unfolding strset_response
   strset-refused why q w = rw (sym ex ∙ q) w
 
-  pub strset-asked : (asked : Asked) → x ≡ A.Asked asked → Responds (content_response m h next (strset_content_in (box_of roll debug flags) asked)) P Q r
+  pub strset-asked : (asked : Asked) → x ≡ Ok asked → Responds (content_response m h next (strset_content_in (box_of roll debug flags) asked)) P Q r
       → Responds (strset_response (box_of roll debug flags) m h next) P Q r
   unfolding strset_response
   strset-asked asked q w = rw (sym ex ∙ q) w
 
 -- the port that is named is one of the roll's
 module _ (roll : List ℕ) where
-  abbrev AskedIn : AskedRead → Type 0
-  AskedIn (A.Refused why) = 0 ≤ length roll
-  AskedIn (A.Asked asked) = PortNamed roll asked.port
+  abbrev AskedIn : Result Asked Refusal → Type 0
+  AskedIn (Err why) = 0 ≤ length roll
+  AskedIn (Ok asked) = PortNamed roll asked.port
 
-  sets-in : (l : SetsRead) (port : Found) (counts : Bool) → PortNamed roll port → AskedIn (with_sets l port counts)
-  sets-in (L.Refused why) port counts p = omega arith
-  sets-in (L.Listed sets) port counts p = p
+  sets-in : (l : Result Sets Refusal) (port : Option ℕ) (counts : Bool) → PortNamed roll port → AskedIn (with_sets l port counts)
+  sets-in (Err why) port counts p = omega arith
+  sets-in (Ok sets) port counts p = p
 
-  target-in : (m : List ℕ) (parts : StrsetParts) (t : TargetRead) → TargetIn roll t → AskedIn (on_target t (sets_asked m parts))
+  target-in : (m : List ℕ) (parts : StrsetParts) (t : Result Addressee Refusal) → TargetIn roll t → AskedIn (on_target t (sets_asked m parts))
   unfolding sets_asked PortNamed
-  target-in m parts (T.Refused why) p = omega arith
-  target-in m parts (T.Unnamed f) p = sets-in (list_reading m parts.sets (is_named F.Nothing)) F.Nothing parts.counts.present tt
-  target-in m parts (T.Port target) p =
-      sets-in (list_reading m parts.sets (is_named (F.At target.position))) (F.At target.position) parts.counts.present p
+  target-in m parts (Err why) p = omega arith
+  target-in m parts (Ok (T.Unnamed f)) p = sets-in (list_reading m parts.sets false) None parts.counts.present tt
+  target-in m parts (Ok (T.Port target)) p =
+      sets-in (list_reading m parts.sets true) (Some target.position) parts.counts.present p
 
   asked_in : (m : List ℕ) → AskedIn (asked_of m roll)
   unfolding asked_of
   asked_in m = go (strset_top_of m)
     where
-      go : (top : StrsetTop) → AskedIn (on_top top (λ parts. on_target (optional_target_of m parts.header roll) (sets_asked m parts)))
-      go (P.Refused why) = omega arith
-      go (P.Parts parts) = target-in m parts (optional_target_of m parts.header roll) (optional-counted roll m parts.header)
+      go : (top : Result StrsetParts Refusal) → AskedIn (and_then top (λ parts. on_target (optional_target_of m parts.header roll) (sets_asked m parts)))
+      go (Err why) = omega arith
+      go (Ok parts) = target-in m parts (optional_target_of m parts.header roll) (optional-counted roll m parts.header)
 
-  pub asked-inside : (m : List ℕ) (x : AskedRead) (asked : Asked) → x ≡ asked_of m roll → x ≡ A.Asked asked → PortNamed roll asked.port
+  pub asked-inside : (m : List ℕ) (x : Result Asked Refusal) (asked : Asked) → x ≡ asked_of m roll → x ≡ Ok asked → PortNamed roll asked.port
   asked-inside m x asked ex q = rw (sym ex ∙ q) at (asked_in m)
 
 pub ruleset strset-laws = (strset-refused, strset-asked, asked-inside)
@@ -209,7 +203,7 @@ strset-behind box m h next = go (asked_of m box.roll)
     by true bytes = (refl, refl)
     by false bytes = (refl, refl)
 
-    go : (x : AskedRead) → ((asked_response x box m h next).next ≡ next) × ((asked_response x box m h next).place ≡ 0)
-    go (A.Refused why) = (refl, refl)
-    go (A.Asked asked) =
+    go : (x : Result Asked Refusal) → ((asked_response x box m h next).next ≡ next) × ((asked_response x box m h next).place ≡ 0)
+    go (Err why) = (refl, refl)
+    go (Ok asked) =
         by (ltb 32768 (length (strset_bytes m h (strset_content_in box asked)))) (strset_bytes m h (strset_content_in box asked))

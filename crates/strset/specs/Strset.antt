@@ -1,34 +1,31 @@
 -- Request C-13: what an admitted STRSET_GET comes to: a refusal, or its reply and then the ACK if asked. The settings are not looked at.
-use Rattle.std.specs.Prelude.{ℕ, List, [], ◌++◌, cond, length, ltb}
+use Rattle.std.specs.Prelude.{ℕ, List, [], ◌++◌, cond, length, ltb, Option, Some, None, Result, Ok, Err, is_some}
 use Rattle.netlink_headers.specs.declared.headers.MessageHeader.{MessageHeader}
 use Rattle.refusal.specs.declared.Refusal.TheVariants.{LongReply}
 use Rattle.roll.specs.Record.{index_of, name_of}
-use Rattle.roll.specs.declared.find.Found.{Found}
-use Rattle.roll.specs.declared.find.Found.TheVariants as F
 use Rattle.boxes.specs.Box.{Box}
 use Rattle.reply.specs.Message.{heading_of}
 use Rattle.response.specs.Answer.{Response, response_of, error_response, ack_bytes}
 use Rattle.response.specs.declared.Kind.TheVariants.{Done}
-use Rattle.strset_request.specs.Asked.{is_named, asked_of}
+use Rattle.strset_request.specs.Asked.{asked_of}
 use Rattle.strset_request.specs.declared.asked.Asked.{Asked}
-use Rattle.strset_request.specs.declared.asked.AskedRead.{AskedRead}
-use Rattle.strset_request.specs.declared.asked.AskedRead.TheVariants as A
 use Rattle.strset_reply.specs.Message.{StrsetContent, strset_content_of, strset_reply}
+use Rattle.refusal.specs.declared.Refusal.{Refusal}
 
 -- the index of the port that is named; where none is, it does not go out
-unfoldable pub index_in : List ℕ → Found → ℕ
-index_in roll F.Nothing = 0
-index_in roll (F.At position) = index_of roll position
+unfoldable pub index_in : List ℕ → Option ℕ → ℕ
+index_in roll None = 0
+index_in roll (Some position) = index_of roll position
 
 -- its name, likewise
-unfoldable pub name_in : List ℕ → Found → List ℕ
-name_in roll F.Nothing = []
-name_in roll (F.At position) = name_of roll position
+unfoldable pub name_in : List ℕ → Option ℕ → List ℕ
+name_in roll None = []
+name_in roll (Some position) = name_of roll position
 
 -- what the reply is about
 unfoldable pub strset_content_in : Box → Asked → StrsetContent
 strset_content_in box asked =
-    strset_content_of (is_named asked.port) (index_in box.roll asked.port) (name_in box.roll asked.port) box.names asked.sets asked.counts
+    strset_content_of (is_some asked.port) (index_in box.roll asked.port) (name_in box.roll asked.port) box.names asked.sets asked.counts
 
 -- the reply, "message type the family, flags 0, command 1", then the ACK if asked
 unfoldable pub strset_bytes : List ℕ → MessageHeader → StrsetContent → List ℕ
@@ -41,9 +38,9 @@ content_response m h next content =
     (response_of Done next (strset_bytes m h content))
 
 -- a refusal, or what is asked for
-abbrev pub asked_response : AskedRead → Box → List ℕ → MessageHeader → ℕ → Response
-asked_response (A.Refused why) box m h next = error_response m next why
-asked_response (A.Asked asked) box m h next = content_response m h next (strset_content_in box asked)
+abbrev pub asked_response : Result Asked Refusal → Box → List ℕ → MessageHeader → ℕ → Response
+asked_response (Err why) box m h next = error_response m next why
+asked_response (Ok asked) box m h next = content_response m h next (strset_content_in box asked)
 
 -- the message m with its header h, after which the datagram goes on at a position
 unfoldable pub strset_response : Box → List ℕ → MessageHeader → ℕ → Response

@@ -5,7 +5,6 @@ ghost use Rattle.std.specs.Prelude.{◌≡◌, ◌≤◌, ◌<◌, length};
 ghost use Rattle.entries.specs.Entry.{count as count_of};
 ghost use Rattle.layout.specs.Layout.{names_of};
 ghost use Rattle.page.specs.Page.{Wrote};
-ghost use Rattle.roll.specs.Table.{Tabled};
 ghost use Rattle.boxes.specs.Box.{box_of};
 ghost use Rattle.response.specs.Answer.{Responds, ack_bytes};
 ghost use Rattle.strset_reply.specs.Message.{strset_content_of};
@@ -16,11 +15,10 @@ use netlink_headers::headers::MessageHeader;
 use refusal::Refusal;
 use reply::message::heading_of;
 use response::{Answer, Kind, ack_length, put_ack_if_asked, refuse};
-use roll::Found;
-use roll::table::{index_of, name_of};
+use roll::Roll;
 use strset_reply::length::reply_length;
 use strset_reply::message::put_strset_reply;
-use strset_request::asked::{Asked, AskedRead, is_named, read_asked};
+use strset_request::asked::{Asked, read_asked};
 use strset_request::list::Sets;
 
 // The command of the reply, and its message flags.
@@ -91,42 +89,31 @@ fn answer_content<'a>(
 }
 
 // The index of the port that is named, 0 where none is.
-fn index_in(roll: &[u8], ports: &[u64], port: Found) -> u32
-    requires tabled { Tabled roll.now ports.now }
-    requires port_named { PortNamed roll.now port }
+fn index_in(roll: &Roll, port: Option<usize>) -> u32
+    requires { PortNamed roll.now port }
     ensures { result ≡ index_in roll.now port }
 {
     match port {
-        Found::Nothing => {
-            return 0;
-        }
-        Found::At(position) => {
-            return index_of(roll, ports, position);
-        }
+        None => 0,
+        Some(position) => roll.index_of(position),
     }
 }
 
 // Its name, no bytes where none is.
-fn name_in<'r>(roll: &'r [u8], ports: &[u64], port: Found) -> &'r [u8]
-    requires tabled { Tabled roll.now ports.now }
-    requires port_named { PortNamed roll.now port }
+fn name_in<'r>(roll: &'r Roll, port: Option<usize>) -> &'r [u8]
+    requires { PortNamed roll.now port }
     ensures { result.now ≡ name_in roll.now port }
 {
     match port {
-        Found::Nothing => {
-            return &roll[..0];
-        }
-        Found::At(position) => {
-            return name_of(roll, ports, position);
-        }
+        None => &roll.bytes()[..0],
+        Some(position) => roll.name_of(position),
     }
 }
 
 // The answer to what is asked for.
 fn answer_asked<'a>(
     page: &mut [u8],
-    roll: &[u8],
-    ports: &[u64],
+    roll: &Roll,
     debug: &'a [u8],
     flags: &'a [u8],
     m: &[u8],
@@ -135,15 +122,14 @@ fn answer_asked<'a>(
     asked: Asked,
 ) -> Answer
     requires in_bounds { (32768 ≤ length page.old) × (16 ≤ length m.now) × (count_of debug.now ≤ 512) × (count_of flags.now ≤ 512) }
-    requires tabled { Tabled roll.now ports.now }
     requires port_named { PortNamed roll.now asked.port }
     ensures { Responds (content_response m.now h next (strset_content_in (box_of roll.now debug.now flags.now) asked)) page.old page.new result }
 {
     let port = asked.port;
     let sets = asked.sets;
-    let named = is_named(port);
-    let index = index_in(roll, ports, port);
-    let name = name_in(roll, ports, port);
+    let named = port.is_some();
+    let index = index_in(roll, port);
+    let name = name_in(roll, port);
     let counts = asked.counts;
     answer_content(
         page, m, h, next, named, index, name, counts, debug, flags, sets,
@@ -153,24 +139,18 @@ fn answer_asked<'a>(
 // Judges a STRSET_GET by value, then answers it.
 pub fn answer_strset<'a>(
     page: &mut [u8],
-    roll: &[u8],
-    ports: &[u64],
+    roll: &Roll,
     debug: &'a [u8],
     flags: &'a [u8],
     m: &[u8],
     h: MessageHeader,
     next: usize,
 ) -> Answer
-    requires in_bounds { (32768 ≤ length page.old) × (16 ≤ length m.now) × (count_of debug.now ≤ 512) × (count_of flags.now ≤ 512) }
-    requires tabled { Tabled roll.now ports.now }
+    requires { (32768 ≤ length page.old) × (16 ≤ length m.now) × (count_of debug.now ≤ 512) × (count_of flags.now ≤ 512) }
     ensures { Responds (strset_response (box_of roll.now debug.now flags.now) m.now h next) page.old page.new result }
 {
-    match read_asked(m, roll, ports) {
-        AskedRead::Refused(why) => {
-            return refuse(page, m, why, next);
-        }
-        AskedRead::Asked(asked) => {
-            return answer_asked(page, roll, ports, debug, flags, m, h, next, asked);
-        }
+    match read_asked(m, roll) {
+        Err(why) => refuse(page, m, why, next),
+        Ok(asked) => answer_asked(page, roll, debug, flags, m, h, next, asked),
     }
 }

@@ -1,11 +1,11 @@
 // STRINGSETS: any number of STRINGSETs, each of which asks for a set.
 ghost use Rattle.std.specs.Prelude.{◌≡◌};
 ghost use Rattle.netlink_attributes.specs.Attributes.{attributes};
-ghost use Rattle.strset_request.specs.List.{same_set, with_asked, sets_reading, nest_reading, list_reading};
+ghost use Rattle.strset_request.specs.List.{with_asked, sets_reading, nest_reading, list_reading};
 ghost use Rattle.strset_request.specs.declared.list.Sets.TheVariants as S;
 
 use crate::policies::string_sets_policy;
-use crate::set::{SetRead, judge_set};
+use crate::set::judge_set;
 use layout::Set;
 use netlink::walk::{Slot, Stop, walk};
 use netlink_attributes::{AttributeRead, payload, read_attribute};
@@ -20,27 +20,6 @@ pub enum Sets {
     Both(Set),
 }
 
-#[derive(Clone, Copy)]
-pub enum SetsRead {
-    Listed(Sets),
-    Refused(Refusal),
-}
-
-fn same_set(a: Set, b: Set) -> bool
-    ensures { result ≡ same_set a b }
-{
-    match a {
-        Set::Debug => match b {
-            Set::Debug => true,
-            Set::Flags => false,
-        },
-        Set::Flags => match b {
-            Set::Debug => false,
-            Set::Flags => true,
-        },
-    }
-}
-
 // The sets with one more, unless it stands among them.
 fn with_asked(sets: Sets, set: Set) -> Sets
     ensures { result ≡ with_asked sets set }
@@ -48,7 +27,7 @@ fn with_asked(sets: Sets, set: Set) -> Sets
     match sets {
         Sets::Nothing => Sets::One(set),
         Sets::One(first) => {
-            if same_set(first, set) {
+            if first == set {
                 return Sets::One(first);
             }
             Sets::Both(first)
@@ -58,7 +37,7 @@ fn with_asked(sets: Sets, set: Set) -> Sets
 }
 
 // Judges each STRINGSET in turn, and notes its set.
-fn judge_sets(s: &[u8], from: usize, named: bool) -> SetsRead
+fn judge_sets(s: &[u8], from: usize, named: bool) -> Result<Sets, Refusal>
     ensures { result ≡ sets_reading s.now named S.Nothing (attributes s.now from) }
 {
     let mut sets = Sets::Nothing;
@@ -66,28 +45,22 @@ fn judge_sets(s: &[u8], from: usize, named: bool) -> SetsRead
     loop {
         match read_attribute(s, at) {
             AttributeRead::End => {
-                return SetsRead::Listed(sets);
+                return Ok(sets);
             }
             AttributeRead::Broken => {
-                return SetsRead::Listed(sets);
+                return Ok(sets);
             }
             AttributeRead::Attribute(x) => {
-                match judge_set(payload(s, 0, x.end), x.start, named) {
-                    SetRead::Refused(why) => {
-                        return SetsRead::Refused(why);
-                    }
-                    SetRead::Set(set) => {
-                        sets = with_asked(sets, set);
-                        at = x.next;
-                    }
-                }
+                let set = judge_set(payload(s, 0, x.end), x.start, named)?;
+                sets = with_asked(sets, set);
+                at = x.next;
             }
         }
     }
 }
 
 // STRINGSETS is walked whole before the first STRINGSET is opened, in the message cut at the nest's end.
-fn judge_nest(m: &[u8], nest: Slot, named: bool) -> SetsRead
+fn judge_nest(m: &[u8], nest: Slot, named: bool) -> Result<Sets, Refusal>
     ensures { result ≡ nest_reading m.now nest named }
 {
     let start = nest.start;
@@ -95,17 +68,17 @@ fn judge_nest(m: &[u8], nest: Slot, named: bool) -> SetsRead
     let walked = walk(string_sets_policy(), contents, start);
     let stop = walked.stop;
     if let Stop::At { fault, at } = stop {
-        return SetsRead::Refused(of_fault(fault, at));
+        return Err(of_fault(fault, at));
     }
     judge_sets(contents, start, named)
 }
 
 // The sets that STRINGSETS lists, none where it is absent.
-pub fn judge_list(m: &[u8], nest: Slot, named: bool) -> SetsRead
+pub fn judge_list(m: &[u8], nest: Slot, named: bool) -> Result<Sets, Refusal>
     ensures { result ≡ list_reading m.now nest named }
 {
     if nest.present {
         return judge_nest(m, nest, named);
     }
-    SetsRead::Listed(Sets::Nothing)
+    Ok(Sets::Nothing)
 }

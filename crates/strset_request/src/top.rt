@@ -14,13 +14,6 @@ pub struct StrsetParts {
     pub counts: Slot,
 }
 
-#[derive(Clone, Copy)]
-pub enum StrsetTop {
-    // The header is present.
-    Parts(StrsetParts),
-    Refused(Refusal),
-}
-
 fn strset_parts(slots: [Slot; 8]) -> StrsetParts
     ensures { result ≡ strset_parts slots }
 {
@@ -35,17 +28,17 @@ fn strset_parts(slots: [Slot; 8]) -> StrsetParts
 }
 
 // Judges what the top level lacks: the header.
-fn judge_header(parts: StrsetParts) -> StrsetTop
+fn judge_header(parts: StrsetParts) -> Result<StrsetParts, Refusal>
     ensures { result ≡ with_header parts }
 {
     if !parts.header.present {
-        return StrsetTop::Refused(Refusal::MissingTop(HEADER));
+        return Err(Refusal::MissingTop(HEADER));
     }
-    StrsetTop::Parts(parts)
+    Ok(parts)
 }
 
 // Walks the top level of a message whole, then judges what it lacks.
-pub fn read_strset_top(message: &[u8]) -> StrsetTop
+pub fn read_strset_top(message: &[u8]) -> Result<StrsetParts, Refusal>
     ensures { result ≡ strset_top_of message.now }
 {
     let walked = walk(
@@ -55,7 +48,7 @@ pub fn read_strset_top(message: &[u8]) -> StrsetTop
     );
     let stop = walked.stop;
     if let Stop::At { fault, at } = stop {
-        return StrsetTop::Refused(of_fault(fault, at));
+        return Err(of_fault(fault, at));
     }
     let slots = walked.slots;
     judge_header(strset_parts(slots))

@@ -6,13 +6,13 @@ use mathlib.Core.Logic.{⊎_elim}
 use mathlib.Core.List.{List, [], ◌∷◌, ◌++◌, append_assoc, append-nil}
 use native.Mathlib.Numerals.{add-one}
 use native.Mathlib.Omega.{arith}
-use lib.ListN.{length, take, get_or, set, length-append, get_or-append, get_or-eq_default}
-use lib.Seq.{take-suc, get_or_at, get_or-append-add, ext_get_or}
+use lib.ListN.{length, take, drop, get_or, set, length-append, get_or-append, get_or-eq_default}
+use lib.Seq.{take_all, take-suc, get_or_at, get_or-append-add, ext_get_or}
 use Rattle.basics.specs.Numbers.{le32, u32_at}
 use Rattle.basics.specs.Put.{put}
 use Rattle.basics.proofs.Numbers.{digits_low}
 use Rattle.basics.proofs.Order.{lt-or-ge}
-use Rattle.basics.proofs.Put.{put-take}
+use Rattle.basics.proofs.Put.{put-take, put_whole}
 use Rattle.bits.specs.Bit.{test}
 use Rattle.bits.specs.Set.{has, words_of}
 use Rattle.bits.specs.Change.{Same}
@@ -123,3 +123,16 @@ pub read-turn : (s w₀ w : List ℕ) (j r : ℕ) → w ≡ put w₀ (take j (wo
 read-turn s w₀ w j r e h f q =
     ap₂ (λ (l : List ℕ) (x : ℕ). set l j x) e q
     ∙ put-take w₀ (words_in s) j (omega (arith, length-words_in s)) (omega (arith, length-words_in s))
+
+-- and at the end all of them
+pub read-all : (s w₀ w : List ℕ) (j : ℕ) → length (take (length s / 4) w₀) ≡ length s / 4 → w ≡ put (take (length s / 4) w₀) (take j (words_in s)) → length s / 4 ≤ j
+    → w ++ drop (length s / 4) w₀ ≡ put w₀ (words_in s)
+unfolding put
+read-all s w₀ w j room e l =
+    let whole : take j (words_in s) ≡ words_in s = take_all j (words_in s) (omega (arith, length-words_in s)) in
+    let full = put_whole (take (length s / 4) w₀) (words_in s) (omega (arith, room, length-words_in s)) in
+    ap (λ (x : List ℕ). x ++ drop (length s / 4) w₀) (e ∙ ap (put (take (length s / 4) w₀)) whole ∙ full)
+    ∙ ap (λ (k : ℕ). words_in s ++ drop k w₀) (sym length-is)
+  where
+    length-is : length (words_in s) ≡ length s / 4
+    length-is = length-words_in s

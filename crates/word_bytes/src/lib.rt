@@ -25,12 +25,10 @@ pub fn word_in(bytes: &[u8], j: usize) -> u32
 pub fn some_past(bytes: &[u8], n: usize, size: usize) -> bool
     ensures { result ≡ some_past (has (words_in bytes.now)) n size }
 {
-    let mut j = n / 32;
-    while j < bytes.len() / 4 {
+    for j in n / 32..bytes.len() / 4 {
         if bit_between(word_in(bytes, j), j, n, size) {
             return true;
         }
-        j += 1;
     }
     false
 }
@@ -40,8 +38,8 @@ pub fn read_words(bytes: &[u8], words: &mut [u32])
     requires { length bytes.now / 4 ≤ length words.old }
     ensures { words.new ≡ put words.old (words_in bytes.now) }
 {
-    for j in 0..bytes.len() / 4 {
-        words[j] = word_in(bytes, j);
+    for (j, word) in words[..bytes.len() / 4].iter_mut().enumerate() {
+        *word = word_in(bytes, j);
     }
 }
 
@@ -50,8 +48,8 @@ pub fn write_words(words: &[u32], bytes: &mut [u8])
     requires { length words.now * 4 ≤ length bytes.old }
     ensures { bytes.new ≡ put bytes.old (bytes_of words.now) }
 {
-    for j in 0..words.len() {
+    for (j, word) in words.iter().enumerate() {
         let at = j * 4;
-        put_u32(&mut bytes[at..], words[j]);
+        put_u32(&mut bytes[at..], *word);
     }
 }

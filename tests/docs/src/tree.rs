@@ -30,10 +30,14 @@ pub fn files(folder: &str) -> Vec<PathBuf> {
     found
 }
 
-/// README.md and every page under docs/, by name; but for PORT.md, which has names and files of before beside those of today.
+/// README.md and every page under docs/, by name; but for PORT.md and DESIGN-PASS.md, which have names and files of before beside those of today.
 pub fn documents() -> Vec<(String, String)> {
     let mut pages = vec!["README.md".to_string()];
-    let today = |path: &PathBuf| path.extension().is_some_and(|found| found == "md") && !path.ends_with("docs/PORT.md");
+    let today = |path: &PathBuf| {
+        path.extension().is_some_and(|found| found == "md")
+            && !path.ends_with("docs/PORT.md")
+            && !path.ends_with("docs/DESIGN-PASS.md")
+    };
     for path in files("docs").into_iter().filter(today) {
         pages.push(path.strip_prefix(root()).expect("a file of the repository").to_string_lossy().into_owned());
     }

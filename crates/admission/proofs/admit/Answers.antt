@@ -14,11 +14,11 @@ returns-then-kind-family c = search (rules, admit-laws)
 pub returns-in_default : goal.returns-in_default
 returns-in_default c = search (rules, admit-laws)
 
-pub returns-in-Unlisted : goal.returns-in-Unlisted
-returns-in-Unlisted c = search (rules, admit-laws)
-
 pub returns-in-Strset : goal.returns-in-Strset
 returns-in-Strset c = search (rules, admit-laws)
 
-pub returns-in-Listed : goal.returns-in-Listed
-returns-in-Listed c = search (rules, admit-laws)
+pub returns-in-OfSet : goal.returns-in-OfSet
+returns-in-OfSet c = search (rules, admit-laws)
+
+pub returns-in_default-read_command : goal.returns-in_default-read_command
+returns-in_default-read_command c = search (rules, admit-laws)

@@ -7,7 +7,7 @@ use Rattle.bitset_form.proofs.Laws.{filled}
 use Rattle.bitset_form.proofs.within.Given as goal
 
 abbrev pub invariant-loop-j : goal.invariant-loop-j
-invariant-loop-j l = (l.j ≤ 16) × (l.words ≡ filled (both (has l.mask) (has (words_in l.bitmap))) l.j)
+invariant-loop-j l = (l.j ≤ 16) × (l.word-items ≡ filled (both (has l.mask) (has (words_in l.bitmap))) l.j)
 
 abbrev pub decreases-loop-j : goal.decreases-loop-j
 decreases-loop-j l = 16 - l.j

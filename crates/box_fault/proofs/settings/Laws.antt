@@ -7,6 +7,7 @@ use lib.ListN.{length, take, set, get_or, replicate, length-replicate, get_or-re
 use lib.Seq.{length-take-le, take-length, take-suc, set-set, set-get_or}
 use native.Mathlib.Omega.{arith}
 use borrow.Author.Tests.{eq-eqb, ne_eqb}
+use Rattle.std.specs.Prelude.{Some, None}
 use Rattle.basics.specs.Put.{put}
 use Rattle.basics.proofs.Put.{put_whole, put-snoc, get_or-put}
 use Rattle.word_bytes.specs.Bytes.{words_in}
@@ -18,7 +19,7 @@ use Rattle.layout.proofs.Laws.{widths-few, words-few}
 use Rattle.boxes.specs.Settings.{settings_right}
 use Rattle.box_fault.specs.Longest.{right_up_to}
 use Rattle.box_fault.specs.Settings.{right_length, with_zeros, right_with_zeros, settings_fault}
-use Rattle.box_fault.specs.declared.Part.TheVariants.{Sound, Settings}
+use Rattle.box_fault.specs.declared.Part.TheVariants.{Settings}
 
 -- words that are cleared one by one, from the end
 module _ (ports : ℕ) (sizes : Sizes) (ws : List ℕ) (exact : length ws ≡ total_words ports (widths_of sizes)) where
@@ -84,13 +85,13 @@ pub ruleset count-laws = (words_are, words-room)
 -- settings of another length
 module _ (settings : List ℕ) (ports : ℕ) (sizes : Sizes) where
   module _ (n right : ℕ) (en : n ≡ total_words ports (widths_of sizes)) (er : right ≡ n * 4) where
-    pub fault-short : length settings < right → record { part = Settings; offset = length settings } ≡ settings_fault settings ports sizes
+    pub fault-short : length settings < right → Some (record { part = Settings; offset = length settings }) ≡ settings_fault settings ports sizes
     unfolding settings_fault
     fault-short h =
         let q : min (length settings) (right_length ports sizes) ≡ length settings = omega arith in
         sym (rw (ne_eqb (length settings) (right_length ports sizes) (λ z. omega arith), q))
 
-    pub fault-long : right < length settings → record { part = Settings; offset = right } ≡ settings_fault settings ports sizes
+    pub fault-long : right < length settings → Some (record { part = Settings; offset = right }) ≡ settings_fault settings ports sizes
     unfolding settings_fault
     fault-long h =
         let q : min (length settings) (right_length ports sizes) ≡ right = omega arith in
@@ -102,12 +103,12 @@ module _ (settings : List ℕ) (ports : ℕ) (sizes : Sizes) where
     words-read room ws l e = e ∙ put_whole room (words_in settings) (let w = length-words_in settings in omega arith)
 
     module _ (ws : List ℕ) (ew : ws ≡ words_in settings) (b : Bool) (eb : b ≡ settings_right ws ports sizes) where
-      pub fault-none : b ≡ true → record { part = Sound; offset = 0 } ≡ settings_fault settings ports sizes
+      pub fault-none : b ≡ true → None ≡ settings_fault settings ports sizes
       unfolding settings_fault
       fault-none h = sym (rw (eq-eqb _ _ exact, ← ew, ← eb, h))
 
       pub fault-words : (n o : ℕ) → b ≡ false → n ≡ right_up_to (right_with_zeros ports sizes) ws → o ≡ n * 4
-          → record { part = Settings; offset = o } ≡ settings_fault settings ports sizes
+          → Some (record { part = Settings; offset = o }) ≡ settings_fault settings ports sizes
       unfolding settings_fault
       fault-words n o h en eo = sym (rw (eq-eqb _ _ exact, ← ew, ← eb, h, eo, en))
 

@@ -1,9 +1,12 @@
-use Rattle.decision.proofs.Laws.{decide-laws}
+use Rattle.basics.proofs.Results.{err-passed}
+use Rattle.decision.specs.Decision.{decided}
 use borrow.Author.Rules.{rules}
 use Rattle.decision.proofs.decide.Goals as goal
 
-pub returns-in-Refused : goal.returns-in-Refused
-returns-in-Refused c = search (rules, decide-laws)
+pub returns-in_err-parts : goal.returns-in_err-parts
+unfolding decided
+returns-in_err-parts c = let passed = err-passed c.from_residual.result _ c.from_residual.ensures in search (rules, passed)
 
-pub returns-in-Nests : goal.returns-in-Nests
-returns-in-Nests c = search (rules, decide-laws)
+pub returns : goal.returns
+unfolding decided
+returns c = search rules

@@ -3,9 +3,6 @@ use Rattle.decision.proofs.In.{get_in, set-in}
 use borrow.Author.Rules.{rules}
 use Rattle.execute.proofs.carry_out.Goals as goal
 
-pub returns-in-Refused : goal.returns-in-Refused
-returns-in-Refused c = search (rules, carry-laws)
-
 pub get-requires : goal.get-requires
 get-requires c = search (rules, get_in)
 

@@ -12,7 +12,6 @@ use Rattle.page.specs.Page.{Wrote}
 use Rattle.page.proofs.Page.{wrote_then}
 use Rattle.netlink_dump.specs.Dump.{done_message}
 use Rattle.roll.specs.Record.{port_count, index_of, name_of}
-use Rattle.roll.specs.Table.{Tabled}
 use Rattle.roll.proofs.table.Laws.{name-long}
 use Rattle.layout.specs.Layout.{list_of, size_of}
 use Rattle.layout.specs.declared.Set.{Set}
@@ -80,17 +79,17 @@ port-responds box state request flags P Q r w =
     record { result = ap (λ (n : ℕ). record { kind = Done; next = request.position; place = request.place + 1; written = n }) w.count; page = w.page }
 
 -- and at any place
-module _ (box : Box) (state : State) (request : Request) (flags : ℕ) (t : List ℕ) (tab : Tabled box.roll t) (P Q : List ℕ) where
-  pub dump-responds : (r : Answer) → request.place < length t → Responds (port_response box state request flags) P Q r → Responds (dump_response box state request flags) P Q r
+module _ (box : Box) (state : State) (request : Request) (flags ports : ℕ) (ep : ports ≡ ports_in box) (P Q : List ℕ) where
+  pub dump-responds : (r : Answer) → request.place < ports → Responds (port_response box state request flags) P Q r → Responds (dump_response box state request flags) P Q r
   unfolding dump_response
-  dump-responds r l s = rw (← tab.count, lt-ltb _ _ l) s
+  dump-responds r l s = rw (← ep, lt-ltb _ _ l) s
 
-  pub dump-ends : (r : ℕ) → length t ≤ request.place → Wrote (done_message request.header) P Q r
+  pub dump-ends : (r : ℕ) → ports ≤ request.place → Wrote (done_message request.header) P Q r
       → Responds (dump_response box state request flags) P Q (record { kind = Done; next = request.next; place = 0; written = r })
   unfolding dump_response
-  dump-ends r l w = rw (← tab.count, le-ltb _ _ l) (wrote-responds Done request.next _ P Q r w)
+  dump-ends r l w = rw (← ep, le-ltb _ _ l) (wrote-responds Done request.next _ P Q r w)
 
 pub ruleset dump-laws = (dump-responds, dump-ends)
 
-pub dump-here : (roll t : List ℕ) (k : ℕ) → Tabled roll t → k < length t → k < port_count roll
-dump-here roll t k tab l = rw (← tab.count) l
+pub dump-here : (roll : List ℕ) (ports k : ℕ) → ports ≡ port_count roll → k < ports → k < port_count roll
+dump-here roll ports k ep l = rw (← ep) l

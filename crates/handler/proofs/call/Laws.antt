@@ -29,8 +29,6 @@ use Rattle.roll.specs.Table.{Tabled, TableRead}
 use Rattle.roll_rule.proofs.Laws.{right-tabled}
 use Rattle.admission.specs.Admission.{admitted}
 use Rattle.admission.specs.declared.commands.Command.{Command}
-use Rattle.admission.specs.declared.Admission.{Admission}
-use Rattle.admission.specs.declared.Admission.TheVariants as A
 use Rattle.response.specs.Answer.{Outcome, no_bytes, error_response, unchanged, Responds, Performs}
 use Rattle.strset.specs.Strset.{strset_response}
 use Rattle.execute.specs.Execute.{request_of, request_outcome}
@@ -40,31 +38,34 @@ use Rattle.response.specs.declared.Kind.{Kind}
 use Rattle.response.specs.declared.Kind.TheVariants.{End, Skipped, Refused}
 use Rattle.response.specs.declared.Answer.{Answer}
 use Rattle.execute.proofs.Laws.{unchanged-performs}
+use Rattle.std.specs.Prelude.{Result, Ok, Err}
+use Rattle.admission.specs.declared.Admission.{Admission}
+use Rattle.admission.specs.declared.Admission.TheVariants as A
 
 -- nothing is written, and the state is as before
 pub no-bytes-performs : (o : Outcome State) (k : Kind) (next : ℕ) (P : List ℕ) (state : State) (r : Answer) → r ≡ record { kind = k; next = next; place = 0; written = 0 }
     → o ≡ unchanged (no_bytes k next) state → Performs o P P state r
 no-bytes-performs o k next P state r e q = rw q (record { response = record { result = e; page = sym (put-nil P) }; state-is = refl })
 
-module _ (box : Box) (state : State) (call : Call) (m : List ℕ) (h : MessageHeader) (next : ℕ) (a : Admission)
+module _ (box : Box) (state : State) (call : Call) (m : List ℕ) (h : MessageHeader) (next : ℕ) (a : Result Admission Refusal)
     (e : a ≡ admitted m h call.family (eqb call.admin 1)) (P : List ℕ) (r : Answer) where
-  pub message-skipped : a ≡ A.Skipped → r ≡ record { kind = Skipped; next = next; place = 0; written = 0 } → Performs (message_outcome box state call m h next) P P state r
+  pub message-skipped : (x : Admission) → a ≡ Ok x → x ≡ A.Skipped → r ≡ record { kind = Skipped; next = next; place = 0; written = 0 } → Performs (message_outcome box state call m h next) P P state r
   unfolding message_outcome
-  message-skipped q er = no-bytes-performs _ Skipped next P state r er (rw (← e, q))
+  message-skipped x q z er = no-bytes-performs _ Skipped next P state r er (rw (← e, q, z))
 
   module _ (Q : List ℕ) where
-    pub message-refused : (why : Refusal) → a ≡ A.Refused why → Responds (error_response m next why) P Q r → Performs (message_outcome box state call m h next) P Q state r
+    pub message-refused : (why : Refusal) → a ≡ Err why → Responds (error_response m next why) P Q r → Performs (message_outcome box state call m h next) P Q state r
     unfolding message_outcome
     message-refused why q s = rw (← e, q) (unchanged-performs (error_response m next why) P Q state r s)
 
-    pub message-strset : a ≡ A.Strset → Responds (strset_response box m h next) P Q r → Performs (message_outcome box state call m h next) P Q state r
+    pub message-strset : (x : Admission) → a ≡ Ok x → x ≡ A.Strset → Responds (strset_response box m h next) P Q r → Performs (message_outcome box state call m h next) P Q state r
     unfolding message_outcome
-    message-strset q s = rw (← e, q) (unchanged-performs (strset_response box m h next) P Q state r s)
+    message-strset x q z s = rw (← e, q, z) (unchanged-performs (strset_response box m h next) P Q state r s)
 
-    pub message-admitted : (c : Command) (new : State) → a ≡ A.Admitted c → Performs (request_outcome box state m (request_of call h next c)) P Q new r
+    pub message-admitted : (x : Admission) (c : Command) (new : State) → a ≡ Ok x → x ≡ A.Admitted c → Performs (request_outcome box state m (request_of call h next c)) P Q new r
         → Performs (message_outcome box state call m h next) P Q new r
     unfolding message_outcome
-    message-admitted c new q d = rw (← e, q) d
+    message-admitted x c new q z d = rw (← e, q, z) d
 
 -- a right box's lists are short enough
 module _ (roll debug flags : List ℕ) (state : State) (fit : Fit (box_of roll debug flags) state) where

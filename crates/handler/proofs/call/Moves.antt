@@ -27,21 +27,21 @@ use Rattle.boxes.specs.declared.Call.{Call}
 use Rattle.request.specs.declared.target.Target.{Target}
 use Rattle.admission.specs.Admission.{is_dump, admitted}
 use Rattle.netlink_dump.specs.Dump.{done_message}
-use Rattle.admission.specs.declared.Admission.{Admission}
-use Rattle.admission.specs.declared.Admission.TheVariants as A
 use Rattle.request.specs.Top.{top_of}
 use Rattle.request.specs.Target.{target_of}
 use Rattle.request.specs.declared.parts.TopParts.{TopParts}
-use Rattle.request.specs.declared.top.Top.{Top}
-use Rattle.request.specs.declared.top.Top.TheVariants as T
-use Rattle.request.specs.declared.target.TargetRead.{TargetRead}
-use Rattle.request.specs.declared.target.TargetRead.TheVariants as P
 use Rattle.response.specs.Answer.{Response, Outcome, response_of, unchanged}
 use Rattle.response.specs.declared.Kind.TheVariants.{Done}
 use Rattle.strset.proofs.Laws.{strset-behind}
 use Rattle.execute.specs.declared.Request.{Request}
 use Rattle.execute.specs.Execute.{request_of, get_bytes, port_response, dump_response, reading_outcome, set_outcome, port_outcome, target_outcome, header_outcome, top_outcome, request_outcome}
 use Rattle.handler.specs.Call.{on_admission, message_outcome, refused_in_place, on_message, position_outcome, outcome, ends_run}
+use Rattle.std.specs.Prelude.{Result, Ok, Err}
+use Rattle.refusal.specs.declared.Refusal.{Refusal}
+use Rattle.request.specs.declared.target.Addressee.{Addressee}
+use Rattle.admission.specs.declared.Admission.{Admission}
+use Rattle.admission.specs.declared.Admission.TheVariants as A
+use Rattle.request.specs.declared.target.Addressee.TheVariants as P
 
 -- where the calls go on after a message: behind it at place 0, or in a dump at its own position and the next place, which is at most the port count
 pub data Onward (ports position place next : ℕ) (r : Response) : Type 0 where
@@ -84,29 +84,29 @@ module _ (box : Box) (state : State) (m : List ℕ) where
     unfolding header_outcome
     header-onward parts = by (target_of m parts.header (is_dump request.header) box.roll)
       where
-        by : (x : TargetRead) → GoesOn (target_outcome x box state m request (port_outcome box state m request parts.bitset))
-        by (P.Refused r) = behind refl refl
-        by (P.Unnamed flags) = dump-onward flags
-        by (P.Port target) = port-onward parts.bitset target
+        by : (x : Result Addressee Refusal) → GoesOn (target_outcome x box state m request (port_outcome box state m request parts.bitset))
+        by (Err r) = behind refl refl
+        by (Ok (P.Unnamed flags)) = dump-onward flags
+        by (Ok (P.Port target)) = port-onward parts.bitset target
 
     request-onward : GoesOn (request_outcome box state m request)
     unfolding request_outcome
     request-onward = by (top_of m request.command.change)
       where
-        by : (x : Top) → GoesOn (top_outcome x state m request (header_outcome box state m request))
-        by (T.Refused r) = behind refl refl
-        by (T.Nests parts) = header-onward parts
+        by : (x : Result TopParts Refusal) → GoesOn (top_outcome x state m request (header_outcome box state m request))
+        by (Err r) = behind refl refl
+        by (Ok parts) = header-onward parts
 
   pub message-onward : (call : Call) (h : MessageHeader) (next : ℕ)
       → Onward (ports_in box) call.position call.place next (message_outcome box state call m h next).response
   unfolding message_outcome
   message-onward call h next = by (admitted m h call.family (eqb call.admin 1))
     where
-      by : (x : Admission) → Onward (ports_in box) call.position call.place next (on_admission x box state call m h next).response
-      by A.Skipped = behind refl refl
-      by (A.Refused r) = behind refl refl
-      by A.Strset = let s = strset-behind box m h next in behind s.0 s.1
-      by (A.Admitted command) = request-onward (request_of call h next command)
+      by : (x : Result Admission Refusal) → Onward (ports_in box) call.position call.place next (on_admission x box state call m h next).response
+      by (Ok A.Skipped) = behind refl refl
+      by (Err r) = behind refl refl
+      by (Ok A.Strset) = let s = strset-behind box m h next in behind s.0 s.1
+      by (Ok (A.Admitted command)) = request-onward (request_of call h next command)
 
 module _ (box : Box) (state : State) (call : Call) (datagram : List ℕ) (room : ℕ) where
   abbrev position : ℕ

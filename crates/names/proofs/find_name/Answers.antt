@@ -1,4 +1,4 @@
-use mathlib.Core.Path.{refl, ◌∙◌}
+use mathlib.Core.Path.{refl}
 use native.Mathlib.Omega.{arith}
 use borrow.Author.Rules.{rules}
 use Rattle.names.proofs.Passing.{next-inside}
@@ -9,7 +9,7 @@ pub bounds-name-end : goal.bounds-name-end
 bounds-name-end c = let w = c.entries.invariant.1 in omega (arith, w.end_is, w.inside)
 
 pub returns-then-no_name : goal.returns-then-no_name
-returns-then-no_name c = c.missed.ensures ∙ no-name-found _ _ _ c.no_name.ensures c.if-no_name.true
+returns-then-no_name c = no-name-found _ _ _ c.no_name.ensures c.if-no_name.true
 
 pub overflow_sub-end : goal.overflow_sub-end
 overflow_sub-end c = name-some _ _ c.no_name.ensures c.if-no_name.false _ c.name_length-n.ensures
@@ -25,7 +25,7 @@ returns-then-i-names c =
     let l = c.entries.invariant in
     let x = c.next_with-i.ensures in
     let e = c.if-i-names.true in
-    c.missed-then-i-names.ensures ∙ passed-all _ _ _ _ _ _ _ l.1 (passed-next _ _ _ _ _ _ _ _ l.1 l.2 x) (omega arith) (omega arith)
+    passed-all _ _ _ _ _ _ _ l.1 (passed-next _ _ _ _ _ _ _ _ l.1 l.2 x) (omega arith) (omega arith)
 
 pub overflow_add-next : goal.overflow_add-next
 overflow_add-next c = omega (arith, next-inside _ _ _ _ _ c.next_with-i.ensures c.if-i-names.false)
@@ -49,8 +49,8 @@ overflow_add-compared c =
     let p = passed-next _ _ _ _ _ _ _ _ l.1 l.2 c.next_with-i.ensures in
     omega (arith, p.most, next-inside _ _ _ _ _ c.next_with-i.ensures c.if-i-names.false)
 
-pub loop-back-init : goal.loop-back-init
-loop-back-init c =
+pub loop-j-init : goal.loop-j-init
+loop-j-init c =
     let l = c.entries.invariant in
     let x = c.next_with-i.ensures in
     let h = next-inside _ _ _ _ _ c.next_with-i.ensures c.if-i-names.false in
@@ -59,13 +59,13 @@ loop-back-init c =
 
 pub entries-preserved : goal.entries-preserved
 entries-preserved c =
-    let l = c.loop-back.invariant in
+    let l = c.loop-j.invariant in
     (omega arith, l.3, compared-other _ _ _ l.2 _ _ _ l.3 _ l.4 _ (search rules) c.if-names-i.true)
 
-pub loop-back-preserved : goal.loop-back-preserved
-loop-back-preserved c =
-    let l = c.loop-back.invariant in
-    (omega arith, l.1, l.2, l.3, l.4, from_more _ _ _ l.2 _ _ _ l.3 _ l.5 (search rules) c.if-names-i.false)
+pub loop-j-preserved : goal.loop-j-preserved
+loop-j-preserved c =
+    let l = c.loop-j.invariant in
+    (omega arith, l.1, l.2, l.3, l.4, from_more _ _ _ l.2 _ _ _ l.3 _ l.5 (omega arith) l.0 c.if-names-i.false)
 
 pub returns-in-entries : goal.returns-in-entries
 returns-in-entries c = search (rules, compared_same)

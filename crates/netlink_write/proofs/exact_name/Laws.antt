@@ -63,4 +63,4 @@ module _ (name : List ℕ) (n : ℕ) (e : n ≡ nul_at name) where
         let stated : n + 5 ≡ length (name_bytes name) + 4 = omega arith in
         padded-wrote P B C (name_bytes name) kind next exact-header (omega arith) (rw (exact-filled next en) at b) (rw stated at c)
 
-pub ruleset exact-laws = (exact-inside, exact-stated, exact-header, exact-rest, exact-wrote)
+pub ruleset exact_laws = (exact-inside, exact-stated, exact-header, exact-rest, exact-wrote)

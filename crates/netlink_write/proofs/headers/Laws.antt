@@ -46,3 +46,5 @@ unfolding message_header_bytes
 message-header-put P A B C h room a b c =
     let half = le16 h.kind ++ le16 h.flags in
     then-rest P (le32 h.length ++ half) (le32 h.sequence ++ le32 h.port) 8 refl (omega arith) (then-rest P (le32 h.length) half 4 refl (omega arith) a b) c
+
+pub ruleset header_laws = (two-u16-put, two-u32-put, attribute-header-put, message-header-put)

@@ -1,13 +1,18 @@
-use borrow.Author.Rules.{rules}
+use Rattle.std.proofs.Common.{rules, ◌≡◌}
+use mathlib.Core.Path.{ap, ◌∙◌}
+use Rattle.std.specs.Prelude.{Ok, Err}
+use Rattle.std.proofs.lemmas.Result.{err_from_is_err_and}
 use Rattle.normal.proofs.Laws.{put_refused, put-accepted}
 use Rattle.normal.proofs.put_normal.Goals as goal
 
-pub returns-in-Refused : goal.returns-in-Refused
-returns-in-Refused c =
-    let j = c in
-    put_refused _ _ _ _ j.judge_bitset-judged.ensures c.in-Refused.why _ c.in-Refused.is c.refused_by.ensures
+pub returns-in_err-form : goal.returns-in_err-form
+returns-in_err-form c =
+    let p = err_from_is_err_and c.from_residual.result c.from_residual.ensures.1 in
+    let passed : c.from_residual.result ≡ Err c.in_err-form.field-0.0 = p.1 ∙ ap Err p.2 in
+    let was : c.judge_bitset.result ≡ Err c.in_err-form.field-0.0 = c.in_err-form.was in
+    search (rules, put_refused, passed, was)
 
 pub returns : goal.returns
 returns c =
-    let j = c in
-    put-accepted _ _ _ _ j.judge_bitset-judged.ensures _ _ _ c.count.ensures (search rules) (search rules)
+    let was : c.judge_bitset.result ≡ Ok c.in_ok-form.form = c.in_ok-form.was in
+    search (rules, put-accepted, was)

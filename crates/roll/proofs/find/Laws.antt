@@ -10,13 +10,11 @@ use Rattle.basics.specs.Numbers.{u32_at}
 use Rattle.basics.specs.Scan.{first}
 use Rattle.basics.proofs.Scan.{first-none, first_more, first-at, first-is}
 use Rattle.basics.proofs.Truth.{false_of}
-use Rattle.roll.specs.declared.find.Found.TheVariants.{At, Nothing}
-use lib.ListN.{length}
 use Rattle.roll.specs.Record.{port_count, index_of, name_of}
 use Rattle.roll.specs.Name.{holds_name}
-use Rattle.roll.specs.Table.{Tabled}
 use Rattle.roll.proofs.name.Laws.{four_same, named-same}
 use Rattle.roll.specs.Find.{has_index, has_name, find_port, found_by_index, found_by_name}
+use Rattle.std.specs.Prelude.{Some, None}
 
 -- the first k positions are passed
 abbrev pub Passed : (ℕ → Bool) → ℕ → Type 0
@@ -26,19 +24,19 @@ module _ (f : ℕ → Bool) where
   find-start : Passed f 0
   find-start = first-none f
 
-  find-here : (n k : ℕ) → k < n → Passed f k → f k ≡ true → At k ≡ find_port n f
+  find-here : (n k : ℕ) → k < n → Passed f k → f k ≡ true → Some k ≡ find_port n f
   unfolding find_port
   find-here n k l h e = let a = first-at f n k l h e in sym (rw (a, lt-ltb k n l))
 
-  find_none : (n k : ℕ) → Passed f k → k ≤ n → n ≤ k → Nothing ≡ find_port n f
+  find_none : (n k : ℕ) → Passed f k → k ≤ n → n ≤ k → None ≡ find_port n f
   unfolding find_port
   find_none n k h l u = let e : k ≡ n = omega arith in let a : first n f ≡ n = rw e at h in sym (rw (a, le-ltb n n (omega arith)))
 
-  find-is : (n k : ℕ) → find_port n f ≡ At k → (k < n) × (f k ≡ true)
+  find-is : (n k : ℕ) → find_port n f ≡ Some k → (k < n) × (f k ≡ true)
   unfolding find_port
   find-is n k h = go (ltb (first n f) n) refl h
     where
-      go : (t : Bool) → ltb (first n f) n ≡ t → cond t (At (first n f)) Nothing ≡ At k → (k < n) × (f k ≡ true)
+      go : (t : Bool) → ltb (first n f) n ≡ t → cond t (Some (first n f)) None ≡ Some k → (k < n) × (f k ≡ true)
       go true e h = let l = ltb-true (first n f) n e in let q : first n f ≡ k = cc in (rw q at l, rw q at (first-is f n l))
       go false e h = absurd (let z : ◌≡◌ {A = ℕ} 0 1 = cc in omega arith)
 
@@ -52,16 +50,15 @@ module _ (roll : List ℕ) (x : ℕ) where
     unfolding has_index
     index-next y ey n = first_more (has_index roll x) k h (ne_eqb _ _ (λ (p : index_of roll k ≡ x). n (ey ∙ p)))
 
-    module _ (t : List ℕ) (tab : Tabled roll t) where
-      pub index-here : (y : ℕ) → k < length t → y ≡ index_of roll k → y ≡ x → At k ≡ found_by_index roll x
-      unfolding found_by_index has_index
-      index-here y l ey q = find-here (has_index roll x) (port_count roll) k (rw tab.count at l) h (eq-eqb _ _ (sym ey ∙ q))
+    pub index-here : (y : ℕ) → k < port_count roll → y ≡ index_of roll k → y ≡ x → Some k ≡ found_by_index roll x
+    unfolding found_by_index has_index
+    index-here y l ey q = find-here (has_index roll x) (port_count roll) k l h (eq-eqb _ _ (sym ey ∙ q))
 
-      pub index-none : k ≤ length t → length t ≤ k → Nothing ≡ found_by_index roll x
-      unfolding found_by_index
-      index-none l u = find_none (has_index roll x) (port_count roll) k h (rw tab.count at l) (rw tab.count at u)
+    pub index-none : k ≤ port_count roll → port_count roll ≤ k → None ≡ found_by_index roll x
+    unfolding found_by_index
+    index-none l u = find_none (has_index roll x) (port_count roll) k h l u
 
-  pub index_is : (k : ℕ) → found_by_index roll x ≡ At k → (k < port_count roll) × (index_of roll k ≡ x)
+  pub index_is : (k : ℕ) → found_by_index roll x ≡ Some k → (k < port_count roll) × (index_of roll k ≡ x)
   unfolding found_by_index has_index
   index_is k e = let r = find-is (has_index roll x) (port_count roll) k e in (r.0, eqb-true _ _ r.1)
 
@@ -90,15 +87,15 @@ module _ (roll name : List ℕ) where
       pub name-next : b ≡ false → Passed (has_name roll name) (k + 1)
       name-next q = first_more (has_name roll name) k h (sym eb ∙ q)
 
-      pub name-here : (t : List ℕ) → Tabled roll t → k < length t → b ≡ true → At k ≡ found_by_name roll name
+      pub name-here : k < port_count roll → b ≡ true → Some k ≡ found_by_name roll name
       unfolding found_by_name
-      name-here t tab l q = find-here (has_name roll name) (port_count roll) k (rw tab.count at l) h (sym eb ∙ q)
+      name-here l q = find-here (has_name roll name) (port_count roll) k l h (sym eb ∙ q)
 
-    pub name-none : (t : List ℕ) → Tabled roll t → k ≤ length t → length t ≤ k → Nothing ≡ found_by_name roll name
+    pub name-none : k ≤ port_count roll → port_count roll ≤ k → None ≡ found_by_name roll name
     unfolding found_by_name
-    name-none t tab l u = find_none (has_name roll name) (port_count roll) k h (rw tab.count at l) (rw tab.count at u)
+    name-none l u = find_none (has_name roll name) (port_count roll) k h l u
 
-  pub name-is : (k : ℕ) → found_by_name roll name ≡ At k → (k < port_count roll) × (holds_name (name_of roll k) name ≡ true)
+  pub name-is : (k : ℕ) → found_by_name roll name ≡ Some k → (k < port_count roll) × (holds_name (name_of roll k) name ≡ true)
   unfolding found_by_name has_name
   name-is k e = find-is (has_name roll name) (port_count roll) k e
 

@@ -217,8 +217,8 @@ module _ (roll : List ℕ) where
   name-long j l = names-long (suc (length roll)) 0 j _ l
 
   -- so is the field that the code has of it
-  pub field-long : (ports s : List ℕ) (k : ℕ) → Tabled roll ports → k < length ports → s ≡ name_of roll k → length s ≡ 16
-  field-long ports s k tab l e = ap length e ∙ name-long k (rw tab.count at l)
+  pub field-long : (s : List ℕ) (k : ℕ) → k < port_count roll → s ≡ name_of roll k → length s ≡ 16
+  field-long s k l e = ap length e ∙ name-long k l
 
 -- where a table says that a port's name stands, the roll has its sixteen bytes
 module _ (roll ports : List ℕ) (k : ℕ) (tab : Tabled roll ports) (l : k < length ports) where
@@ -244,3 +244,27 @@ module _ (roll ports : List ℕ) (k : ℕ) (tab : Tabled roll ports) (l : k < le
       ex ∙ rw (ep, p9, p10, p11, byte 8 (omega arith), byte 9 (omega arith), byte 10 (omega arith), byte 11 (omega arith))
 
 pub ruleset probe-laws = (name-inside, probe-is)
+
+-- a roll as contracts see it, by its table
+module _ (roll bytes ports : List ℕ) (seen : bytes ≡ roll) (tab : Tabled bytes ports) where
+  pub count-is : length ports ≡ port_count roll
+  count-is = tab.count ∙ ap port_count seen
+
+  module _ (k : ℕ) (l : k < port_count roll) where
+    pub in-table : k < length ports
+    in-table = rw count-is l
+
+    pub in-64 : k < 64
+    in-64 = let i = in-table in let few = tab.few in omega arith
+
+    pub index-is : low_of (get_or ports k 0) ≡ index_of roll k
+    index-is = tab.index k in-table ∙ ap (λ (r : List ℕ). index_of r k) seen
+
+    pub name-is : name_at bytes (high_of (get_or ports k 0)) ≡ name_of roll k
+    name-is = tab.name k in-table ∙ ap (λ (r : List ℕ). name_of r k) seen
+
+    pub inside-is : high_of (get_or ports k 0) + 16 ≤ length bytes
+    inside-is = name-inside bytes ports k tab in-table
+
+    pub four-is : (x p : ℕ) → p ≡ high_of (get_or ports k 0) + 8 → x ≡ u32_at bytes p → x ≡ u32_at (name_of roll k) 8
+    four-is x p ep ex = probe-is bytes ports k tab in-table x p ep ex ∙ ap (λ (r : List ℕ). u32_at (name_of r k) 8) seen

@@ -1,4 +1,4 @@
-use lib.ListN.{length}
+use Rattle.roll.specs.Record.{port_count}
 use Prim.Native.Nat.{◌-◌, ◌≤◌}
 use mathlib.Core.Path.{◌≡◌}
 use Rattle.roll_rule.specs.Rule.{port_right}
@@ -6,7 +6,7 @@ use Rattle.roll_rule.proofs.Laws.{Kept}
 use Rattle.roll_rule.proofs.ports_right.Given as goal
 
 abbrev pub invariant-loop-k : goal.invariant-loop-k
-invariant-loop-k l = (l.k-end ≡ length l.ports) × (l.k ≤ length l.ports) × Kept (port_right l.roll) l.k
+invariant-loop-k l = (l.k-end ≡ port_count l.roll) × (l.k ≤ port_count l.roll) × Kept (port_right l.roll) l.k
 
 abbrev pub decreases-loop-k : goal.decreases-loop-k
 decreases-loop-k l = l.k-end - l.k

@@ -5,6 +5,9 @@ use mathlib.Core.List.{List}
 use mathlib.Core.Bool.{Bool, true, false, cond}
 use lib.ListN.{length}
 use native.Mathlib.Omega.{arith}
+use denote.Enum.Bare.{sameb}
+use Rattle.layout.specs.contracts.Set.{the_type}
+use Rattle.basics.specs.Results.{and_then}
 use Rattle.basics.proofs.Truth.{cond-true, cond-false}
 use Rattle.netlink_attributes.specs.Attributes.{attributes, attribute_at, on_read, part_of}
 use Rattle.netlink_attributes.specs.declared.AttributeRead.{AttributeRead}
@@ -24,32 +27,18 @@ use Rattle.layout.specs.declared.Set.{Set}
 use Rattle.layout.specs.declared.Set.TheVariants.{Debug, Flags}
 use Rattle.strset_request.specs.Policies.{string_sets_policy}
 use Rattle.strset_request.specs.Set.{set_reading}
-use Rattle.strset_request.specs.List.{same_set, with_asked, on_set, sets_reading, nest_reading, list_reading}
-use Rattle.strset_request.specs.declared.set.SetRead.{SetRead}
-use Rattle.strset_request.specs.declared.set.SetRead.TheVariants as R
+use Rattle.strset_request.specs.List.{same_set, with_asked, sets_reading, nest_reading, list_reading}
 use Rattle.strset_request.specs.declared.list.Sets.{Sets}
 use Rattle.strset_request.specs.declared.list.Sets.TheVariants.{Nothing, One, Both}
-use Rattle.strset_request.specs.declared.list.SetsRead.{SetsRead}
-use Rattle.strset_request.specs.declared.list.SetsRead.TheVariants.{Listed, Refused}
+use Rattle.std.specs.Prelude.{Result, Ok, Err}
 
-module _ (a b : Set) where
-  pub debug-debug : a ≡ Debug → b ≡ Debug → true ≡ same_set a b
-  unfolding same_set
-  debug-debug p q = sym (rw (p, q))
-
-  pub debug-flags : a ≡ Debug → b ≡ Flags → false ≡ same_set a b
-  unfolding same_set
-  debug-flags p q = sym (rw (p, q))
-
-  pub flags-debug : a ≡ Flags → b ≡ Debug → false ≡ same_set a b
-  unfolding same_set
-  flags-debug p q = sym (rw (p, q))
-
-  pub flags-flags : a ≡ Flags → b ≡ Flags → true ≡ same_set a b
-  unfolding same_set
-  flags-flags p q = sym (rw (p, q))
-
-pub ruleset same-laws = (debug-debug, debug-flags, flags-debug, flags-flags)
+-- the derived comparison
+pub same-is : (a b : Set) (t : Bool) → t ≡ sameb the_type a b → t ≡ same_set a b
+unfolding same_set
+same-is Debug Debug t e = e
+same-is Debug Flags t e = e
+same-is Flags Debug t e = e
+same-is Flags Flags t e = e
 
 module _ (sets : Sets) (set : Set) where
   pub asked-first : sets ≡ Nothing → One set ≡ with_asked sets set
@@ -71,7 +60,7 @@ module _ (sets : Sets) (set : Set) where
     pub asked-other : t ≡ false → Both first ≡ with_asked sets set
     asked-other h = sym (by_one ∙ cond-false t _ _ h)
 
-pub ruleset asked-laws = (asked-first, asked-both, asked-again, asked-other)
+pub ruleset asked-laws = (same-is, asked-first, asked-both, asked-again, asked-other)
 
 -- The loop over the STRINGSETs: what is asked for so far, and what is left.
 abbrev pub SetsFrom : List ℕ → Bool → ℕ → Sets → ℕ → Type 0
@@ -84,11 +73,11 @@ module _ (s : List ℕ) (named : Bool) (from : ℕ) (sets : Sets) (at : ℕ) (in
   step : sets_reading s named Nothing (attributes s from) ≡ sets_reading s named sets (on_read r at (attributes s))
   step = inv ∙ ap (sets_reading s named sets) (attributes-step s at ∙ ap (λ (x : AttributeRead). on_read x at (attributes s)) (sym e))
 
-  pub sets_end : r ≡ A.End → Listed sets ≡ sets_reading s named Nothing (attributes s from)
+  pub sets_end : r ≡ A.End → Ok sets ≡ sets_reading s named Nothing (attributes s from)
   unfolding sets_reading
   sets_end q = sym (rw q at step)
 
-  pub sets-broken : r ≡ A.Broken → Listed sets ≡ sets_reading s named Nothing (attributes s from)
+  pub sets-broken : r ≡ A.Broken → Ok sets ≡ sets_reading s named Nothing (attributes s from)
   unfolding sets_reading
   sets-broken q = sym (rw q at step)
 
@@ -99,50 +88,50 @@ module _ (s : List ℕ) (named : Bool) (from : ℕ) (sets : Sets) (at : ℕ) (in
     pub sets-less : length s - x.next < length s - at
     sets-less = let i = inside in omega arith
 
-    module _ (p : List ℕ) (ep : p ≡ part_of s 0 x.end) (v : SetRead) (ev : v ≡ set_reading p x.start named) where
-      rest : Set → SetsRead
+    module _ (p : List ℕ) (ep : p ≡ part_of s 0 x.end) (v : Result Set Refusal) (ev : v ≡ set_reading p x.start named) where
+      rest : Set → Result Sets Refusal
       rest set = sets_reading s named (with_asked sets set) (attributes s x.next)
 
-      one : sets_reading s named Nothing (attributes s from) ≡ on_set v rest
+      one : sets_reading s named Nothing (attributes s from) ≡ and_then v rest
       unfolding sets_reading rest
-      one = rw q at step ∙ ap (λ (y : SetRead). on_set y rest) (sym (ev ∙ ap (λ (y : List ℕ). set_reading y x.start named) ep))
+      one = rw q at step ∙ ap (λ (y : Result Set Refusal). and_then y rest) (sym (ev ∙ ap (λ (y : List ℕ). set_reading y x.start named) ep))
 
-      pub sets-refused : (why : Refusal) → v ≡ R.Refused why → Refused why ≡ sets_reading s named Nothing (attributes s from)
-      sets-refused why h = sym (one ∙ ap (λ (y : SetRead). on_set y rest) h)
+      pub sets-refused : (why : Refusal) (y : Result Sets Refusal) → v ≡ Err why → y ≡ Err why → y ≡ sets_reading s named Nothing (attributes s from)
+      sets-refused why y h ey = ey ∙ sym (one ∙ ap (λ (z : Result Set Refusal). and_then z rest) h)
 
-      pub sets_more : (set : Set) (y : Sets) → v ≡ R.Set set → y ≡ with_asked sets set → SetsFrom s named from y x.next
+      pub sets_more : (set : Set) (y : Sets) → v ≡ Ok set → y ≡ with_asked sets set → SetsFrom s named from y x.next
       unfolding rest
       sets_more set y h ey =
-          one ∙ ap (λ (z : SetRead). on_set z rest) h ∙ sym (ap (λ (z : Sets). sets_reading s named z (attributes s x.next)) ey)
+          one ∙ ap (λ (z : Result Set Refusal). and_then z rest) h ∙ sym (ap (λ (z : Sets). sets_reading s named z (attributes s x.next)) ey)
 
 pub ruleset sets-laws = (sets-start, sets_end, sets-broken, sets-less, sets-refused, sets_more)
 
 module _ (m : List ℕ) (nest : Slot) (named : Bool) (c : List ℕ) (ec : c ≡ part_of m 0 nest.end)
     (p : List Rule) (ep : p ≡ string_sets_policy) (w : Walked) (ew : w ≡ walked p c nest.start) where
-  read : List ℕ → SetsRead
+  read : List ℕ → Result Sets Refusal
   read x = sets_reading x named Nothing (attributes x nest.start)
 
-  by-walk : nest_reading m nest named ≡ on_stop w.stop Refused (read c)
+  by-walk : nest_reading m nest named ≡ on_stop w.stop Err (read c)
   unfolding nest_reading read
   by-walk =
-      ap (λ (x : List ℕ). on_stop (walked string_sets_policy x nest.start).stop Refused (read x)) (sym ec)
-      ∙ ap (λ (x : Walked). on_stop x.stop Refused (read c)) (sym (ew ∙ ap (λ (x : List Rule). walked x c nest.start) ep))
+      ap (λ (x : List ℕ). on_stop (walked string_sets_policy x nest.start).stop Err (read x)) (sym ec)
+      ∙ ap (λ (x : Walked). on_stop x.stop Err (read c)) (sym (ew ∙ ap (λ (x : List Rule). walked x c nest.start) ep))
 
-  pub nest-fault : (f : Fault) (at : ℕ) (y : Refusal) → w.stop ≡ S.At f at → y ≡ of_fault f at → Refused y ≡ nest_reading m nest named
-  nest-fault f at y q ey = ap Refused ey ∙ sym (by-walk ∙ ap (λ (x : Stop). on_stop x Refused (read c)) q)
+  pub nest-fault : (f : Fault) (at : ℕ) (y : Refusal) → w.stop ≡ S.At f at → y ≡ of_fault f at → Err y ≡ nest_reading m nest named
+  nest-fault f at y q ey = ap Err ey ∙ sym (by-walk ∙ ap (λ (x : Stop). on_stop x Err (read c)) q)
 
-  pub nest-whole : (r : SetsRead) → w.stop ≡ S.Whole → r ≡ sets_reading c named Nothing (attributes c nest.start) → r ≡ nest_reading m nest named
+  pub nest-whole : (r : Result Sets Refusal) → w.stop ≡ S.Whole → r ≡ sets_reading c named Nothing (attributes c nest.start) → r ≡ nest_reading m nest named
   unfolding read
-  nest-whole r q er = er ∙ sym (by-walk ∙ ap (λ (x : Stop). on_stop x Refused (read c)) q)
+  nest-whole r q er = er ∙ sym (by-walk ∙ ap (λ (x : Stop). on_stop x Err (read c)) q)
 
 pub ruleset nest-laws = (nest-fault, nest-whole)
 
 module _ (m : List ℕ) (nest : Slot) (named : Bool) where
-  pub list-some : (r : SetsRead) → nest.present ≡ true → r ≡ nest_reading m nest named → r ≡ list_reading m nest named
+  pub list-some : (r : Result Sets Refusal) → nest.present ≡ true → r ≡ nest_reading m nest named → r ≡ list_reading m nest named
   unfolding list_reading
   list-some r h er = er ∙ sym (cond-true nest.present _ _ h)
 
-  pub list-none : nest.present ≡ false → Listed Nothing ≡ list_reading m nest named
+  pub list-none : nest.present ≡ false → Ok Nothing ≡ list_reading m nest named
   unfolding list_reading
   list-none h = sym (cond-false nest.present _ _ h)
 

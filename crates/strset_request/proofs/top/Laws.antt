@@ -18,8 +18,7 @@ use Rattle.refusal.specs.declared.Refusal.TheVariants.{MissingTop}
 use Rattle.strset_request.specs.Policies.{strset_policy}
 use Rattle.strset_request.specs.Top.{strset_parts, with_header, strset_top_of}
 use Rattle.strset_request.specs.declared.top.StrsetParts.{StrsetParts}
-use Rattle.strset_request.specs.declared.top.StrsetTop.{StrsetTop}
-use Rattle.strset_request.specs.declared.top.StrsetTop.TheVariants.{Parts, Refused}
+use Rattle.std.specs.Prelude.{Result, Ok, Err}
 
 pub parts_are : (slots : List Slot) (header sets counts : Slot) → header ≡ get_or slots 1 absent → sets ≡ get_or slots 2 absent → counts ≡ get_or slots 3 absent
     → record { header = header; sets = sets; counts = counts } ≡ strset_parts slots
@@ -27,26 +26,26 @@ unfolding strset_parts
 parts_are slots header sets counts eh es ec = cc
 
 module _ (parts : StrsetParts) where
-  pub header-none : not parts.header.present ≡ true → Refused (MissingTop 1) ≡ with_header parts
+  pub header-none : not parts.header.present ≡ true → Err (MissingTop 1) ≡ with_header parts
   unfolding with_header
   header-none h = sym (cond-true (not parts.header.present) _ _ h)
 
-  pub header-some : not parts.header.present ≡ false → Parts parts ≡ with_header parts
+  pub header-some : not parts.header.present ≡ false → Ok parts ≡ with_header parts
   unfolding with_header
   header-some h = sym (cond-false (not parts.header.present) _ _ h)
 
 pub ruleset header-laws = (header-none, header-some)
 
 module _ (m : List ℕ) (p : List Rule) (ep : p ≡ strset_policy) (w : Walked) (ew : w ≡ walked p m 20) where
-  by-walk : strset_top_of m ≡ on_stop w.stop Refused (with_header (strset_parts w.slots))
+  by-walk : strset_top_of m ≡ on_stop w.stop Err (with_header (strset_parts w.slots))
   unfolding strset_top_of
-  by-walk = sym (ap (λ (x : Walked). on_stop x.stop Refused (with_header (strset_parts x.slots))) (ew ∙ ap (λ (x : List Rule). walked x m 20) ep))
+  by-walk = sym (ap (λ (x : Walked). on_stop x.stop Err (with_header (strset_parts x.slots))) (ew ∙ ap (λ (x : List Rule). walked x m 20) ep))
 
-  pub top-fault : (f : Fault) (at : ℕ) (y : Refusal) → w.stop ≡ S.At f at → y ≡ of_fault f at → Refused y ≡ strset_top_of m
-  top-fault f at y q ey = ap Refused ey ∙ sym (by-walk ∙ ap (λ (x : Stop). on_stop x Refused (with_header (strset_parts w.slots))) q)
+  pub top-fault : (f : Fault) (at : ℕ) (y : Refusal) → w.stop ≡ S.At f at → y ≡ of_fault f at → Err y ≡ strset_top_of m
+  top-fault f at y q ey = ap Err ey ∙ sym (by-walk ∙ ap (λ (x : Stop). on_stop x Err (with_header (strset_parts w.slots))) q)
 
-  pub top-whole : (parts : StrsetParts) (r : StrsetTop) → w.stop ≡ S.Whole → parts ≡ strset_parts w.slots → r ≡ with_header parts → r ≡ strset_top_of m
+  pub top-whole : (parts : StrsetParts) (r : Result StrsetParts Refusal) → w.stop ≡ S.Whole → parts ≡ strset_parts w.slots → r ≡ with_header parts → r ≡ strset_top_of m
   top-whole parts r q es e =
-      e ∙ ap with_header es ∙ sym (by-walk ∙ ap (λ (x : Stop). on_stop x Refused (with_header (strset_parts w.slots))) q)
+      e ∙ ap with_header es ∙ sym (by-walk ∙ ap (λ (x : Stop). on_stop x Err (with_header (strset_parts w.slots))) q)
 
 pub ruleset top_laws = (top-fault, top-whole)

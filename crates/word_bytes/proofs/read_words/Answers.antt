@@ -1,18 +1,22 @@
-use mathlib.Core.Path.{sym, ap, ◌∙◌}
+use mathlib.Core.Path.{sym}
 use native.Mathlib.Omega.{arith}
 use lib.ListN.{length-set}
-use lib.Seq.{take_all}
-use Rattle.basics.specs.Put.{put}
+use lib.Seq.{length-take-le}
 use Rattle.basics.proofs.Put.{put-nil}
-use Rattle.word_bytes.specs.Bytes.{words_in}
-use Rattle.word_bytes.proofs.WordBytes.{length-words_in, read-turn}
+use Rattle.word_bytes.proofs.WordBytes.{read-turn, read-all}
 use Rattle.word_bytes.proofs.read_words.Goals as goal
 
 pub loop-j-init : goal.loop-j-init
-loop-j-init c = (omega arith, sym (put-nil _), omega arith)
+loop-j-init c = let room = length-take-le _ c.args.words.now c.requires in record { read = sym (put-nil _); room = room; same_length = room }
 
 pub loop-j-preserved : goal.loop-j-preserved
-loop-j-preserved c = let l = c.loop-j in let a = c.args in (omega arith, read-turn a.bytes.now a.words.now l.words l.j c.word_in.result l.invariant.1 (omega arith) (omega arith) c.word_in.ensures, simp length-set l.invariant.2)
+loop-j-preserved c =
+    let l = c.loop-j in
+    record {
+      read = read-turn c.args.bytes.now _ l.word-items l.j _ l.invariant.read (omega (arith, l.invariant.same_length)) (omega (arith, l.invariant.room)) c.word_in.ensures;
+      room = l.invariant.room;
+      same_length = simp length-set l.invariant.same_length;
+    }
 
 pub returns : goal.returns
-returns c = let a = c.args in c.loop-j.invariant.1 ∙ ap (put a.words.now) (take_all c.loop-j.j (words_in a.bytes.now) (omega (arith, length-words_in a.bytes.now)))
+returns c = let l = c.loop-j in read-all c.args.bytes.now c.args.words.now l.word-items l.j l.invariant.room l.invariant.read (omega (arith, l.invariant.same_length))

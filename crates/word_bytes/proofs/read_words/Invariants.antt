@@ -1,5 +1,5 @@
 -- The words below j are read.
-use Prim.Native.Nat.{◌≤◌, ◌-◌, ◌/◌}
+use Prim.Native.Nat.{◌/◌}
 use mathlib.Core.Path.{◌≡◌}
 use lib.ListN.{length, take}
 use Rattle.basics.specs.Put.{put}
@@ -8,7 +8,8 @@ use Rattle.word_bytes.proofs.read_words.Given as goal
 
 -- The words below j are read.
 abbrev pub invariant-loop-j : goal.invariant-loop-j
-invariant-loop-j l = (l.j ≤ length l.bytes / 4) × (l.words ≡ put l.initial.words (take l.j (words_in l.bytes))) × (length l.words ≡ length l.initial.words)
-
-abbrev pub decreases-loop-j : goal.decreases-loop-j
-decreases-loop-j l = length l.bytes / 4 - l.j
+invariant-loop-j l = record {
+  read : l.word-items ≡ put l.initial.word-items (take l.j (words_in l.bytes));
+  room : length l.initial.word-items ≡ length l.bytes / 4;
+  same_length : length l.word-items ≡ length l.bytes / 4;
+}

@@ -1,6 +1,4 @@
 -- The words below j have no bit from n to size.
-use Prim.Native.Nat.{◌-◌, ◌/◌}
-use lib.ListN.{length}
 use Rattle.word_bytes.specs.Bytes.{words_in}
 use Rattle.bits.proofs.Cut.{NonePast}
 use Rattle.word_bytes.proofs.some_past.Given as goal
@@ -8,6 +6,3 @@ use Rattle.word_bytes.proofs.some_past.Given as goal
 -- The words below j have no bit from n to size.
 abbrev pub invariant-loop-j : goal.invariant-loop-j
 invariant-loop-j l = NonePast (words_in l.bytes) l.n l.size l.j
-
-abbrev pub decreases-loop-j : goal.decreases-loop-j
-decreases-loop-j l = length l.bytes / 4 - l.j

@@ -17,7 +17,7 @@ entries-preserved-then-start-eq0 c =
 pub entry_new-requires : goal.entry_new-requires
 entry_new-requires c =
     let l = c.entries in
-    let g = c.hash-h in record { i_in_bounds = (omega arith, omega arith); links_right = l.invariant.1.linked; start_value = c.place.ensures ∙ linked-place _ _ _ _ _ l.invariant.1 g.ensures.0 g.ensures.1 }
+    let g = c.hash-h in record { i_in_bounds = (omega arith, omega arith); links_right = l.invariant.1.linked; start_value = c.from.ensures ∙ linked-place _ _ _ _ _ l.invariant.1 g.ensures.0 g.ensures.1 }
 
 pub shape_of-head-then-not-entry_new : goal.shape_of-head-then-not-entry_new
 shape_of-head-then-not-entry_new c =

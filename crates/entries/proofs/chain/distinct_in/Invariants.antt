@@ -1,5 +1,5 @@
 -- The tables hold the chains of the entries below i, all of which are new.
-use Prim.Native.Nat.{◌≤◌, ◌-◌, ◌/◌}
+use Prim.Native.Nat.{◌≤◌, ◌/◌}
 use lib.ListN.{length}
 use Rattle.entries.proofs.Chains.{Linked}
 use Rattle.entries.proofs.chain.distinct_in.Given as goal
@@ -7,6 +7,3 @@ use Rattle.entries.proofs.chain.distinct_in.Given as goal
 -- The tables hold the chains of the entries below i, all of which are new.
 abbrev pub invariant-entries : goal.invariant-entries
 invariant-entries l = (l.i ≤ length l.list / 32) × Linked l.list l.head l.links l.i
-
-abbrev pub decreases-entries : goal.decreases-entries
-decreases-entries l = length l.list / 32 - l.i

@@ -15,7 +15,7 @@ pub returns-in-Misstated : goal.returns-in-Misstated
 returns-in-Misstated c = search (rules, at-laws)
 
 pub answer_message-requires : goal.answer_message-requires
-answer_message-requires c = record { in_bounds = (search rules, search (rules, message-long)); tabled = search rules; fit = search rules }
+answer_message-requires c = record { in_bounds = (search rules, search (rules, message-long)); fit = search rules }
 
 pub returns-in-Message : goal.returns-in-Message
 returns-in-Message c = search (rules, at-laws)

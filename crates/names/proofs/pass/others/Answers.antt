@@ -1,12 +1,14 @@
-use borrow.Author.Rules.{rules}
-use Rattle.names.proofs.Passing.{others-start, others-more, others-done}
+use Prim.Native.Nat.{◌+◌, ◌-◌}
+use mathlib.Core.List.{[]}
+use Rattle.names.proofs.Passing.{others-start, others-turn}
 use Rattle.names.proofs.pass.others.Goals as goal
 
-pub loop-k-init : goal.loop-k-init
-loop-k-init c = search (rules, others-start)
+pub loop-entry-init : goal.loop-entry-init
+loop-entry-init c = others-start _ _ _ _
 
-pub loop-k-preserved : goal.loop-k-preserved
-loop-k-preserved c = search (rules, others-more)
-
-pub returns : goal.returns
-returns c = search (rules, others-done)
+pub loop-entry-preserved : goal.loop-entry-preserved
+loop-entry-preserved c =
+    let a = c.args in
+    let chunks = c.as_chunks.ensures in
+    let l = c.loop-entry in
+    others-turn a.names.now a.place a.byte a.i c.requires.0 (a.i + a.n - a.i) l.entry-index _ [] l.other chunks.front chunks.front_len c.loop-entry-test.true l.invariant

@@ -1,15 +1,23 @@
+use native.Mathlib.Omega.{arith}
 use borrow.Author.Rules.{rules}
-use Rattle.names.proofs.Rules.{each_start, high_is, each-not, each_more, each-done}
+use Rattle.names.specs.Halves.{high_right}
+use Rattle.names.proofs.Rules.{entry_chunk, each_start, high_is, each-not, each_more, each-done}
 use Rattle.names.proofs.rule.high_right.Goals as goal
 
-pub loop-i-init : goal.loop-i-init
-loop-i-init c = search (rules, each_start)
+pub loop-entry-init : goal.loop-entry-init
+loop-entry-init c = each_start 0 _
 
 pub returns-then-not-nul_pairs : goal.returns-then-not-nul_pairs
-returns-then-not-nul_pairs c = search (rules, high_is, each-not)
+returns-then-not-nul_pairs c =
+    let chunks = c.as_chunks.ensures in
+    let entry = entry_chunk c.args.names.now _ c.loop-entry.entry-index _ chunks.front chunks.front_len c.loop-entry-test.true in
+    each-not _ (high_right c.args.names.now) _ _ entry.0 (high_is _ _ entry.0 _ entry.1 _ c.nul_pairs.ensures) (search rules)
 
-pub loop-i-preserved : goal.loop-i-preserved
-loop-i-preserved c = search (rules, high_is, each_more)
+pub loop-entry-preserved : goal.loop-entry-preserved
+loop-entry-preserved c =
+    let chunks = c.as_chunks.ensures in
+    let entry = entry_chunk c.args.names.now _ c.loop-entry.entry-index _ chunks.front chunks.front_len c.loop-entry-test.true in
+    each_more 0 (high_right c.args.names.now) _ _ c.loop-entry.invariant (high_is _ _ entry.0 _ entry.1 _ c.nul_pairs.ensures) (search rules)
 
 pub returns : goal.returns
-returns c = search (rules, each-done)
+returns c = let chunks = c.as_chunks.ensures in each-done _ _ _ c.loop-entry.invariant (omega (arith, chunks.front_len)) (omega (arith, chunks.front_len))

@@ -10,7 +10,7 @@ loop-at-init c = (copied_none _ _, refl)
 pub loop-at-preserved : goal.loop-at-preserved
 loop-at-preserved c =
     let loop = c.loop-at in
-    let page = c.put_eight in (
+    let page = c.put_chunk in (
       copied_more _ _ _ _ _ loop.invariant.0 c.requires 8 _ (omega arith) refl c.some_nul.ensures c.if-some_nul.false page.ensures,
       search rules,
     )

@@ -23,7 +23,7 @@ pub loop-at-preserved : goal.loop-at-preserved
 loop-at-preserved c = (
   omega arith,
   search rules,
-  λ P f x. copied_more _ P _ _ _ (c.loop-at.invariant.2 P f x) f 4 _ (omega arith) refl c.some_nul.ensures c.if-some_nul.false c.put_four.ensures,
+  λ P f x. copied_more _ P _ _ _ (c.loop-at.invariant.2 P f x) f 4 _ (omega arith) refl c.some_nul.ensures c.if-some_nul.false c.put_chunk.ensures,
 )
 
 pub returns : goal.returns

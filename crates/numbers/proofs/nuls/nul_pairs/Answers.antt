@@ -1,33 +1,18 @@
-use Rattle.numbers.proofs.nuls.Laws.{pairs-laws}
+use Prim.Native.Nat.{◌+◌, ◌-◌}
+use lib.ListN.{take, drop}
 use borrow.Author.Rules.{rules}
+use Rattle.std.proofs.lemmas.Slice.Zip.{zip_turn}
+use Rattle.numbers.proofs.nuls.Laws.{pairs_start, pairs_turn}
 use Rattle.numbers.proofs.nuls.nul_pairs.Goals as goal
 
-pub loop-j-init : goal.loop-j-init
-loop-j-init c = search (rules, pairs-laws)
+pub loop-first-init : goal.loop-first-init
+loop-first-init c = pairs_start _ _
 
-pub overflow_add-right : goal.overflow_add-right
-overflow_add-right c = search (rules, pairs-laws)
-
-pub bounds-s-at : goal.bounds-s-at
-bounds-s-at c = search (rules, pairs-laws)
-
-pub overflow_add-right-in-loop-j : goal.overflow_add-right-in-loop-j
-overflow_add-right-in-loop-j c = search (rules, pairs-laws)
-
-pub overflow_add-right-in-loop-j-2 : goal.overflow_add-right-in-loop-j-2
-overflow_add-right-in-loop-j-2 c = search (rules, pairs-laws)
-
-pub bounds-s-at-in-loop-j : goal.bounds-s-at-in-loop-j
-bounds-s-at-in-loop-j c = search (rules, pairs-laws)
-
-pub overflow_step-j : goal.overflow_step-j
-overflow_step-j c = search (rules, pairs-laws)
-
-pub loop-j-smaller : goal.loop-j-smaller
-loop-j-smaller c = search (rules, pairs-laws)
-
-pub loop-j-preserved : goal.loop-j-preserved
-loop-j-preserved c = search (rules, pairs-laws)
-
-pub returns : goal.returns
-returns c = search (rules, pairs-laws)
+pub loop-first-preserved : goal.loop-first-preserved
+loop-first-preserved c =
+    let a = c.args in
+    let l = c.loop-first in
+    let firsts = take (a.at + a.n - a.at) (drop a.at a.s.now) in
+    let seconds = take (a.at + a.n + 1 - (a.at + 1)) (drop (a.at + 1) a.s.now) in
+    let t = zip_turn firsts seconds l.yielded c.into_iter-first-iterator.result l.first-iterator c.next.new.self _ (search rules) (search rules) l.yielded_by _ c.in-Some.is c.next.ensures.steps in
+    pairs_turn a.s.now a.at _ _ l.yielded _ _ _ _ t.0 t.1 (t.2 0) (t.3 0) l.invariant

@@ -1,12 +1,21 @@
-use Rattle.request.proofs.optional.Laws.{target-laws}
+use Rattle.basics.proofs.Results.{err-passed}
+use Rattle.request.specs.Optional.{optional_target_of}
+use Rattle.request.specs.Target.{with_flags}
 use borrow.Author.Rules.{rules}
 use Rattle.request.proofs.optional.read_optional_target.Goals as goal
 
+pub returns-in_err-parts : goal.returns-in_err-parts
+unfolding optional_target_of
+returns-in_err-parts c = let passed = err-passed c.from_residual.result _ c.from_residual.ensures in search (rules, passed)
+
 pub returns-then-not-gives_port : goal.returns-then-not-gives_port
-returns-then-not-gives_port c = search (rules, target-laws)
+unfolding optional_target_of
+returns-then-not-gives_port c = search rules
 
-pub returns-in-Refused : goal.returns-in-Refused
-returns-in-Refused c = search (rules, target-laws)
+pub returns-in_err-position : goal.returns-in_err-position
+unfolding optional_target_of with_flags
+returns-in_err-position c = let passed = err-passed c.from_residual-in_err-position.result _ c.from_residual-in_err-position.ensures in search (rules, passed)
 
-pub returns-else-not-gives_port : goal.returns-else-not-gives_port
-returns-else-not-gives_port c = search (rules, target-laws)
+pub returns : goal.returns
+unfolding optional_target_of with_flags
+returns c = search rules

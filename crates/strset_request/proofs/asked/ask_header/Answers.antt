@@ -1,12 +1,6 @@
-use Rattle.strset_request.proofs.asked.Laws.{target-laws}
+use Rattle.basics.proofs.Results.{err-passed}
 use borrow.Author.Rules.{rules}
 use Rattle.strset_request.proofs.asked.ask_header.Goals as goal
 
-pub returns-in-Refused : goal.returns-in-Refused
-returns-in-Refused c = search (rules, target-laws)
-
-pub returns-in-Unnamed : goal.returns-in-Unnamed
-returns-in-Unnamed c = search (rules, target-laws)
-
-pub returns-in-Port : goal.returns-in-Port
-returns-in-Port c = search (rules, target-laws)
+pub returns-in_err-read_optional_target : goal.returns-in_err-read_optional_target
+returns-in_err-read_optional_target c = let passed = err-passed c.from_residual.result _ c.from_residual.ensures in search (rules, passed)

@@ -1,4 +1,5 @@
-use Rattle.strset_request.proofs.list.Laws.{sets-laws}
+use Rattle.basics.proofs.Results.{err-passed}
+use Rattle.strset_request.proofs.list.Laws.{sets-refused, sets_more, sets-laws}
 use borrow.Author.Rules.{rules}
 use Rattle.strset_request.proofs.list.judge_sets.Goals as goal
 
@@ -29,15 +30,6 @@ payload-requires c = search (rules, sets-laws)
 pub judge_set-requires : goal.judge_set-requires
 judge_set-requires c = search (rules, sets-laws)
 
-pub enum_known-why : goal.enum_known-why
-enum_known-why c = search (rules, sets-laws)
-
-pub returns-in-Refused : goal.returns-in-Refused
-returns-in-Refused c = search (rules, sets-laws)
-
-pub enum_known-set : goal.enum_known-set
-enum_known-set c = search (rules, sets-laws)
-
 pub with_asked-sets-requires : goal.with_asked-sets-requires
 with_asked-sets-requires c = search (rules, sets-laws)
 
@@ -45,4 +37,7 @@ pub loop-x-smaller : goal.loop-x-smaller
 loop-x-smaller c = search (rules, sets-laws)
 
 pub loop-x-preserved : goal.loop-x-preserved
-loop-x-preserved c = search (rules, sets-laws)
+loop-x-preserved c = let was = c.in_ok-set-in-Attribute.was in search (rules, sets_more, was)
+
+pub returns-in_err-set-in-Attribute : goal.returns-in_err-set-in-Attribute
+returns-in_err-set-in-Attribute c = let passed = err-passed c.from_residual.result _ c.from_residual.ensures in let was = c.in_err-set-in-Attribute.was in search (rules, sets-refused, passed, was)
