@@ -192,5 +192,14 @@ module _ (s names : List ℕ) (right : names_right names ≡ true) (index name :
           ap (is_other number) e
           ∙ true_of (not (eqb number k)) (λ q. other (rw (eqb-true number k (not-false (eqb number k) q)) (found-names names named k e)))
 
+  -- a NAME that no entry equals, which 21 refuses before: INDEX is compared with 0
+  pub two-bits-unknown : unknown_name s names name ≡ true → two_bits s names index name ≡ not (eqb (slot_number s index) 0)
+  unfolding unknown_name two_bits
+  two-bits-unknown unknown = go (lookup names named).bit refl
+    where
+      go : (o : Option ℕ) → (lookup names named).bit ≡ o → is_other (slot_number s index) (lookup names named).bit ≡ not (eqb (slot_number s index) 0)
+      go O.None e = ap (is_other (slot_number s index)) e
+      go (Some k) e = absurd (clash unknown (ap is_none e))
+
   pub name-tests : NameTests s names index name
   name-tests = record { unknown = unknown-exactly; two-bits = two-bits-exactly }

@@ -1,6 +1,6 @@
 -- Document 01, "What a call says back" and "Bitsets", and request C-12: the checks of a bitset in their order. "Then the bitset is walked whole and judged: 18
 -- first, then 13, 19, 20 for a compact one. Then BITS is walked whole; then each BIT in order, walked whole and judged."
-use Rattle.std.specs.Prelude.{ℕ, ◌-◌, ◌/◌, List, [], ◌∷◌, ◌++◌, Bool, false, ◌&&◌, not, cond, length, eqb, leb, ltb, Option, Some, None, is_none}
+use Rattle.std.specs.Prelude.{ℕ, ◌-◌, ◌/◌, List, [], ◌∷◌, ◌++◌, Bool, ◌&&◌, not, cond, length, eqb, leb, ltb, Option, Some, None, is_none}
 use Rattle.bits.specs.Set.{has, words_for, some_past}
 use Rattle.word_bytes.specs.Bytes.{words_in}
 use Rattle.entries.specs.Entry.{count}
@@ -49,10 +49,10 @@ compact_checks s nest n parts =
 unfoldable pub unknown_name : List ℕ → List ℕ → Slot → Bool
 unknown_name s names name = is_none (lookup names (part_of s name.start name.end)).bit
 
--- the entry that is found, if one is, is not the one with this number
+-- the entry that is found is not the one with this number; where none is, which 21 refuses before, 0 stands in its place
 abbrev pub is_other : ℕ → Option ℕ → Bool
 is_other i (Some k) = not (eqb i k)
-is_other i None = false
+is_other i None = not (eqb i 0)
 
 -- an INDEX and a NAME, which an entry equals, mean two bits: that entry is not the one with INDEX's number
 unfoldable pub two_bits : List ℕ → List ℕ → Slot → Slot → Bool

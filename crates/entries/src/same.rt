@@ -9,7 +9,16 @@ pub fn eight(list: &[u8], at: usize) -> u64
     requires { at + 8 ≤ length list.now }
     ensures { result ≡ u64_at list.now at }
 {
-    u64::from_le_bytes(*list[at..].first_chunk().unwrap())
+    u64::from_le_bytes([
+        list[at],
+        list[at + 1],
+        list[at + 2],
+        list[at + 3],
+        list[at + 4],
+        list[at + 5],
+        list[at + 6],
+        list[at + 7],
+    ])
 }
 
 // Whether the eight bytes from `a` on are those from `b` on.

@@ -1,4 +1,4 @@
--- The list that a search goes through, with tables or without.
+-- No promise rests on this file: the list that a search goes through, with tables or without.
 use Rattle.std.specs.Prelude.{ℕ, List}
 use Rattle.name_index.specs.declared.names_in.NameIndex.{NameIndex}
 use Rattle.name_index.specs.declared.names_in.NameIndex.TheVariants.{Bare, Linked}

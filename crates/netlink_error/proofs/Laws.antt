@@ -19,6 +19,25 @@ use Rattle.basics.proofs.Put.{put-nil, then-rest}
 use Rattle.page.proofs.Page.{then-sized}
 use Rattle.netlink_write.proofs.headers.Laws.{length-message-header}
 
+module _ (d : Detail) where
+  pub flags-none : d ≡ Nothing → 256 ≡ flags_of d
+  unfolding flags_of
+  flags-none e = rw e
+
+  pub flags-offset : (at : ℕ) → d ≡ Offset at → 768 ≡ flags_of d
+  unfolding flags_of
+  flags-offset at e = rw e
+
+  pub flags-top : (kind : ℕ) → d ≡ MissTop kind → 768 ≡ flags_of d
+  unfolding flags_of
+  flags-top kind e = rw e
+
+  pub flags-in : (kind nest : ℕ) → d ≡ MissIn kind nest → 768 ≡ flags_of d
+  unfolding flags_of
+  flags-in kind nest e = rw e
+
+pub ruleset flags-laws = (flags-none, flags-offset, flags-top, flags-in)
+
 module _ (d : Detail) (P : List ℕ) where
   pub detail-none : d ≡ Nothing → Wrote (detail_bytes d) P P 0
   unfolding detail_bytes

@@ -38,6 +38,19 @@ normalised contents names room =
     (cond (ltb 32768 (length contents)) (refused_by Datagram)
     (reading_answer (bitset_reading contents 0 names) (count names))))
 
+-- the code's answer to a reading: the refusal with its place, or how many bytes the normal form has
+abbrev pub reading_result : Reading → ℕ → Result ℕ Refusal
+reading_result (refused r) n = Err r
+reading_result (accepted b) n = Ok (length (normal_form n b))
+
+-- the code's answer, by the same checks
+unfoldable pub normal_result : List ℕ → List ℕ → ℕ → Result ℕ Refusal
+normal_result contents names room =
+    cond (not (names_right names)) (Err Box)
+    (cond (ltb room 144) (Err Page)
+    (cond (ltb 32768 (length contents)) (Err Datagram)
+    (reading_result (bitset_reading contents 0 names) (count names))))
+
 -- the number of the code's answer: that of its refusal, or 0
 abbrev pub number_told : Result ℕ Refusal → ℕ
 number_told (Err r) = number_of r

@@ -41,7 +41,7 @@ pub fn four(s: &[u8], at: usize) -> u32
     requires { at + 4 ≤ length s.now }
     ensures { result ≡ u32_at s.now at }
 {
-    u32::from_le_bytes(*s[at..].first_chunk().unwrap())
+    u32::from_le_bytes([s[at], s[at + 1], s[at + 2], s[at + 3]])
 }
 
 // The same where a byte may be missing.

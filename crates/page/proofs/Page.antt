@@ -1,14 +1,26 @@
 -- Laws of writers on one page, beside those of `put`: each says that the page after two writers is the page after one of both runs of bytes.
-use Prim.Native.Nat.{ℕ, ◌+◌, ◌-◌, ◌≤◌}
-use mathlib.Core.Path.{◌≡◌, sym, ap, ◌∙◌}
-use mathlib.Core.List.{List, ◌++◌, append_assoc, append-nil}
+use Prim.Native.Nat.{ℕ, ◌+◌, ◌-◌, ◌≤◌, ◌<◌}
+use mathlib.Core.Path.{◌≡◌, refl, sym, ap, ◌∙◌}
+use mathlib.Core.List.{List, [], ◌∷◌, ◌++◌, append_assoc, append-nil}
 use native.Mathlib.Omega.{arith}
 use borrow.Rule.Slice.PartMut.{put_mid}
-use lib.ListN.{length, take, drop, length-append, drop_of_length-le}
+use lib.ListN.{length, take, drop, set, replicate, length-append, length-replicate, replicate-append-replicate, drop_of_length-le}
 use lib.Seq.{drop_at, drop-drop, length-take-le}
 use Rattle.basics.specs.Put.{put}
-use Rattle.basics.proofs.Put.{rest-drop, then-rest}
+use Rattle.basics.proofs.Put.{put-snoc, rest-drop, then-rest}
 use Rattle.page.specs.Page.{Wrote}
+
+-- two bytes, stored one by one
+pub put-set2 : (xs : List ℕ) (a b : ℕ) → 2 ≤ length xs → set (set xs 0 a) 1 b ≡ put xs (a ∷ b ∷ [])
+unfolding put
+put-set2 [] a b h = absurd (omega arith)
+put-set2 (x ∷ []) a b h = absurd (omega arith)
+put-set2 (x ∷ y ∷ xs) a b h = refl
+
+-- a loop that writes zeros has written one more
+pub put-zero : (xs : List ℕ) (i : ℕ) → i < length xs → set (put xs (replicate i 0)) i 0 ≡ put xs (replicate (i + 1) 0)
+put-zero xs i h =
+    put-snoc xs (replicate i 0) i 0 (length-replicate i 0) h ∙ ap (put xs) (replicate-append-replicate i 1 0)
 
 -- a writer of bs past n bytes, then one of hs in the n bytes
 pub then-front : (P : List ℕ) {ys zs : List ℕ} (hs bs : List ℕ) (n : ℕ) → length hs ≡ n → n ≤ length P

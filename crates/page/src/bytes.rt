@@ -2,12 +2,14 @@
 ghost use Rattle.std.specs.Prelude.{◌≡◌, ◌≤◌, ◌-◌, ◌++◌, length, take, replicate};
 ghost use Rattle.basics.specs.Put.{put};
 
-// A copy of the bytes.
+// A copy of the bytes, in a loop that stands where it is called: `copy_from_slice` becomes a call of memmove, which the archive takes from nobody.
 pub fn put_bytes(page: &mut [u8], bytes: &[u8])
     requires { length bytes.now ≤ length page.old }
     ensures { page.new ≡ put page.old bytes.now }
 {
-    page[..bytes.len()].copy_from_slice(bytes);
+    for (i, byte) in bytes.iter().enumerate() {
+        page[i] = *byte;
+    }
 }
 
 // n zero bytes. Up to four, as most padding has, are stored at once: of any other count it becomes a call, which costs more.

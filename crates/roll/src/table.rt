@@ -52,14 +52,14 @@ pub fn read_ports(roll: &[u8], table: &mut [u64]) -> usize
     }
 }
 
-// A roll and the table of its ports; contracts see the roll's bytes.
+// A roll and the table of its ports; contracts see the roll's bytes. These may outlive the table.
 #[derive(Drop)]
-pub struct Roll<'a> {
-    bytes: &'a [u8],
-    ports: &'a [u64],
+pub struct Roll<'r, 't> {
+    bytes: &'r [u8],
+    ports: &'t [u64],
 }
 
-impl<'a> Model for Roll<'a> {
+impl<'r, 't> Model for Roll<'r, 't> {
     ghost Value = { List ℕ };
 
     ghost view = { λ r. r.bytes.now };
@@ -67,8 +67,8 @@ impl<'a> Model for Roll<'a> {
     ghost invariant = { λ r. Tabled r.bytes.now r.ports.now };
 }
 
-impl<'a> Roll<'a> {
-    pub fn new(bytes: &'a [u8], ports: &'a [u64]) -> Roll<'a>
+impl<'r, 't> Roll<'r, 't> {
+    pub fn new(bytes: &'r [u8], ports: &'t [u64]) -> Roll<'r, 't>
         requires { Tabled bytes.now ports.now }
         ensures { result ≡ bytes.now }
     {
@@ -76,7 +76,7 @@ impl<'a> Roll<'a> {
     }
 
     // The roll itself.
-    pub fn bytes(&self) -> &[u8]
+    pub fn bytes(&self) -> &'r [u8]
         ensures { result.now ≡ self.now }
     {
         self.bytes
@@ -99,7 +99,7 @@ impl<'a> Roll<'a> {
     }
 
     // The name of the port at a position: the 16 bytes where they stand in the roll.
-    pub fn name_of(&self, k: usize) -> &[u8]
+    pub fn name_of(&self, k: usize) -> &'r [u8]
         requires { k < port_count self.now }
         ensures { result.now ≡ name_of self.now k }
     {
@@ -109,7 +109,7 @@ impl<'a> Roll<'a> {
     }
 
     // The four bytes at 8 of that name, in which the names of one box differ most.
-    fn probe_of(&self, k: usize) -> u32
+    pub fn probe_of(&self, k: usize) -> u32
         requires { k < port_count self.now }
         ensures { result ≡ u32_at (name_of self.now k) 8 }
     {

@@ -100,7 +100,7 @@ fn index_in(roll: &Roll, port: Option<usize>) -> u32
 }
 
 // Its name, no bytes where none is.
-fn name_in<'r>(roll: &'r Roll, port: Option<usize>) -> &'r [u8]
+fn name_in<'r>(roll: &Roll<'r, '_>, port: Option<usize>) -> &'r [u8]
     requires { PortNamed roll.now port }
     ensures { result.now ≡ name_in roll.now port }
 {

@@ -8,15 +8,23 @@ use borrow.Rule.Slice.PartMut.{put_mid}
 use borrow.Author.Tests.{ne_eqb}
 use lib.Dec.{ltb}
 use lib.ListN.{length, take, drop, get_or, replicate}
-use lib.Seq.{length-take-le, take-add}
+use lib.Seq.{length-take-le, take-add, drop-drop}
+use Rattle.basics.specs.Numbers.{le32, u32_at}
 use Rattle.basics.specs.Put.{put}
 use Rattle.basics.specs.Scan.{any}
-use Rattle.basics.proofs.Numbers.{drop-four}
+use Rattle.basics.proofs.Numbers.{drop-four, four_bytes}
 use Rattle.basics.proofs.Put.{put-nil, then-rest}
 use Rattle.netlink.specs.Policy.{nul_at}
 use Rattle.netlink.specs.NulSearch.{is_nul}
 use Rattle.netlink.proofs.policy.Laws.{nul-start, nul-none}
 use Rattle.netlink_write.specs.PaddedName.{padded_word, padded_name, Copied}
+
+-- eight bytes of a list are those of the two numbers that they make
+pub eight-bytes : (s : List ℕ) → ((i : ℕ) → get_or s i 0 < 256) → (p : ℕ) → p + 8 ≤ length s
+    → take 8 (drop p s) ≡ le32 (u32_at s p) ++ le32 (u32_at s (p + 4))
+eight-bytes s small p h =
+    take-add 4 4 (drop p s)
+    ∙ ap₂ (λ (x y : List ℕ). x ++ y) (four_bytes s small p (omega arith)) (ap (take 4) (drop-drop 4 p s) ∙ four_bytes s small (p + 4) (omega arith))
 
 -- the first NUL, byte by byte
 pub nul-none-left : 0 ≡ nul_at []

@@ -1,13 +1,13 @@
 -- Laws of runs of bytes.
 use Prim.Native.Nat.{ℕ, ◌+◌, ◌-◌, ◌≤◌, min}
 use mathlib.Core.Path.{◌≡◌, refl, sym, ap, ◌∙◌}
-use mathlib.Core.List.{List, ◌++◌}
+use mathlib.Core.List.{List, [], ◌∷◌, ◌++◌}
 use native.Mathlib.Omega.{arith}
 use borrow.Rule.Slice.PartMut.{put_mid}
-use lib.ListN.{length, take, drop, replicate, length-append, length-drop, length-replicate, take-append-drop}
+use lib.ListN.{length, take, drop, set, replicate, length-append, length-drop, length-replicate, take-append-drop}
 use lib.Seq.{length-take-le, take-append-le, take-take, get_or-drop, ext_get_or}
 use Rattle.basics.specs.Put.{put}
-use Rattle.basics.proofs.Put.{length-put, get_or-put, then-rest}
+use Rattle.basics.proofs.Put.{length-put, get_or-put, then-rest, put-set4}
 
 as-put : (P ws : List ℕ) → put P ws ≡ ws ++ drop (length ws) P
 unfolding put
@@ -61,3 +61,30 @@ filled_put P bytes A B k m n z hk kn room em e a b =
 
     rest : put_mid k (length A - k) A B ≡ put A (take k bytes ++ replicate z 0)
     rest = then-rest A (take k bytes) (replicate z 0) k front (omega (arith, front, all)) (sym (put_same A (take k bytes) stands)) b
+
+-- up to four zeros
+module _ (n : ℕ) where
+  pub zeros-none : (xs : List ℕ) → n ≡ 0 → xs ≡ put xs (replicate n 0)
+  unfolding put
+  zeros-none xs e = rw e
+
+  pub zeros-one : (xs : List ℕ) → n ≡ 1 → n ≤ length xs → set xs 0 0 ≡ put xs (replicate n 0)
+  unfolding put
+  zeros-one [] e h = absurd (omega arith)
+  zeros-one (x ∷ xs) e h = rw e
+
+  pub zeros-two : (xs : List ℕ) → n ≡ 2 → n ≤ length xs → set (set xs 0 0) 1 0 ≡ put xs (replicate n 0)
+  unfolding put
+  zeros-two [] e h = absurd (omega arith)
+  zeros-two (x ∷ []) e h = absurd (omega arith)
+  zeros-two (x ∷ y ∷ xs) e h = rw e
+
+  pub zeros-three : (xs : List ℕ) → n ≡ 3 → n ≤ length xs → set (set (set xs 0 0) 1 0) 2 0 ≡ put xs (replicate n 0)
+  unfolding put
+  zeros-three [] e h = absurd (omega arith)
+  zeros-three (x ∷ []) e h = absurd (omega arith)
+  zeros-three (x ∷ y ∷ []) e h = absurd (omega arith)
+  zeros-three (x ∷ y ∷ z ∷ xs) e h = rw e
+
+  pub zeros-four : (xs : List ℕ) → n ≡ 4 → n ≤ length xs → set (set (set (set xs 0 0) 1 0) 2 0) 3 0 ≡ put xs (replicate n 0)
+  zeros-four xs e h = put-set4 xs 0 0 0 0 (omega arith) ∙ rw e
